@@ -1,0 +1,6 @@
+pub mod Digests
+pub mod HashText
+pub mod Paths
+pub mod Results
+pub mod Texts
+pub mod Told
