@@ -1,6 +1,7 @@
 pub mod DigestLemmas
+pub mod PathAbove
 pub mod PathAgain
 pub mod PathLemmas
-pub mod PathOrder
+pub mod PathBelow
 pub mod PathShape
 pub mod ResultLemmas

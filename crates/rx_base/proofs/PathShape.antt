@@ -46,7 +46,7 @@ done x = Ok x
 ok_is : (x y : List (List ℕ)) → done x ≡ done y → x ≡ y
 ok_is x y e = cc
 
-All-take : (n : ℕ) (names : List (List ℕ)) → AllByRecursion IsName names → AllByRecursion IsName (take n names)
+pub All-take : (n : ℕ) (names : List (List ℕ)) → AllByRecursion IsName names → AllByRecursion IsName (take n names)
 All-take zero names h = tt
 All-take (suc n) [] h = tt
 All-take (suc n) (x ∷ xs) h = (h.0, All-take n xs h.1)
@@ -128,11 +128,11 @@ checked-lacks text e =
 
 -- ---- lengths
 
-abbrev weight : List (List ℕ) → ℕ
+abbrev pub weight : List (List ℕ) → ℕ
 weight [] = 0
 weight (x ∷ xs) = suc (length x) + weight xs
 
-length-joined : (names : List (List ℕ)) → 0 < length names → suc (length (joined names)) ≡ weight names
+pub length-joined : (names : List (List ℕ)) → 0 < length names → suc (length (joined names)) ≡ weight names
 length-joined [] h = absurd (omega arith)
 length-joined (x ∷ []) h = omega arith
 length-joined (x ∷ y ∷ xs) h = let ih = length-joined (y ∷ xs) (omega arith) in omega (arith, length-append x (47 ∷ joined (y ∷ xs)))
@@ -148,7 +148,7 @@ weight-parts (x ∷ xs) =
     let first = weight-onto_first x (parts xs) (omega arith) in
     cond_both (x == 47) ([] ∷ parts xs) (onto_first x (parts xs)) (λ ps. weight ps ≡ suc (suc (length xs))) (λ e. omega arith) (λ e. omega arith)
 
-weight-take : (n : ℕ) (names : List (List ℕ)) → weight (take n names) ≤ weight names
+pub weight-take : (n : ℕ) (names : List (List ℕ)) → weight (take n names) ≤ weight names
 weight-take zero names = omega arith
 weight-take (suc n) [] = omega arith
 weight-take (suc n) (x ∷ xs) = let ih = weight-take n xs in omega arith
@@ -218,10 +218,3 @@ IsPath-join base text names all p b c w le =
 
 pub IsPath-same : (a b : List ℕ) → a ≡ b → IsPath a → IsPath b
 IsPath-same a b e p = subst (λ (t : List ℕ). IsPath t) e p
-
--- the text that a call gave
-abbrev given : List ℕ → Result (List ℕ) PathFault
-given text = Ok text
-
-pub given_is : (names : List (List ℕ)) (text : List ℕ) → given (joined names) ≡ given text → joined names ≡ text
-given_is names text e = cc

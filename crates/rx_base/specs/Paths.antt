@@ -104,3 +104,17 @@ pub record IsPath (bytes : List ℕ) : Type 0 where
 -- whether a path lies below another, by one name or more
 abbrev pub is_below : List ℕ → List ℕ → Bool
 is_below path other = if length other == 0 then nat_lt 0 (length path) else starts_with nat_eq path (other ++ 47 ∷ [])
+
+-- the path one name up; the root has none
+abbrev pub parent_of : List ℕ → Option (List ℕ)
+parent_of path = if length path == 0 then None else Some (joined (take (length (parts path) - 1) (parts path)))
+
+-- the first one, the first two, and so on, but not all
+abbrev pub fronts : {A : Type 0} → List A → List (List A)
+fronts [] = []
+fronts (x ∷ []) = []
+fronts (x ∷ y ∷ others) = (x ∷ []) ∷ map (λ front. x ∷ front) (fronts (y ∷ others))
+
+-- the paths above this one, the upper first, without the root
+abbrev pub prefixes_of : List ℕ → List (List ℕ)
+prefixes_of path = map joined (fronts (parts path))

@@ -1,11 +1,12 @@
 //! From a text to the names of a path, and back to text. Only `paths` uses it.
 
-ghost use Rattle.std.specs.Prelude.{◌≡◌, ◌==◌, position, string_bytes};
-ghost use Rattle.rx_base.specs.declared.path_fault.PathFault.TheVariants.{NoMemory};
-ghost use Rattle.rx_base.specs.Paths.{checked, joined, with_part, with_text};
+ghost use Rattle.std.specs.Prelude.{◌≡◌, ◌==◌, IfOk, position, string_bytes};
+ghost use Rattle.rx_base.specs.declared.path_fault.PathFault.TheVariants as fault;
+ghost use Rattle.rx_base.specs.Paths.{checked, joined, parts, with_part, with_text};
 ghost use Rattle.rx_base.specs.Results.{Equals, Gives};
 ghost use Rattle.rx_base.specs.Texts.{texts};
 
+use crate::memory::NoMemory;
 use crate::path_fault::PathFault;
 use std::alloc::Global;
 
@@ -32,7 +33,7 @@ fn zero_at(text: &str) -> Option<usize>
 
 /// The names after the parts of a text.
 pub(crate) fn walk<'a>(names: Vec<&'a str>, text: &'a str) -> Result<Vec<&'a str>, PathFault>
-    ensures { Gives NoMemory (λ v. texts v.items) result (with_text (texts names.entry.items) text.now) }
+    ensures { Gives fault.NoMemory (λ v. texts v.items) result (with_text (texts names.entry.items) text.now) }
 {
     let mut names = names;
     for part in text.split('/') {
@@ -44,7 +45,7 @@ pub(crate) fn walk<'a>(names: Vec<&'a str>, text: &'a str) -> Result<Vec<&'a str
 /// The names after one more part.
 #[tactic(auto, using(std::proofs::lemmas::List::map_push), unfolding(crate::specs::Paths::with_part))]
 fn step<'a>(mut names: Vec<&'a str>, part: &'a str) -> Result<Vec<&'a str>, PathFault>
-    ensures { Gives NoMemory (λ v. texts v.items) result (with_part (texts names.entry.items) part.now) }
+    ensures { Gives fault.NoMemory (λ v. texts v.items) result (with_part (texts names.entry.items) part.now) }
 {
     match part {
         "" | "." => Ok(names),
@@ -59,9 +60,20 @@ fn step<'a>(mut names: Vec<&'a str>, part: &'a str) -> Result<Vec<&'a str>, Path
     }
 }
 
+/// The parts of a text, between its slashes.
+pub(crate) fn parts_of(alloc: Global, text: &str) -> Result<Vec<&str>, NoMemory>
+    ensures { IfOk result (λ found. texts found.items ≡ parts text.now) }
+{
+    let mut found = Vec::new(alloc);
+    for part in text.split('/') {
+        found.push(part)?;
+    }
+    Ok(found)
+}
+
 /// The text of these names.
-pub(crate) fn join_names(alloc: Global, names: &[&str]) -> Result<String, PathFault>
-    ensures { Gives NoMemory (λ text. string_bytes text) result (Ok (joined (texts names.now))) }
+pub(crate) fn join_names(alloc: Global, names: &[&str]) -> Result<String, NoMemory>
+    ensures { IfOk result (λ text. string_bytes text ≡ joined (texts names.now)) }
 {
     let mut text = String::new(alloc);
     for (i, name) in names.iter().enumerate() {

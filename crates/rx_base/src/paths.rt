@@ -1,19 +1,21 @@
 //! Relative paths: made by reading a text, compared by their bytes.
 
-ghost use Rattle.std.specs.Prelude.{◌≡◌, ◌≢◌, ◌==◌, ◌++◌, ◌∷◌, [], Ok, Some, length, nat_eq, refl};
+ghost use Rattle.std.specs.Prelude.{◌≡◌, ◌≢◌, ◌==◌, ◌++◌, ◌∷◌, [], IfOk, Ok, Some, length, nat_eq, refl};
 ghost use Rattle.std.specs.List.{starts_with};
 ghost use Rattle.std.specs.Ordering.{nat_cmp};
 ghost use Rattle.std.specs.Str.{bytes_eq};
 ghost use Rattle.std.specs.Cmp.{partial_equiv_from_equiv};
 ghost use Rattle.std.specs.Cmp.Lexicographic.{slice_cmp, nat_list_eq_equiv, nat_list_cmp_total, texts_po, texts_ties};
-ghost use Rattle.rx_base.specs.declared.path_fault.PathFault.TheVariants.{NoMemory};
-ghost use Rattle.rx_base.specs.Paths.{is_below, join_of, read_of, IsPath};
+ghost use Rattle.rx_base.specs.declared.path_fault.PathFault.TheVariants as fault;
+ghost use Rattle.rx_base.specs.Paths.{is_below, join_of, joined, parent_of, prefixes_of, read_of, IsPath};
 ghost use Rattle.rx_base.specs.Results.{Gives};
+ghost use Rattle.rx_base.specs.Texts.{texts};
 
-use crate::memory::TryClone;
+use crate::item_list::Items;
+use crate::memory::{NoMemory, TryClone};
 use crate::path_fault::PathFault;
-use crate::path_text::{check, join_names, walk};
-use std::alloc::{AllocError, Global};
+use crate::path_text::{check, join_names, parts_of, walk};
+use std::alloc::Global;
 use std::cmp::Ordering;
 use std::marker::Model;
 
@@ -53,7 +55,7 @@ impl RelPath {
     /// dropped and `..` removes the part before it. `a/..` and `.` name the root.
     #[tactic(auto, unfolding(crate::specs::Paths::read_of, crate::specs::Paths::path_of))]
     pub fn read(alloc: Global, text: &str) -> Result<RelPath, PathFault>
-        ensures { Gives NoMemory (λ path. path) result (read_of text.now) }
+        ensures { Gives fault.NoMemory (λ path. path) result (read_of text.now) }
     {
         if text.is_empty() {
             return Err(PathFault::Empty);
@@ -71,7 +73,7 @@ impl RelPath {
     /// other refusals.
     #[tactic(auto, unfolding(crate::specs::Paths::join_of))]
     pub fn join(&self, alloc: Global, text: &str) -> Result<RelPath, PathFault>
-        ensures { Gives NoMemory (λ path. path) result (join_of self.now text.now) }
+        ensures { Gives fault.NoMemory (λ path. path) result (join_of self.now text.now) }
     {
         if text.is_empty() {
             return Err(PathFault::Empty);
@@ -112,6 +114,40 @@ impl RelPath {
         }
         goes_on(self.as_str().as_bytes(), other.as_str().as_bytes())
     }
+
+    /// The path one name above this one; the root has none.
+    pub fn parent(&self, alloc: Global) -> Result<Option<RelPath>, NoMemory>
+        ensures { IfOk result (λ parent. parent ≡ parent_of self.now) }
+    {
+        if self.is_root() {
+            return Ok(None);
+        }
+        let mut names = parts_of(alloc, self.text.as_str())?;
+        names.pop();
+        Ok(Some(named(alloc, &names)?))
+    }
+
+    /// The paths above this one, the upper first, without the root.
+    pub fn prefixes(&self, alloc: Global) -> Result<Items<RelPath>, NoMemory>
+        ensures { IfOk result (λ prefixes. prefixes ≡ prefixes_of self.now) }
+    {
+        let names = parts_of(alloc, self.text.as_str())?;
+        let mut prefixes = Items::new(alloc);
+        for count in 1..names.len() {
+            let (above, _) = names.split_at(count);
+            prefixes.push(named(alloc, above)?)?;
+        }
+        Ok(prefixes)
+    }
+}
+
+/// The path of these names.
+fn named(alloc: Global, names: &[&str]) -> Result<RelPath, NoMemory>
+    requires { IsPath (joined (texts names.now)) }
+    ensures { IfOk result (λ path. path ≡ joined (texts names.now)) }
+{
+    let text = join_names(alloc, names)?;
+    Ok(RelPath { text })
 }
 
 /// Whether the bytes begin with these and a slash.
@@ -128,14 +164,14 @@ fn goes_on(bytes: &[u8], front: &[u8]) -> bool
 impl Clone for RelPath {
     ghost is_clone = { λ old new. new ≡ old };
 
-    fn clone(&self) -> Result<RelPath, AllocError> {
+    fn clone(&self) -> Result<RelPath, NoMemory> {
         let text = self.text.clone()?;
         Ok(RelPath { text })
     }
 }
 
 impl TryClone for RelPath {
-    fn try_clone(&self, alloc: Global) -> Result<RelPath, AllocError> {
+    fn try_clone(&self, alloc: Global) -> Result<RelPath, NoMemory> {
         let text = String::from_str(alloc, self.text.as_str())?;
         Ok(RelPath { text })
     }

@@ -1,5 +1,5 @@
 use Rattle.std.proofs.Common.{◌∙◌, sym, refl, rules}
-use Rattle.rx_base.proofs.PathOrder.{starts_with-more}
+use Rattle.rx_base.proofs.PathBelow.{starts_with-more}
 use Rattle.rx_base.proofs.paths.goes_on.Goals as goal
 
 pub returns-then-not-starts_with : goal.returns-then-not-starts_with

@@ -1,11 +1,11 @@
-use Rattle.std.proofs.Common.{◌≤◌, length, string_bytes, arith}
+use Rattle.std.proofs.Common.{◌≤◌, length, string_bytes, sym, arith}
 use Rattle.rx_base.specs.Texts.{texts}
-use Rattle.rx_base.proofs.PathShape.{given_is, IsPath-same, IsPath-join}
+use Rattle.rx_base.proofs.PathShape.{IsPath-same, IsPath-join}
 use Rattle.rx_base.proofs.paths.RelPath.join.Goals as goal
 
 pub invariant_of-result : goal.invariant_of-result
 invariant_of-result c =
-    let same = rw c.deref.ensures.value at (given_is (texts c.deref.result.now) _ c.in_ok-text.ensures) in
+    let same = sym (rw c.deref.ensures.value at c.in_ok-text.ensures) in
     let first = rw (c.new.ensures.items, c.as_str.ensures.value) at c.in_ok-names.ensures in
     let short : length (string_bytes c.in_ok-text.text) ≤ 4096 = omega arith in
     IsPath-same _ _ same
