@@ -1,12 +1,12 @@
 -- The paths above a path.
-use Rattle.std.proofs.Common.{◌≡◌, ℕ, zero, suc, ◌+◌, ◌-◌, ◌<◌, ◌≤◌, List, [], ◌∷◌, ◌++◌, length, get_or, map, take, refl, sym, ◌∙◌, ap, arith, take_all, subst}
+use Rattle.std.proofs.Common.{◌≡◌, ℕ, zero, suc, ◌+◌, ◌-◌, ◌<◌, ◌≤◌, List, [], ◌∷◌, ◌++◌, length, get_or, map, take, refl, sym, ◌∙◌, ap, arith, take_all}
 use Rattle.std.specs.Borrow.{Bor}
 use Rattle.std.specs.List.{AllByRecursion}
-use Rattle.std.proofs.lemmas.List.{length-map, length-append, map_push, take-map, take_more, map-append}
+use Rattle.std.proofs.lemmas.List.{length-map, map_push, take-map, take_more, map-append}
 use Rattle.rx_base.specs.Paths.{IsName, IsPath, longest, parts, joined, fronts, prefixes_of}
 use Rattle.rx_base.specs.Texts.{texts}
 use Rattle.rx_base.proofs.PathAgain.{parts-joined}
-use Rattle.rx_base.proofs.PathShape.{All-take, weight, length-joined, weight-take}
+use Rattle.rx_base.proofs.PathShape.{All-take, length-joined, weight-take}
 
 -- ---- the parts, one after the other
 

@@ -1,11 +1,10 @@
 -- A path's own text names the path.
-use Rattle.std.proofs.Common.{◌≡◌, ℕ, suc, ◌<◌, ◌≤◌, ◌≢◌, ◌==◌, Bool, true, false, List, [], ◌∷◌, ◌++◌, length, nat_lt, Option, Some, None, Result, Ok, refl, sym, ◌∙◌, ap, append_assoc, append-nil, arith}
+use Rattle.std.proofs.Common.{◌≡◌, ℕ, ◌<◌, ◌≤◌, ◌≢◌, ◌==◌, false, List, [], ◌∷◌, ◌++◌, length, nat_lt, None, Ok, refl, ◌∙◌, ap, append_assoc, append-nil, arith}
 use Rattle.std.specs.Prelude.{position, slice_index}
 use Rattle.std.specs.List.{AllByRecursion, position_or_len}
 use Rattle.std.proofs.lemmas.Bool.{eqb-true}
 use Rattle.std.proofs.lemmas.Bool.Decides.{nat_tests}
 use Rattle.rx_base.specs.Paths.{Lacks, IsName, IsPath, longest, parts, joined, with_parts, with_text, checked, path_of, read_of}
-use Rattle.rx_base.specs.Results.{◌>>=◌}
 use Rattle.rx_base.proofs.PathLemmas.{not_true, with_part_name}
 use Rattle.rx_base.proofs.PathShape.{joined-lacks}
 

@@ -1,5 +1,5 @@
 -- Paths that go on from others.
-use Rattle.std.proofs.Common.{◌≡◌, ℕ, Bool, true, false, ◌&&◌, nat_eq, List, [], ◌∷◌, ◌++◌, length, drop, refl, ◌∙◌, ap, sym}
+use Rattle.std.proofs.Common.{◌≡◌, ℕ, Bool, true, false, ◌&&◌, nat_eq, List, [], ◌∷◌, ◌++◌, length, drop, refl, ◌∙◌, ap}
 use Rattle.std.specs.List.{starts_with}
 
 and_assoc : (a b c : Bool) → (a && (b && c)) ≡ ((a && b) && c)

@@ -8,7 +8,6 @@ use Rattle.std.proofs.lemmas.Slice.Eq.{bytes_eq-Decides}
 use Rattle.std.proofs.lemmas.List.{length-append}
 use Rattle.rx_base.specs.declared.path_fault.PathFault.{PathFault}
 use Rattle.rx_base.specs.declared.path_fault.PathFault.TheVariants.{Absolute, AboveRoot}
-use Rattle.rx_base.specs.Results.{◌>>=◌, Gives}
 use Rattle.rx_base.proofs.ResultLemmas.{bind_ok}
 use Rattle.rx_base.specs.Paths.{Lacks, IsName, IsPath, parts, joined, with_part, with_parts, without_last, with_text, without_zero, checked}
 

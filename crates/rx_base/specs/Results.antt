@@ -12,7 +12,7 @@ abbrev pub Equals : {X Y E : Type 0} → (X → Y) → Result X E → Result Y E
 Equals view (Ok x) given = given ≡ Ok (view x)
 Equals view (Err e) given = given ≡ Err e
 
--- The same, but that the call may also lack memory, whatever the definition gives.
+-- The same, but that the call may lack memory in place of what the definition gives.
 abbrev pub Gives : {X Y E : Type 0} → E → (X → Y) → Result X E → Result Y E → Type 0
 Gives no_memory view (Ok x) given = given ≡ Ok (view x)
 Gives no_memory view (Err e) given = e ≢ no_memory → given ≡ Err e

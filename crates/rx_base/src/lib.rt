@@ -9,6 +9,7 @@ mod memory;
 mod path_fault;
 mod path_text;
 mod paths;
+mod sorted_paths;
 mod text_list;
 
 pub use byte_list::Bytes;
@@ -17,6 +18,7 @@ pub use item_list::Items;
 pub use memory::{NoMemory, TryClone};
 pub use path_fault::PathFault;
 pub use paths::{MAX_PATH_LEN, RelPath};
+pub use sorted_paths::sort_paths;
 pub use text_list::Text;
 
 #[cfg(test)]

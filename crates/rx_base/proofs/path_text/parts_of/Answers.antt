@@ -1,9 +1,8 @@
-use Rattle.std.proofs.Common.{refl, sym, ◌∙◌, lit<, arith, length, rules}
+use Rattle.std.proofs.Common.{◌∙◌, lit<, arith, length}
 use Rattle.std.proofs.lemmas.List.{length_push}
 use Rattle.std.proofs.lemmas.Iterator.Consumers.{YieldsList-turn, YieldsList-end}
 use Rattle.std.proofs.lemmas.Iterator.Splits.{YieldsList-from_str_split}
 use Rattle.rx_base.specs.Paths.{parts}
-use Rattle.rx_base.specs.Texts.{texts}
 use Rattle.rx_base.proofs.PathAbove.{texts-more, texts-all}
 use Rattle.rx_base.proofs.path_text.parts_of.Goals as goal
 

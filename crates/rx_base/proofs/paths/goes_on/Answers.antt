@@ -1,4 +1,4 @@
-use Rattle.std.proofs.Common.{◌∙◌, sym, refl, rules}
+use Rattle.std.proofs.Common.{◌∙◌, sym, refl}
 use Rattle.rx_base.proofs.PathBelow.{starts_with-more}
 use Rattle.rx_base.proofs.paths.goes_on.Goals as goal
 

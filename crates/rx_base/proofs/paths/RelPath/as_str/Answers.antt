@@ -1,4 +1,3 @@
-use Rattle.std.proofs.Common.{sym, subst}
 use Rattle.rx_base.proofs.PathAgain.{read_of-path}
 use Rattle.rx_base.proofs.PathShape.{IsPath-same}
 use Rattle.rx_base.proofs.paths.RelPath.as_str.Goals as goal
