@@ -70,6 +70,10 @@ pub record Placed : Type 0 where
 abbrev pub placed : ℕ → ℕ → Content × ℕ → Placed
 placed number start v = record { field = record { number = number; content = v.0 }; behind_tag = start; content = content_at v.0 start v.1; end = v.1 }
 
+-- the greatest tag: tags have 32 bits
+abbrev pub greatest_tag : ℕ
+greatest_tag = 4294967295
+
 -- the field behind a tag
 unfoldable pub tagged_at : List ℕ → ℕ → ℕ → ℕ → Option Kind → Result Placed WireFault
 tagged_at text at start number None = Err (BadType at)
@@ -83,7 +87,7 @@ tagged_at text at start number (Some kind) =
 unfoldable pub field_at : List ℕ → ℕ → Result Placed WireFault
 field_at text at = do
   tag ← varint_at text at
-  if nat_lt 4294967295 tag.0 then Err (BadType at) else tagged_at text at tag.1 (tag.0 / 8) (kind_of tag.0)
+  if nat_lt greatest_tag tag.0 then Err (BadType at) else tagged_at text at tag.1 (tag.0 / 8) (kind_of tag.0)
 
 -- ---- one call after the other
 

@@ -91,6 +91,7 @@ impl Out {
     }
 }
 
+/// Writes a tag of wire type 0 and the value. An `Err` may leave some of the bytes there.
 #[tactic(auto, unfolding(crate::specs::Out::varint_field))]
 fn push_varint_field(out: &mut Vec<u8>, number: u32, value: u64) -> Result<(), NoMemory>
     requires { number < 2 ^ 29 }
@@ -101,6 +102,7 @@ fn push_varint_field(out: &mut Vec<u8>, number: u32, value: u64) -> Result<(), N
     push_varint(out, value)
 }
 
+/// Writes a tag of wire type 2, the length and the bytes. An `Err` may leave some of them there.
 #[tactic(auto, unfolding(crate::specs::Out::bytes_field))]
 fn push_bytes_field(out: &mut Vec<u8>, number: u32, value: &[u8]) -> Result<(), NoMemory>
     requires { number < 2 ^ 29 }
