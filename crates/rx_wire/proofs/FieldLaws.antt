@@ -17,7 +17,7 @@ use Rattle.rx_wire.specs.Cursor.{Cursor}
 use Rattle.rx_base.proofs.ResultLemmas.{bind_ok}
 use Rattle.rx_wire.specs.declared.values.Value.{Value}
 use Rattle.rx_wire.specs.declared.values.Value.TheVariants as values
-use Rattle.rx_wire.specs.Values.{Content, varint, fixed64, bytes, fixed32, Field, content_of, field_of, kind_number}
+use Rattle.rx_wire.specs.Values.{Content, varint, fixed64, bytes, fixed32, Field, field_of, kind_number}
 use Rattle.rx_wire.specs.declared.found.Found.{Found}
 use Rattle.rx_wire.specs.Found.{placed_of}
 use Rattle.rx_wire.specs.Fields.{SpellsContent, SpellsField, Placed, placed, content_at, value_at, tagged_at, field_at, Reads, IsInside}
@@ -149,7 +149,7 @@ kind_number-small (fixed64 n) = lit< tt
 kind_number-small (bytes b) = lit< tt
 kind_number-small (fixed32 n) = lit< tt
 
-after : (all : List ℕ) (at : ℕ) (text rest : List ℕ) → drop at all ≡ text ++ rest → drop (at + length text) all ≡ rest
+pub after : (all : List ℕ) (at : ℕ) (text rest : List ℕ) → drop at all ≡ text ++ rest → drop (at + length text) all ≡ rest
 after all at text rest e = sym (drop-drop (length text) at all) ∙ ap (drop (length text)) e ∙ drop_at text rest (length text) refl
 
 room : (all : List ℕ) (at n : ℕ) (text rest : List ℕ) → drop at all ≡ text ++ rest → length text ≡ n → nat_lt (length all - at) n ≡ false
@@ -200,7 +200,7 @@ Spells-some [] n s = absurd s
 Spells-some (b ∷ text) n s = omega arith
 
 -- a field has at least one byte
-SpellsField-some : (f : Field) (text : List ℕ) → SpellsField f text → 0 < length text
+pub SpellsField-some : (f : Field) (text : List ℕ) → SpellsField f text → 0 < length text
 SpellsField-some f text s =
     let some = Spells-some s.tag (f.number * 8 + kind_number f.content) s.tag_is.spelled in
     rw s.whole (omega (arith, length-append s.tag s.value))

@@ -1,5 +1,5 @@
 -- Fields and their bytes (Protocol Buffers, Encoding, "Message Structure").
-use Rattle.std.specs.Prelude.{◌≡◌, ℕ, zero, suc, ◌+◌, ◌-◌, ◌*◌, ◌/◌, ◌^◌, ◌<◌, List, [], ◌∷◌, ◌++◌, length, map, take, drop, Option, Some, None, Result, Ok, Err, ◌==◌, nat_lt, if◌then◌else◌}
+use Rattle.std.specs.Prelude.{◌≡◌, ℕ, ◌+◌, ◌-◌, ◌*◌, ◌/◌, ◌^◌, ◌<◌, List, [], ◌∷◌, ◌++◌, length, map, take, drop, Option, Some, None, Result, Ok, Err, ◌==◌, nat_lt, if◌then◌else◌}
 use Rattle.std.specs.Int.{w32, w64, from_le_bytes}
 use Rattle.rx_base.specs.Results.{◌>>=◌}
 use Rattle.rx_wire.specs.declared.faults.WireFault.{WireFault}
@@ -9,7 +9,7 @@ use Rattle.rx_wire.specs.declared.values.Value.TheVariants as values
 use Rattle.rx_wire.specs.declared.values.Kind.{Kind}
 use Rattle.rx_wire.specs.declared.values.Kind.TheVariants as kinds
 use Rattle.rx_wire.specs.Cursor.{Cursor}
-use Rattle.rx_wire.specs.Values.{Content, varint, fixed64, bytes, fixed32, Field, content_of, field_of, kind_number, kind_of}
+use Rattle.rx_wire.specs.Values.{Content, varint, fixed64, bytes, fixed32, Field, field_of, kind_number, kind_of}
 use Rattle.rx_wire.specs.Varints.{IsVarint, varint_at}
 
 -- ---- the bytes of fields
@@ -70,6 +70,10 @@ pub record Placed : Type 0 where
 abbrev pub placed : ℕ → ℕ → Content × ℕ → Placed
 placed number start v = record { field = record { number = number; content = v.0 }; behind_tag = start; content = content_at v.0 start v.1; end = v.1 }
 
+-- the greatest tag: tags have 32 bits
+abbrev pub greatest_tag : ℕ
+greatest_tag = 4294967295
+
 -- the field behind a tag
 unfoldable pub tagged_at : List ℕ → ℕ → ℕ → ℕ → Option Kind → Result Placed WireFault
 tagged_at text at start number None = Err (BadType at)
@@ -83,7 +87,7 @@ tagged_at text at start number (Some kind) =
 unfoldable pub field_at : List ℕ → ℕ → Result Placed WireFault
 field_at text at = do
   tag ← varint_at text at
-  if nat_lt 4294967295 tag.0 then Err (BadType at) else tagged_at text at tag.1 (tag.0 / 8) (kind_of tag.0)
+  if nat_lt greatest_tag tag.0 then Err (BadType at) else tagged_at text at tag.1 (tag.0 / 8) (kind_of tag.0)
 
 -- ---- one call after the other
 
@@ -115,3 +119,13 @@ IsInside (values.Varint n) all content end = Unit {0}
 IsInside (values.Fixed64 n) all content end = Unit {0}
 IsInside (values.Bytes b) all content end = drop content (take end all) ≡ b.now
 IsInside (values.Fixed32 n) all content end = Unit {0}
+
+-- Reading from an offset on gives these fields one after the other, and then the end or this fault.
+abbrev pub ReadsAll : List ℕ → ℕ → List Placed → Option WireFault → Type 0
+ReadsAll all at [] None = at ≡ length all
+ReadsAll all at [] (Some fault) = (at < length all) × (field_at all at ≡ Err fault)
+ReadsAll all at (p ∷ ps) fault = (at < length all) × (field_at all at ≡ Ok p) × ReadsAll all p.end ps fault
+
+-- the fields, without their places
+abbrev pub fields_of : List Placed → List Field
+fields_of ps = map (λ (p : Placed). p.field) ps

@@ -1,8 +1,8 @@
 -- Fields as they are written.
-use Rattle.std.specs.Prelude.{◌≡◌, ℕ, ◌+◌, ◌*◌, List, ◌++◌, length, take}
+use Rattle.std.specs.Prelude.{◌≡◌, ℕ, ◌+◌, ◌*◌, List, [], ◌∷◌, ◌++◌, length, take}
 use Rattle.rx_wire.specs.Values.{Field}
 use Rattle.rx_wire.specs.Varints.{shortest}
-use Rattle.rx_wire.specs.Fields.{SpellsField}
+use Rattle.rx_wire.specs.Fields.{SpellsField, SpellsFields}
 
 -- new begins with old
 pub record IsFront (old new : List ℕ) : Type 0 where
@@ -21,3 +21,7 @@ pub record Appends (old new : List ℕ) (f : Field) : Type 0 where
   pub text : List ℕ
   pub parts : new ≡ old ++ text
   pub spelled : SpellsField f text
+
+-- where the old bytes spell some fields, the new ones spell these and one more
+abbrev pub AddsField : List ℕ → List ℕ → Field → Type 0
+AddsField old new f = (fs : List Field) → SpellsFields fs old → SpellsFields (fs ++ f ∷ []) new

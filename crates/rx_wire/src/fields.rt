@@ -1,9 +1,9 @@
 //! Fields, read one after the other.
 
-ghost use Rattle.std.specs.Prelude.{◌≡◌, ◌≤◌, ◌<◌, ◌+◌, ◌++◌, List, ℕ, drop, length, take, IfOk, IfSome};
+ghost use Rattle.std.specs.Prelude.{◌≡◌, ◌+◌, ◌++◌, List, ℕ, drop, length, take, IfOk, IfSome};
 ghost use Rattle.rx_wire.specs.Cursor.{before};
 ghost use Rattle.rx_wire.specs.Values.{Field, field_of};
-ghost use Rattle.rx_wire.specs.Fields.{Next, Reads, SpellsField, IsField, IsInside};
+ghost use Rattle.rx_wire.specs.Fields.{Next, Placed, Reads, ReadsAll, SpellsField, SpellsFields, IsField, IsInside, fields_of};
 
 use crate::faults::WireFault;
 use crate::found::read_field;
@@ -33,7 +33,10 @@ impl<'a> Model for Fields<'a> {
 impl<'a> Fields<'a> {
     /// Before the first field of these bytes.
     pub fn new(bytes: &'a [u8]) -> Fields<'a>
-        ensures { result ≡ before bytes.now 0 }
+        ensures start { result ≡ before bytes.now 0 }
+        // What all calls of `next` read up to the end is spelled so, and what is spelled so is read.
+        ensures spelled { (found : List Placed) → ReadsAll bytes.now 0 found None → SpellsFields (fields_of found) bytes.now }
+        ensures again { (fields : List Field) → SpellsFields fields bytes.now → (found : List Placed) × ReadsAll bytes.now 0 found None × (fields_of found ≡ fields) }
     {
         Fields {
             bytes,

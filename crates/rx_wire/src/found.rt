@@ -10,6 +10,9 @@ use crate::faults::WireFault;
 use crate::values::{Kind, Value, kind_of};
 use crate::varints::varint_at;
 
+/// The greatest tag: tags have 32 bits.
+const MAX_TAG: u64 = 0xffff_ffff;
+
 /// A field with its place: the offset behind its tag, that of its content, and the one behind it.
 #[derive(Clone, Copy)]
 pub(crate) struct Found<'a> {
@@ -39,7 +42,7 @@ fn field_at(bytes: &[u8], at: usize) -> Result<Found<'_>, WireFault>
     ensures within { IfOk result (λ found. (found.end ≤ length bytes.now) × (found.content ≤ found.end)) }
 {
     let (tag, behind_tag) = varint_at(bytes, at)?;
-    if tag > 0xffff_ffff {
+    if tag > MAX_TAG {
         return Err(WireFault::BadType(at));
     }
     let Some(kind) = kind_of(tag) else {

@@ -5,6 +5,7 @@
 mod faults;
 mod fields;
 mod found;
+mod integers;
 mod out;
 mod texts;
 mod values;
@@ -12,6 +13,10 @@ mod varints;
 
 pub use faults::WireFault;
 pub use fields::Fields;
+pub use integers::int32_of;
 pub use out::Out;
 pub use texts::text_of;
 pub use values::Value;
+
+#[cfg(test)]
+mod tests;
