@@ -131,11 +131,12 @@ last_fits bytes at value weight b r le =
 -- ---- writing
 
 -- what is still to write completes the number
-pub record IsWriting (old : List ℕ) (value : ℕ) (now : List ℕ) (rest : ℕ) : Type 0 where
+pub record IsWriting (old : List ℕ) (value : ℕ) (now : List ℕ) (rest begun len : ℕ) : Type 0 where
   pub left : ℕ
   pub small : rest < 128 ^ suc left
   pub so_far : now ++ groups left rest ≡ old ++ shortest value
   pub front : IsFront old now
+  pub long : len + suc left ≡ begun + 10
 
 IsFront-refl : (xs : List ℕ) → IsFront xs xs
 IsFront-refl xs = record { same = take_all (length xs) xs (omega arith) }
@@ -145,15 +146,15 @@ IsFront-push old now b f =
     let le : length old ≤ length now = omega (arith, length-take (length old) now, ap length f.same) in
     record { same = take-append-le (length old) now (b ∷ []) le ∙ f.same }
 
-pub writes_first : (old : List ℕ) (value : ℕ) → value < 2 ^ 64 → IsWriting old value old value
+pub writes_first : (old : List ℕ) (value len : ℕ) → value < 2 ^ 64 → IsWriting old value old value len len
 unfolding shortest
-writes_first old value lt = record { left = 9; small = omega arith; so_far = refl; front = IsFront-refl old }
+writes_first old value len lt = record { left = 9; small = omega arith; so_far = refl; front = IsFront-refl old; long = omega arith }
 
-more_at : (old : List ℕ) (value : ℕ) (now : List ℕ) (rest left : ℕ) → 128 ≤ rest → rest < 128 ^ suc left → now ++ groups left rest ≡ old ++ shortest value → IsFront old now
-    → IsWriting old value (now ++ (rest % 128 + 128) ∷ []) (rest / 128)
+more_at : (old : List ℕ) (value : ℕ) (now : List ℕ) (rest left begun len next : ℕ) → 128 ≤ rest → rest < 128 ^ suc left → now ++ groups left rest ≡ old ++ shortest value → IsFront old now → len + suc left ≡ begun + 10 → next ≡ len + 1
+    → IsWriting old value (now ++ (rest % 128 + 128) ∷ []) (rest / 128) begun next
 unfolding groups
-more_at old value now rest zero high small so_far front = absurd (omega arith)
-more_at old value now rest (suc k) high small so_far front =
+more_at old value now rest zero begun len next high small so_far front long e = absurd (omega arith)
+more_at old value now rest (suc k) begun len next high small so_far front long e =
     let power = pow-suc 128 (suc k) in
     let test : nat_lt rest 128 ≡ false = le-ltb _ _ high in
     record {
@@ -161,10 +162,11 @@ more_at old value now rest (suc k) high small so_far front =
       small = omega arith;
       so_far = rw append_assoc (rw test at so_far);
       front = IsFront-push old now (rest % 128 + 128) front;
+      long = omega arith;
     }
 
-pub writes_more : (old : List ℕ) (value : ℕ) (now : List ℕ) (rest : ℕ) → 128 ≤ rest → IsWriting old value now rest → IsWriting old value (now ++ (rest % 128 + 128) ∷ []) (rest / 128)
-writes_more old value now rest high w = more_at old value now rest w.left high w.small w.so_far w.front
+pub writes_more : (old : List ℕ) (value : ℕ) (now : List ℕ) (rest begun len next : ℕ) → 128 ≤ rest → IsWriting old value now rest begun len → next ≡ len + 1 → IsWriting old value (now ++ (rest % 128 + 128) ∷ []) (rest / 128) begun next
+writes_more old value now rest begun len next high w e = more_at old value now rest w.left begun len next high w.small w.so_far w.front w.long e
 
 last_at : (old : List ℕ) (value : ℕ) (now : List ℕ) (rest left : ℕ) → rest < 128 → now ++ groups left rest ≡ old ++ shortest value → now ++ rest ∷ [] ≡ old ++ shortest value
 unfolding groups
@@ -173,5 +175,5 @@ last_at old value now rest (suc k) low so_far =
     let test : nat_lt rest 128 ≡ true = lt-ltb _ _ low in
     rw test at so_far
 
-pub writes_last : (old : List ℕ) (value : ℕ) (now : List ℕ) (rest : ℕ) → rest < 128 → IsWriting old value now rest → now ++ rest ∷ [] ≡ old ++ shortest value
-writes_last old value now rest low w = last_at old value now rest w.left low w.so_far
+pub writes_last : (old : List ℕ) (value : ℕ) (now : List ℕ) (rest begun len : ℕ) → rest < 128 → IsWriting old value now rest begun len → now ++ rest ∷ [] ≡ old ++ shortest value
+writes_last old value now rest begun len low w = last_at old value now rest w.left low w.so_far

@@ -17,6 +17,7 @@ pub use integers::int32_of;
 pub use out::Out;
 pub use texts::text_of;
 pub use values::Value;
+pub use varints::push_varint;
 
 #[cfg(test)]
 mod tests;

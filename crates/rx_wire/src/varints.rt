@@ -1,6 +1,6 @@
 //! Numbers in groups of seven bits.
 
-ghost use Rattle.std.specs.Prelude.{◌≡◌, ◌≤◌, ◌++◌, length, IfOk, OnOk};
+ghost use Rattle.std.specs.Prelude.{◌≡◌, ◌≤◌, ◌+◌, ◌++◌, length, IfOk, IsOk, OnOk, vec_len, vec_capacity};
 ghost use Rattle.rx_wire.specs.Varints.{varint_at, shortest};
 ghost use Rattle.rx_wire.specs.Out.{IsFront};
 
@@ -33,15 +33,19 @@ pub(crate) fn varint_at(bytes: &[u8], at: usize) -> Result<(u64, usize), WireFau
 }
 
 /// Writes a number at the end, in as few bytes as it takes. An `Err` may leave some of them there.
-pub(crate) fn push_varint(out: &mut Vec<u8>, value: u64) -> Result<(), NoMemory>
+pub fn push_varint(out: &mut Vec<u8>, value: u64) -> Result<(), NoMemory>
     ensures ok { OnOk result (out.new.items ≡ out.old.items ++ shortest value) }
     ensures front { IsFront out.old.items out.new.items }
+    ensures room { vec_len out.old + 10 ≤ vec_capacity out.old → IsOk result }
+    ensures capacity { vec_capacity out.old ≤ vec_capacity out.new }
+    ensures len { vec_len out.new ≤ vec_len out.old + 10 }
 {
+    out.reserve(10)?;
     let mut rest = value;
     while rest >= 128 {
-        out.push((rest % 128 + 128) as u8)?;
+        out.push((rest % 128 + 128) as u8).unwrap();
         rest /= 128;
     }
-    out.push(rest as u8)?;
+    out.push(rest as u8).unwrap();
     Ok(())
 }
