@@ -1,6 +1,6 @@
 //! One attempt on this machine: a fresh bench, its tree, the run, the outputs, and the bench back.
 
-ghost use Rattle.std.specs.Prelude.{◌≡◌, ◌≤◌, [], Some, IfErr, IfOk, IfSome};
+ghost use Rattle.std.specs.Prelude.{◌≡◌, ◌≤◌, [], ◌∷◌, Some, IfErr, IfOk, IfSome};
 ghost use Rattle.rx_world.specs.Benches.{IsFresh, Runs};
 ghost use Rattle.rx_world.specs.Outcomes.{IsClean, IsProper};
 ghost use Rattle.rx_world.specs.Trees.{tree_of, with_parents};
@@ -30,6 +30,10 @@ pub fn run_local<W: World, M: BenchMaker<W>>(
 ) -> Result<Outcome, Cause>
     ensures proper { IfOk result (IsProper command.now) }
     ensures clean { IfOk result (λ outcome. W.tools_honest → IsClean W.tool command.now (tree_of files.now directories.now) outcome) }
+    // The bench that came back ran once: this command, over the files, the directories and those of the
+    // outputs, with this exit.
+    ensures ran { IfOk result (λ outcome. IfSome (M.last benches.new) (λ bench. IfSome (M.B.runs bench) (λ runs.
+        runs ≡ record { command = command.now; tree = with_parents command.now.outputs (tree_of files.now directories.now); exit = outcome.exit } ∷ []))) }
     ensures later { M.faults benches.old ≤ M.faults benches.new }
     ensures cause { IfErr result (IsCounted (M.faults benches.old) (M.faults benches.new)) }
     ensures missing { IfErr result (λ cause. IfMissing cause (λ path. W.tools_honest → LacksOutput W.tool command.now (tree_of files.now directories.now) path)) }
@@ -58,6 +62,8 @@ fn run_on<W: World, B: Bench<W>>(
     requires { IsFresh W.tools_honest (B.tree bench.old) (B.runs bench.old) (B.faults bench.old) }
     ensures proper { IfOk result (IsProper command.now) }
     ensures clean { IfOk result (λ outcome. W.tools_honest → IsClean W.tool command.now (tree_of files.now directories.now) outcome) }
+    ensures ran { IfOk result (λ outcome. IfSome (B.runs bench.new) (λ runs.
+        runs ≡ record { command = command.now; tree = with_parents command.now.outputs (tree_of files.now directories.now); exit = outcome.exit } ∷ [])) }
     ensures later { B.faults bench.old ≤ B.faults bench.new }
     ensures cause { IfErr result (IsCounted (B.faults bench.old) (B.faults bench.new)) }
     ensures missing { IfErr result (λ cause. IfMissing cause (λ path. W.tools_honest → LacksOutput W.tool command.now (tree_of files.now directories.now) path)) }
