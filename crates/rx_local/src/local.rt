@@ -1,7 +1,8 @@
 //! One attempt on this machine: a fresh bench, its tree, the run, the outputs, and the bench back.
 
-ghost use Rattle.std.specs.Prelude.{◌≡◌, ◌≤◌, [], ◌∷◌, Some, IfErr, IfOk, IfSome};
+ghost use Rattle.std.specs.Prelude.{◌≡◌, ◌≤◌, [], ◌∷◌, Some, IfErr, IfOk, IfSome, pos};
 ghost use Rattle.rx_world.specs.Benches.{IsFresh, Runs};
+ghost use Rattle.rx_world.specs.Files.{cut_files};
 ghost use Rattle.rx_world.specs.Outcomes.{IsClean, IsProper};
 ghost use Rattle.rx_world.specs.Trees.{tree_of, with_parents};
 ghost use Rattle.rx_local.specs.Local.{IfMissing, IsCounted, LacksOutput, first_missing};
@@ -34,6 +35,9 @@ pub fn run_local<W: World, M: BenchMaker<W>>(
     // outputs, with this exit.
     ensures ran { IfOk result (λ outcome. IfSome (M.last benches.new) (λ bench. IfSome (M.B.runs bench) (λ runs.
         runs ≡ record { command = command.now; tree = with_parents command.now.outputs (tree_of files.now directories.now); exit = outcome.exit } ∷ []))) }
+    // Its files are those of that bench.
+    ensures taken { IfOk result (λ outcome. IfSome (M.last benches.new) (λ bench. IfSome (M.B.tree bench) (λ tree.
+        outcome.exit.code ≡ pos 0 → outcome.files ≡ cut_files command.now.outputs tree.files))) }
     ensures later { M.faults benches.old ≤ M.faults benches.new }
     ensures cause { IfErr result (IsCounted (M.faults benches.old) (M.faults benches.new)) }
     ensures missing { IfErr result (λ cause. IfMissing cause (λ path. W.tools_honest → LacksOutput W.tool command.now (tree_of files.now directories.now) path)) }
@@ -64,6 +68,7 @@ fn run_on<W: World, B: Bench<W>>(
     ensures clean { IfOk result (λ outcome. W.tools_honest → IsClean W.tool command.now (tree_of files.now directories.now) outcome) }
     ensures ran { IfOk result (λ outcome. IfSome (B.runs bench.new) (λ runs.
         runs ≡ record { command = command.now; tree = with_parents command.now.outputs (tree_of files.now directories.now); exit = outcome.exit } ∷ [])) }
+    ensures taken { IfOk result (λ outcome. IfSome (B.tree bench.new) (λ tree. outcome.exit.code ≡ pos 0 → outcome.files ≡ cut_files command.now.outputs tree.files)) }
     ensures later { B.faults bench.old ≤ B.faults bench.new }
     ensures cause { IfErr result (IsCounted (B.faults bench.old) (B.faults bench.new)) }
     ensures missing { IfErr result (λ cause. IfMissing cause (λ path. W.tools_honest → LacksOutput W.tool command.now (tree_of files.now directories.now) path)) }
@@ -82,6 +87,7 @@ fn run_staged<W: World, B: Bench<W>>(
     ensures proper { IfOk result (IsProper command.now) }
     ensures clean { IfOk result (λ outcome. W.tools_honest → IfSome (B.tree bench.old) (λ tree. IsClean W.tool command.now tree outcome)) }
     ensures ran { IfOk result (λ outcome. Runs (B.tree bench.old) (B.runs bench.old) (B.runs bench.new) command.now outcome.exit) }
+    ensures taken { IfOk result (λ outcome. IfSome (B.tree bench.new) (λ tree. outcome.exit.code ≡ pos 0 → outcome.files ≡ cut_files command.now.outputs tree.files)) }
     ensures later { B.faults bench.old ≤ B.faults bench.new }
     ensures cause { IfErr result (IsCounted (B.faults bench.old) (B.faults bench.new)) }
     ensures missing { IfErr result (λ cause. IfMissing cause (λ path. W.tools_honest → IfSome (B.tree bench.old) (λ tree. LacksOutput W.tool command.now tree path))) }
