@@ -1,3 +1,1 @@
-pub mod Lacking
-pub mod Outputs
-pub mod Steps
+mod Lacking
