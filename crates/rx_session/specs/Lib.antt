@@ -1,0 +1,6 @@
+pub mod Bad
+pub mod Frames
+pub mod Jobs
+pub mod Messages
+pub mod Replies
+pub mod Rules
