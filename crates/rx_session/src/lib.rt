@@ -3,10 +3,12 @@
 #![tactic(auto)]
 
 mod bad;
+mod parts;
 mod raw_request;
 mod replies;
+mod reply_parts;
 mod requests;
 
 pub use bad::{Bad, BadReason, SessionFault};
-pub use replies::Reply;
+pub use replies::{MAX_REPLY_LEN, Reply, Room, encode};
 pub use requests::Request;
