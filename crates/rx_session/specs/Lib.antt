@@ -4,3 +4,4 @@ pub mod Jobs
 pub mod Messages
 pub mod Replies
 pub mod Rules
+pub mod Streams

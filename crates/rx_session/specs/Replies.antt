@@ -4,7 +4,7 @@ use Rattle.std.specs.Int.{w64, cast_unsigned}
 use Rattle.std.specs.List.{flat_map}
 use Rattle.hex.specs.Hex.{encode_lower}
 use Rattle.rx_base.specs.declared.digests.Digest.{Digest}
-use Rattle.rx_wire.specs.Written.{varint_field, bytes_field}
+use Rattle.rx_wire.specs.Out.{varint_field, bytes_field}
 use Rattle.rx_world.specs.declared.attempts.Attempt.{Attempt}
 use Rattle.rx_world.specs.declared.attempts.Attempt.TheVariants as attempts
 use Rattle.rx_world.specs.declared.attempts.BenchStep.{BenchStep}

@@ -1,8 +1,11 @@
 -- Each field's own rule, and which request a message is.
-use Rattle.std.specs.Prelude.{ℕ, ◌==◌, ◌&&◌, ◌||◌, Bool, true, false, not, nat_le, List, [], ◌∷◌, length, map, Option, None, Some, Result, Ok, Err, is_ok, if◌then◌else◌}
+use Rattle.std.specs.Prelude.{ℕ, ◌==◌, ◌&&◌, Bool, true, false, not, nat_le, List, [], ◌∷◌, length, map, Option, None, Some, Result, Ok, Err, is_ok, if◌then◌else◌}
 use Rattle.std.specs.List.{list_any, list_all}
 use Rattle.std.specs.Result.{result_unwrap_or}
 use Rattle.std.specs.Str.{bytes_eq}
+use Rattle.std.specs.Ordering.{nat_cmp}
+use Rattle.std.specs.Cmp.Lexicographic.{slice_cmp}
+use Rattle.rx_base.specs.SortedPaths.{sorted_once}
 use Rattle.rx_base.specs.Paths.{read_of, is_below}
 use Rattle.rx_base.specs.Results.{◌>>=◌}
 use Rattle.rx_world.specs.declared.commands.Kind.{Kind}
@@ -33,32 +36,39 @@ path_in text = result_unwrap_or (read_of text) []
 abbrev pub paths_in : List (List ℕ) → List (List ℕ)
 paths_in texts = map path_in texts
 
--- no text is equal to one after it
-abbrev pub are_distinct : List (List ℕ) → Bool
-are_distinct [] = true
-are_distinct (text ∷ texts) = not (list_any (bytes_eq text) texts) && are_distinct texts
+-- no two of the texts are equal: taking each once loses none
+unfoldable pub are_distinct : List (List ℕ) → Bool
+are_distinct texts = length (sorted_once (slice_cmp nat_cmp) texts) == length texts
 
 -- ---- the fields' rules
 
+-- there is a first word, and it isn't empty
+abbrev pub first_holds : List (List ℕ) → Bool
+first_holds [] = false
+first_holds (word ∷ words) = not (length word == 0)
+
 -- 3: one word at least, the first not empty
 unfoldable pub words_hold : List (List ℕ) → Bool
-words_hold [] = false
-words_hold (word ∷ words) = not (length word == 0) && list_all (lacks 0) (word ∷ words)
+words_hold words = first_holds words && list_all (lacks 0) words
 
 abbrev pub names_of : List Pair → List (List ℕ)
 names_of pairs = map (λ pair. pair.name) pairs
 
--- a name of an environment variable, with its value
+-- 11: any texts
+unfoldable pub property_holds : Pair → Bool
+property_holds pair = lacks 0 pair.name && lacks 0 pair.value
+
+-- the name of an environment variable, with its value
 unfoldable pub variable_holds : Pair → Bool
-variable_holds pair = not (length pair.name == 0) && lacks 61 pair.name && lacks 0 pair.name && lacks 0 pair.value
+variable_holds pair = not (length pair.name == 0) && (lacks 61 pair.name && property_holds pair)
 
 -- 4: distinct names, none empty or with `=`
 unfoldable pub environment_holds : List Pair → Bool
-environment_holds pairs = list_all variable_holds pairs && are_distinct (names_of pairs)
+environment_holds pairs = if not (list_all variable_holds pairs) then false else are_distinct (names_of pairs)
 
 -- 5: empty for the root, or a path
 unfoldable pub directory_holds : List ℕ → Bool
-directory_holds text = length text == 0 || is_path text
+directory_holds text = if length text == 0 then true else is_path text
 
 -- 6, 7, 12, 13, 14: a number from one to another
 abbrev pub is_within : ℕ → ℕ → ℕ → Bool
@@ -75,18 +85,23 @@ some_above outputs paths = list_any (λ output. list_any (λ path. is_below path
 -- 10: paths below the working directory, none above another or above a declared input
 unfoldable pub outputs_hold : List ℕ → List (List ℕ) → List (List ℕ) → List (List ℕ) → Bool
 outputs_hold directory inputs toolchain_inputs outputs =
-    list_all is_path outputs
-    && list_all (λ output. is_below output (path_in directory)) (paths_in outputs)
-    && not (some_above (paths_in outputs) (paths_in outputs))
-    && not (some_above (paths_in outputs) (paths_in inputs))
-    && not (some_above (paths_in outputs) (paths_in toolchain_inputs))
-
--- 11: any texts
-unfoldable pub property_holds : Pair → Bool
-property_holds pair = lacks 0 pair.name && lacks 0 pair.value
+    if not (paths_hold outputs) then false
+    else if not (list_all (λ output. is_below output (path_in directory)) (paths_in outputs)) then false
+    else if some_above (paths_in outputs) (paths_in outputs) then false
+    else if some_above (paths_in outputs) (paths_in inputs) then false
+    else not (some_above (paths_in outputs) (paths_in toolchain_inputs))
 
 unfoldable pub platform_holds : List Pair → Bool
 platform_holds pairs = list_all property_holds pairs
+
+-- the least field from 11 on that breaks its rule
+unfoldable pub bad_last_field : RawRequest → Option ℕ
+bad_last_field raw =
+    if not (platform_holds raw.platform) then Some 11
+    else if not (is_within 0 1 raw.accept_cached) then Some 12
+    else if not (is_within 0 1 raw.watch) then Some 13
+    else if not (is_within 0 4294967295 raw.timeout_seconds) then Some 14
+    else None
 
 -- the least field that breaks its rule
 unfoldable pub bad_field : RawRequest → Option ℕ
@@ -99,11 +114,7 @@ bad_field raw =
     else if not (paths_hold raw.inputs) then Some 8
     else if not (paths_hold raw.toolchain_inputs) then Some 9
     else if not (outputs_hold raw.working_directory raw.inputs raw.toolchain_inputs raw.outputs) then Some 10
-    else if not (platform_holds raw.platform) then Some 11
-    else if not (is_within 0 1 raw.accept_cached) then Some 12
-    else if not (is_within 0 1 raw.watch) then Some 13
-    else if not (is_within 0 4294967295 raw.timeout_seconds) then Some 14
-    else None
+    else bad_last_field raw
 
 -- the least field whose value isn't served yet
 unfoldable pub unbuilt_field : RawRequest → Option ℕ

@@ -1,6 +1,7 @@
 //! Why bytes are no request, and why a session has none.
 
-ghost use Rattle.std.specs.Prelude.{◌≡◌};
+ghost use Rattle.std.specs.Prelude.{◌≡◌, Err};
+ghost use Rattle.rx_session.specs.Bad.{bad};
 
 use rx_world::Failed;
 use std::alloc::{AllocError, AllocFailed};
@@ -90,4 +91,11 @@ impl<T: Drop> From<AllocFailed<T>> for SessionFault {
     fn from(_error: AllocFailed<T>) -> SessionFault {
         SessionFault::NoMemory
     }
+}
+
+/// A refusal.
+pub(crate) fn refuse<T>(reason: BadReason, value: u64) -> Result<T, SessionFault>
+    ensures { result ≡ Err (SessionFault.Bad (bad reason value)) }
+{
+    Err(SessionFault::Bad(Bad { reason, value }))
 }

@@ -2,14 +2,14 @@
 //! so that a caller who made room knows that it can't lack memory.
 
 ghost use Rattle.std.specs.Prelude.{◌≡◌, ◌≤◌, ◌<◌, ◌+◌, ◌++◌, ◌^◌, IsOk, OnOk, length, vec_len, vec_capacity};
-ghost use Rattle.rx_wire.specs.Written.{varint_field, bytes_field};
+ghost use Rattle.rx_wire.specs.Out.{varint_field, bytes_field};
 ghost use Rattle.rx_session.specs.Replies.{number_part, bytes_part};
 
 use rx_base::NoMemory;
 use rx_wire::push_varint;
 
 /// A field that is a number: its tag and the number, at most ten bytes each.
-#[tactic(auto, unfolding(rx_wire::specs::Written::varint_field))]
+#[tactic(auto, unfolding(rx_wire::specs::Out::varint_field))]
 fn push_varint_field(out: &mut Vec<u8>, number: u32, value: u64) -> Result<(), NoMemory>
     requires { number < 2 ^ 29 }
     ensures ok { OnOk result (out.new.items ≡ out.old.items ++ varint_field number value) }
@@ -37,7 +37,7 @@ pub(crate) fn push_number(out: &mut Vec<u8>, number: u32, value: u64) -> Result<
 }
 
 /// A field that is some bytes: its tag, how many they are, and the bytes.
-#[tactic(auto, unfolding(rx_wire::specs::Written::bytes_field))]
+#[tactic(auto, unfolding(rx_wire::specs::Out::bytes_field))]
 pub(crate) fn push_bytes_field(out: &mut Vec<u8>, number: u32, value: &[u8]) -> Result<(), NoMemory>
     requires { number < 2 ^ 29 }
     ensures { OnOk result (out.new.items ≡ out.old.items ++ bytes_field number value.now) }

@@ -3,7 +3,7 @@
 ghost use Rattle.std.specs.Prelude.{◌≡◌, ◌≤◌, ◌<◌, ◌+◌, ◌^◌, ◌++◌, ◌∷◌, ℕ, List, [], IfOk, IsOk, OnOk, length, vec_len, vec_capacity};
 ghost use Rattle.std.specs.Int.{w32, to_be_bytes};
 ghost use Rattle.std.specs.List.{flat_map};
-ghost use Rattle.rx_wire.specs.Written.{bytes_field};
+ghost use Rattle.rx_wire.specs.Out.{bytes_field};
 ghost use Rattle.rx_session.specs.Bad.{reason_number};
 ghost use Rattle.rx_session.specs.Replies.{bytes_part, end_message, frame_of, number_part, payload_of, signed_part};
 ghost use Rattle.rx_session.specs.declared.replies.Reply.TheVariants.{PlaceFault as place_fault};

@@ -1,6 +1,6 @@
 use Rattle.std.proofs.Common.{◌≡◌, ◌++◌, take}
 use Rattle.std.specs.List.{flat_map}
-use Rattle.rx_wire.specs.Written.{bytes_field}
+use Rattle.rx_wire.specs.Out.{bytes_field}
 use Rattle.rx_session.specs.Replies.{end_message}
 use Rattle.rx_session.proofs.replies.push_failures.Given as goal
 
