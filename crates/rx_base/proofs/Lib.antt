@@ -1,0 +1,9 @@
+pub mod DigestLemmas
+pub mod Orders
+pub mod PathAbove
+pub mod PathAgain
+pub mod PathLemmas
+pub mod PathBelow
+pub mod PathShape
+pub mod PathsSorted
+pub mod ResultLemmas

@@ -1,0 +1,7 @@
+pub mod Digests
+pub mod HashText
+pub mod Paths
+pub mod Results
+pub mod SortedPaths
+pub mod Texts
+pub mod Told

@@ -1,0 +1,25 @@
+//! The words that every crate of the proxy shares: paths, digests, lists that a definition can
+//! compute with, copies of these, and the one error of memory. Nothing of the outside lives here.
+#![tactic(auto)]
+
+mod byte_list;
+mod digests;
+mod item_list;
+mod memory;
+mod path_fault;
+mod path_text;
+mod paths;
+mod sorted_paths;
+mod text_list;
+
+pub use byte_list::Bytes;
+pub use digests::{BadHash, Digest, digest_of, read_hash};
+pub use item_list::Items;
+pub use memory::{NoMemory, TryClone};
+pub use path_fault::PathFault;
+pub use paths::{MAX_PATH_LEN, RelPath};
+pub use sorted_paths::sort_paths;
+pub use text_list::Text;
+
+#[cfg(test)]
+mod tests;

@@ -1,0 +1,3 @@
+mod LastPlaced
+mod OnePublication
+mod PlacedBy

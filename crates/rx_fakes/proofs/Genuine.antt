@@ -1,0 +1,40 @@
+-- What stands at a path of genuine entries.
+use Rattle.std.proofs.Common.{◌≡◌, ℕ, Bool, true, false, cond, List, [], ◌∷◌, ◌++◌, Result, Ok, Err, IfOk, bytes_eq, refl}
+use Rattle.std.proofs.lemmas.Slice.Eq.{bytes_eq-Decides}
+use Rattle.rx_fakes.specs.Entries.{AreGenuine, IsGenuine}
+use Rattle.rx_world.specs.declared.looks.Look.{Look}
+use Rattle.rx_world.specs.declared.looks.Stamp.{Stamp}
+use Rattle.rx_world.specs.declared.sources.SourceEntry.{SourceEntry}
+use Rattle.rx_world.specs.Sources.{GivesContent, HasBytes, IsRead, entry_at}
+
+chosen_is : (P : SourceEntry → Type 0) (b : Bool) (x y : SourceEntry) → P x → P y → P (cond b x y)
+chosen_is P true x y p q = p
+chosen_is P false x y p q = q
+
+genuine-entry_at : (honest : Type 0) (holds : List ℕ → Stamp → List ℕ) (path : List ℕ) (entries : List SourceEntry) → AreGenuine honest holds entries → IsGenuine honest holds (entry_at path entries)
+genuine-entry_at honest holds path [] all = record { bytes = refl; content = λ h. tt }
+genuine-entry_at honest holds path (entry ∷ entries) all =
+    chosen_is (IsGenuine honest holds) (bytes_eq entry.path path) entry (entry_at path entries) all.0 (genuine-entry_at honest holds path entries all.1)
+
+path_chosen : (path : List ℕ) (b : Bool) (x y : SourceEntry) → (b ≡ true → x.path ≡ path) → y.path ≡ path → (cond b x y).path ≡ path
+path_chosen path true x y p q = p refl
+path_chosen path false x y p q = q
+
+path-entry_at : (path : List ℕ) (entries : List SourceEntry) → (entry_at path entries).path ≡ path
+path-entry_at path [] = refl
+path-entry_at path (entry ∷ entries) = path_chosen path (bytes_eq entry.path path) entry (entry_at path entries) (bytes_eq-Decides entry.path path).0 (path-entry_at path entries)
+
+pub read_bytes : {E : Type 0} (honest : Type 0) (holds : List ℕ → Stamp → List ℕ) (path : List ℕ) (entries : List SourceEntry) (result : Result (Look × List ℕ) E) → AreGenuine honest holds entries → IfOk result (λ read. IsRead entries path read.0 read.1) → IfOk result (λ read. HasBytes read.0 read.1)
+read_bytes honest holds path entries (Ok read) all is = rw (is.look_is, is.bytes_are) (genuine-entry_at honest holds path entries all).bytes
+read_bytes honest holds path entries (Err e) all is = tt
+
+pub read_content : {E : Type 0} (honest : Type 0) (holds : List ℕ → Stamp → List ℕ) (path : List ℕ) (entries : List SourceEntry) (result : Result (Look × List ℕ) E) → AreGenuine honest holds entries → IfOk result (λ read. IsRead entries path read.0 read.1) → IfOk result (λ read. honest → GivesContent holds path read.0 read.1)
+read_content honest holds path entries (Ok read) all is = λ h.
+    let content : GivesContent holds (entry_at path entries).path (entry_at path entries).look (entry_at path entries).bytes = (genuine-entry_at honest holds path entries all).content h in
+    rw (is.look_is, is.bytes_are) (rw (path-entry_at path entries) at content)
+read_content honest holds path entries (Err e) all is = tt
+
+-- one entry more
+pub genuine-more : (honest : Type 0) (holds : List ℕ → Stamp → List ℕ) (entries : List SourceEntry) (entry : SourceEntry) → AreGenuine honest holds entries → IsGenuine honest holds entry → AreGenuine honest holds (entries ++ entry ∷ [])
+genuine-more honest holds [] entry all is = (is, tt)
+genuine-more honest holds (e ∷ es) entry all is = (all.0, genuine-more honest holds es entry all.1 is)

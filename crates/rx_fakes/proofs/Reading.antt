@@ -1,0 +1,11 @@
+-- A read from bytes in memory.
+use Rattle.std.proofs.Common.{◌≡◌, ℕ, ◌+◌, ◌<◌, ◌≤◌, List, [], ◌++◌, arith, drop, drop_of_length-le, length, length-drop, min, sym, take}
+use Rattle.std.proofs.lemmas.List.{drop-drop, take-append-drop}
+
+-- what is left goes on after the bytes that were copied
+pub left_after : (bytes new : List ℕ) (at count : ℕ) → take count new ≡ take count (drop at bytes) → drop at bytes ≡ take count new ++ drop (at + count) bytes
+left_after bytes new at count copied = rw (copied, ← drop-drop count at bytes) (sym (take-append-drop count (drop at bytes)))
+
+-- no byte is copied into some room only at the end
+pub left_ends : (bytes old : List ℕ) (at count : ℕ) → at ≤ length bytes → count ≡ min (length (drop at bytes)) (length old) → count ≡ 0 → 0 < length old → drop (at + count) bytes ≡ []
+left_ends bytes old at count within counted none room = drop_of_length-le bytes (omega (arith, within, counted, none, room, length-drop at bytes))

@@ -1,0 +1,9 @@
+//! The local attempt: one run of a command on a fresh bench of this machine. What a bench is stands
+//! in `rx_world`; nothing here opens a file or starts a program.
+#![tactic(auto)]
+
+mod local;
+mod stage;
+mod take;
+
+pub use local::run_local;

@@ -1,0 +1,49 @@
+-- A tool that is computed: it copies what it sees of its tree into each output.
+use Rattle.std.specs.Prelude.{◌≡◌, ℕ, ◌%◌, ◌^◌, List, [], ◌∷◌, ◌++◌, Option, None, Some, codes, decimal, false, if◌then◌else◌, length, map, nat_eq, pos, sum}
+use Rattle.std.specs.List.{flat_map, starts_with}
+use Rattle.std.proofs.Common.{ap}
+use Rattle.rx_world.specs.declared.commands.Command.{Command}
+use Rattle.rx_world.specs.declared.outcomes.Exit.{Exit}
+use Rattle.rx_world.specs.declared.outcomes.FileOut.{FileOut}
+use Rattle.rx_world.specs.declared.outcomes.Outcome.{Outcome}
+use Rattle.rx_world.specs.declared.trees.Tree.{Tree}
+use Rattle.rx_world.specs.Trees.{files-tree_with_directories, parents_of, with_parents}
+
+-- the first file that begins with `#error`: the least path, since a tree's files are in order
+abbrev pub first_error : List FileOut → Option (List ℕ)
+first_error [] = None
+first_error (file ∷ files) = if starts_with nat_eq file.bytes (codes "#error") then Some file.path else first_error files
+
+-- a file's path, size and the sum of its bytes in 32 bits, on a line
+abbrev pub toy_line : FileOut → List ℕ
+toy_line file =
+    file.path ++ codes " " ++ decimal (length file.bytes) ++ codes " " ++ decimal (sum file.bytes % 2 ^ 32) ++ codes "\n"
+
+-- an output has its own path on a line, and a line for each file of the tree
+abbrev pub toy_file : List FileOut → List ℕ → FileOut
+toy_file files path = record { path = path; bytes = path ++ codes "\n" ++ flat_map toy_line files; executable = false }
+
+abbrev pub toy_failure : List ℕ → Outcome
+toy_failure path = record {
+  exit = record { code = pos 1; stdout = []; stderr = codes "error in " ++ path ++ codes "\n" };
+  files = [];
+}
+
+abbrev pub toy_success : List (List ℕ) → List FileOut → Outcome
+toy_success outputs files = record {
+  exit = record { code = pos 0; stdout = []; stderr = [] };
+  files = map (toy_file files) outputs;
+}
+
+abbrev pub toy_outcome : Option (List ℕ) → List (List ℕ) → List FileOut → Outcome
+toy_outcome (Some path) outputs files = toy_failure path
+toy_outcome None outputs files = toy_success outputs files
+
+-- What the tool makes. The words, the environment and empty directories don't count.
+abbrev pub toy_tool : Command → Tree → Outcome
+toy_tool command tree = toy_outcome (first_error tree.files) command.outputs tree.files
+
+-- the directories that are made for the outputs don't count
+pub toy_tool-with_parents : (command : Command) (tree : Tree) → toy_tool command (with_parents command.outputs tree) ≡ toy_tool command tree
+toy_tool-with_parents command tree =
+    ap (λ files. toy_outcome (first_error files) command.outputs files) (files-tree_with_directories (parents_of command.outputs) tree)

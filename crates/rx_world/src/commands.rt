@@ -1,0 +1,46 @@
+//! The command of a request, as every attempt runs it.
+
+use rx_base::{Items, RelPath, Text};
+
+/// A name with its value: an environment variable or a property of a platform
+/// (`remote_execution.proto`, Command.EnvironmentVariable and Platform.Property).
+#[derive(Debug, Drop)]
+pub struct Pair {
+    pub name: Text,
+    pub value: Text,
+}
+
+/// What a request is about.
+#[derive(Clone, Copy, Debug, PartialEq, Eq)]
+pub enum Kind {
+    /// Any program, which reads its declared inputs.
+    Tool,
+    /// A compiler of C or C++, whose includes are scanned.
+    Compile,
+}
+
+/// Where a request's command runs.
+#[derive(Clone, Copy, Debug, PartialEq, Eq)]
+pub enum Strategy {
+    Local,
+    Remote,
+    RemoteLocalFallback,
+    Racing,
+}
+
+/// A program with its words and all that it may see.
+#[derive(Debug, Drop)]
+pub struct Command {
+    /// The program and its arguments.
+    pub words: Items<Text>,
+    /// The whole environment, in the order of the request.
+    pub environment: Items<Pair>,
+    /// Where it runs, below the root.
+    pub working_directory: RelPath,
+    /// The files that it is to write, relative to the root: sorted by their bytes, each once.
+    pub outputs: Items<RelPath>,
+    /// What the farm is to choose a machine by.
+    pub platform: Items<Pair>,
+    /// How long it may run remotely, in seconds; 0 says nothing.
+    pub timeout_seconds: u32,
+}
