@@ -1,6 +1,6 @@
 -- The bytes of a reply: the fields of its message in the order of their numbers, defaults left out.
 use Rattle.std.specs.Prelude.{ℕ, ℤ, ◌/◌, ◌%◌, ◌^◌, ◌==◌, Bool, true, false, List, [], ◌++◌, length, Option, None, Some, if◌then◌else◌}
-use Rattle.std.specs.Int.{w64, cast_unsigned}
+use Rattle.rx_wire.specs.Integers.{sign_extended}
 use Rattle.std.specs.List.{flat_map}
 use Rattle.hex.specs.Hex.{encode_lower}
 use Rattle.rx_base.specs.declared.digests.Digest.{Digest}
@@ -34,7 +34,7 @@ bytes_part number value = if length value == 0 then [] else bytes_field number v
 
 -- a signed number as one of 64 bits
 abbrev pub signed_part : ℕ → ℤ → List ℕ
-signed_part number value = number_part number (cast_unsigned w64 value)
+signed_part number value = number_part number (sign_extended value)
 
 -- ---- messages within
 

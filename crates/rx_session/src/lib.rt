@@ -23,3 +23,6 @@ pub use jobs::{command_for, declared_inputs};
 pub use replies::{MAX_REPLY_LEN, Reply, Room, encode};
 pub use requests::Request;
 pub use streams::write_frame;
+
+#[cfg(test)]
+mod tests;
