@@ -1,0 +1,120 @@
+-- A frame that is read in pieces: its header, its payload, and what follows.
+use Rattle.std.proofs.Common.{◌≡◌, ℕ, ◌+◌, ◌<◌, ◌≤◌, true, false, List, [], ◌∷◌, ◌++◌, length, take, drop, Option, Result, Ok, Err, refl, sym, ap, ◌∙◌, arith, append_assoc, append-nil, nat_lt, length-append, length-drop, subst}
+use Rattle.std.proofs.lemmas.Bool.{lt-ltb, le-ltb}
+use Rattle.std.proofs.lemmas.List.{drop-append-le}
+use Rattle.std.proofs.Math.Seq.{take-append_seam}
+use Rattle.std.proofs.KnownBytes.{Consumes-trans, Consumes-kept, Consumes-nil}
+use Rattle.std.specs.Io.KnownBytes.{Consumes, Keeps, IsAtEnd}
+use Rattle.rx_base.specs.Results.{◌>>=◌}
+use Rattle.rx_session.specs.declared.bad.Bad.{Bad}
+use Rattle.rx_session.specs.declared.bad.BadReason.TheVariants.{CutShort, Trailing}
+use Rattle.rx_session.specs.declared.bad.SessionFault.{SessionFault}
+use Rattle.rx_session.specs.declared.bad.SessionFault.TheVariants as faults
+use Rattle.rx_session.specs.declared.requests.Request.{Request}
+use Rattle.rx_session.specs.Bad.{Decodes, bad}
+use Rattle.rx_session.specs.Frames.{EndsRead, alone, len_in, payload_request, request_of, request_within}
+use Rattle.rx_session.specs.Streams.{IsNoBad, IsNoCut, IsNoCutPast, ReadsOn}
+
+-- ---- pieces that were read one after the other
+
+pub reads_join : (a b c : Option (List ℕ)) (x y z : List ℕ) → ReadsOn a b x y → ReadsOn b c y z → ReadsOn a c x z
+reads_join a b c x y z p q = record {
+  bytes = p.bytes ++ q.bytes;
+  grown = q.grown ∙ ap (λ (s : List ℕ). s ++ q.bytes) p.grown ∙ append_assoc x p.bytes q.bytes;
+  consumed = Consumes-trans a b c p.bytes q.bytes p.consumed q.consumed;
+}
+
+pub reads_nothing : (a b : Option (List ℕ)) (x : List ℕ) → Keeps a b → ReadsOn a b x x
+reads_nothing a b x k = record { bytes = []; grown = sym (append-nil x); consumed = Consumes-kept a a b [] (Consumes-nil a) k }
+
+pub reads_whole : (a b : Option (List ℕ)) (x y : List ℕ) → x ≡ [] → ReadsOn a b x y → Consumes a b y
+reads_whole a b x y e p =
+    let whole : p.bytes ≡ y = sym (p.grown ∙ ap (λ (s : List ℕ). s ++ p.bytes) e) in
+    subst (λ (s : List ℕ). Consumes a b s) whole p.consumed
+
+-- ---- faults that are no refusal
+
+pub no_refusal : {X Y : Type 0} (view : X → Y) (fault : SessionFault) (given : Result Y Bad) → IsNoBad fault → Decodes view (Err fault) given
+no_refusal view faults.ReadFault given h = tt
+no_refusal view faults.NoMemory given h = tt
+no_refusal view (faults.Bad why) given h = absurd h
+
+pub no_refusal_ends : (left : Option (List ℕ)) (fault : SessionFault) → IsNoBad fault → EndsRead left (Err fault)
+no_refusal_ends left faults.ReadFault h = tt
+no_refusal_ends left faults.NoMemory h = tt
+no_refusal_ends left (faults.Bad why) h = absurd h
+
+pub no_cut_ends : (left : Option (List ℕ)) (fault : SessionFault) → IsNoCut fault → EndsRead left (Err fault)
+no_cut_ends left faults.ReadFault h = tt
+no_cut_ends left faults.NoMemory h = tt
+no_cut_ends left (faults.Bad why) h = λ e. absurd (h e)
+
+pub header_ends : (left : Option (List ℕ)) (len : ℕ) (fault : SessionFault) → IsNoCutPast len fault → (len < 5 → IsAtEnd left) → EndsRead left (Err fault)
+header_ends left len faults.ReadFault h end = tt
+header_ends left len faults.NoMemory h end = tt
+header_ends left len (faults.Bad why) h end = λ e. end (h e)
+
+-- ---- the header
+
+pub header_refused : (view : ℕ → ℕ) (seen : Request → Request) (root text : List ℕ) (fault : SessionFault) → Decodes view (Err fault) (len_in text) → Decodes seen (Err fault) (request_of root text)
+unfolding request_of
+header_refused view seen root text faults.ReadFault h = tt
+header_refused view seen root text faults.NoMemory h = tt
+header_refused view seen root text (faults.Bad why) h = rw h refl
+
+-- the header tells the same with more bytes behind it
+len_in-more : (len : ℕ) (text more : List ℕ) → len_in text ≡ Ok len → len_in (text ++ more) ≡ Ok len
+unfolding len_in
+len_in-more len [] more h = absurd (cc h)
+len_in-more len (a ∷ []) more h = absurd (cc h)
+len_in-more len (a ∷ b ∷ []) more h = absurd (cc h)
+len_in-more len (a ∷ b ∷ c ∷ []) more h = absurd (cc h)
+len_in-more len (a ∷ b ∷ c ∷ d ∷ []) more h = absurd (cc h)
+len_in-more len (a ∷ b ∷ c ∷ d ∷ e ∷ rest) more h =
+    let first : nat_lt (length (a ∷ b ∷ c ∷ d ∷ e ∷ rest)) 5 ≡ false = le-ltb _ _ (omega arith) in
+    let second : nat_lt (length (a ∷ b ∷ c ∷ d ∷ e ∷ (rest ++ more))) 5 ≡ false = le-ltb _ _ (omega arith) in
+    rw second (rw first at h)
+
+-- the request where the header and more were read
+pub request_of-header : (root : List ℕ) (len : ℕ) (head text more : List ℕ) → len_in head ≡ Ok len → text ≡ head ++ more → request_of root text ≡ request_within root len text
+unfolding request_of
+request_of-header root len head text more h e =
+    let told : len_in text ≡ Ok len = rw e (len_in-more len head more h) in
+    rw told refl
+
+-- ---- the payload
+
+pub within_cut : (root : List ℕ) (len : ℕ) (text : List ℕ) → length text < 5 + len → request_within root len text ≡ Err (bad CutShort (length text))
+unfolding request_within
+within_cut root len text lt = let test : nat_lt (length text) (5 + len) ≡ true = lt-ltb _ _ lt in rw test refl
+
+payload_is : (len : ℕ) (front more : List ℕ) → length front ≡ 5 + len → take len (drop 5 (front ++ more)) ≡ drop 5 front
+payload_is len front more e =
+    let size : length (drop 5 front) ≡ len = omega (arith, length-drop 5 front) in
+    rw (drop-append-le 5 front more (omega arith), ← size) (take-append_seam (drop 5 front) more)
+
+within_whole : (root : List ℕ) (len : ℕ) (front text more : List ℕ) → length front ≡ 5 + len → text ≡ front ++ more → request_within root len text ≡ (payload_request root (drop 5 front) >>= alone len text)
+unfolding request_within
+within_whole root len front text more size e =
+    let long : 5 + len ≤ length text = rw e (omega (arith, length-append front more)) in
+    let test : nat_lt (length text) (5 + len) ≡ false = le-ltb _ _ long in
+    let payload : take len (drop 5 text) ≡ drop 5 front = rw e (payload_is len front more size) in
+    rw (test, payload) refl
+
+pub within_refused : (seen : Request → Request) (root : List ℕ) (len : ℕ) (front : List ℕ) (fault : SessionFault) → length front ≡ 5 + len
+    → Decodes seen (Err fault) (payload_request root (drop 5 front)) → Decodes seen (Err fault) (request_within root len front)
+within_refused seen root len front faults.ReadFault size h = tt
+within_refused seen root len front faults.NoMemory size h = tt
+within_refused seen root len front (faults.Bad why) size h = within_whole root len front front [] size (sym (append-nil front)) ∙ rw h refl
+
+pub within_trailing : (root : List ℕ) (len : ℕ) (front text more : List ℕ) (request : Request) → length front ≡ 5 + len → text ≡ front ++ more
+    → payload_request root (drop 5 front) ≡ Ok request → 5 + len < length text → request_within root len text ≡ Err (bad Trailing (5 + len))
+within_trailing root len front text more request size e ok lt =
+    let test : nat_lt (5 + len) (length text) ≡ true = lt-ltb _ _ lt in
+    within_whole root len front text more size e ∙ rw (ok, test) refl
+
+pub within_alone : (root : List ℕ) (len : ℕ) (front text more : List ℕ) (request : Request) → length front ≡ 5 + len → text ≡ front ++ more
+    → payload_request root (drop 5 front) ≡ Ok request → length text ≤ 5 + len → request_within root len text ≡ Ok request
+within_alone root len front text more request size e ok le =
+    let test : nat_lt (5 + len) (length text) ≡ false = le-ltb _ _ le in
+    within_whole root len front text more size e ∙ rw (ok, test) refl

@@ -1,0 +1,4 @@
+pub mod FrameLemmas
+pub mod MessageLemmas
+pub mod RuleLemmas
+pub mod TextLemmas

@@ -1,0 +1,68 @@
+-- Frames: a kind byte, a length in four bytes, the highest first, and so many bytes of payload.
+use Rattle.std.specs.Prelude.{◌≡◌, ℕ, ◌+◌, ◌-◌, ◌^◌, ◌==◌, not, min, nat_lt, List, ◌∷◌, ◌++◌, length, take, drop, Option, Result, Ok, Err, if◌then◌else◌, slice_index}
+use Rattle.std.specs.Int.{w32, to_be_bytes, from_be_bytes}
+use Rattle.std.specs.Io.KnownBytes.{IsAtEnd}
+use Rattle.rx_base.specs.Results.{◌>>=◌}
+use Rattle.rx_wire.specs.declared.faults.WireFault.{WireFault}
+use Rattle.rx_session.specs.declared.bad.Bad.{Bad}
+use Rattle.rx_session.specs.declared.bad.BadReason.TheVariants.{CutShort, BadKind, TooLong, BadMessage, Trailing}
+use Rattle.rx_session.specs.declared.bad.SessionFault.{SessionFault}
+use Rattle.rx_session.specs.declared.bad.SessionFault.TheVariants as faults
+use Rattle.rx_session.specs.declared.requests.Request.{Request}
+use Rattle.rx_session.specs.Bad.{bad}
+use Rattle.rx_session.specs.Messages.{offset_of, raw_request_of}
+use Rattle.rx_session.specs.Rules.{request_by}
+
+-- the bytes of a frame
+abbrev pub frame : ℕ → List ℕ → List ℕ
+frame kind payload = kind ∷ (to_be_bytes w32 (length payload) ++ payload)
+
+-- the most bytes of a Request's payload
+abbrev pub longest_payload : ℕ
+longest_payload = 4194304
+
+-- A message is refused by its place in the frame, behind the five bytes of the header. (A place past 64 bits can't come in a payload.)
+abbrev pub or_bad_message : {X : Type 0} → Result X WireFault → Result X Bad
+or_bad_message (Ok x) = Ok x
+or_bad_message (Err fault) = Err (bad BadMessage (min (5 + offset_of fault) (2 ^ 64 - 1)))
+
+-- the request in a payload
+unfoldable pub payload_request : List ℕ → List ℕ → Result Request Bad
+payload_request root payload = do
+  raw ← or_bad_message (raw_request_of payload)
+  request_by root raw
+
+-- the length that a header tells
+abbrev pub length_in : List ℕ → ℕ
+length_in text = from_be_bytes w32 (take 4 (drop 1 text))
+
+-- the length of the payload, as bytes that begin with a header tell it
+unfoldable pub len_in : List ℕ → Result ℕ Bad
+len_in text =
+    if nat_lt (length text) 5 then Err (bad CutShort (length text))
+    else if not (slice_index text 0 == 1) then Err (bad BadKind 0)
+    else if nat_lt longest_payload (length_in text) then Err (bad TooLong (length_in text))
+    else Ok (length_in text)
+
+-- a request, where nothing follows its frame
+abbrev pub alone : ℕ → List ℕ → Request → Result Request Bad
+alone len text request = if nat_lt (5 + len) (length text) then Err (bad Trailing (5 + len)) else Ok request
+
+-- the request in a frame whose payload has so many bytes
+unfoldable pub request_within : List ℕ → ℕ → List ℕ → Result Request Bad
+request_within root len text =
+    if nat_lt (length text) (5 + len) then Err (bad CutShort (length text))
+    else payload_request root (take len (drop 5 text)) >>= alone len text
+
+-- The request that bytes are, all of them. (No request that watches is served yet, and only after such a one more bytes may come.)
+unfoldable pub request_of : List ℕ → List ℕ → Result Request Bad
+request_of root text = do
+  len ← len_in text
+  request_within root len text
+
+-- Whether the end of the input was read: for a request, and where the frame is cut short.
+abbrev pub EndsRead : Option (List ℕ) → Result Request SessionFault → Type 0
+EndsRead left (Ok request) = IsAtEnd left
+EndsRead left (Err (faults.Bad why)) = why.reason ≡ CutShort → IsAtEnd left
+EndsRead left (Err faults.ReadFault) = Unit {0}
+EndsRead left (Err faults.NoMemory) = Unit {0}

@@ -1,0 +1,165 @@
+//! Each field's own rule, and which request a message is.
+
+ghost use Rattle.std.specs.Prelude.{◌≡◌, ◌<◌, ◌^◌, IfErr, IfOk};
+ghost use Rattle.rx_session.specs.Bad.{Decodes};
+ghost use Rattle.rx_session.specs.Streams.{IsNoCut};
+ghost use Rattle.rx_session.specs.Rules.{bad_field, bad_last_field, kind_of, request_by, request_from, strategy_of, unbuilt_field};
+
+use crate::bad::{BadReason, SessionFault, refuse};
+use crate::field_rules::{
+    directory_holds, environment_holds, is_within, outputs_hold, paths_hold, platform_holds,
+    words_hold,
+};
+use crate::paths_in::path_in;
+use crate::raw_request::RawRequest;
+use crate::requests::Request;
+use rx_base::NoMemory;
+use rx_world::{Kind, Strategy};
+use std::alloc::Global;
+
+/// The only version of the protocol.
+const VERSION: u64 = 1;
+
+/// The request that a message is, of the served root.
+#[tactic(auto, unfolding(crate::specs::Rules::request_by))]
+pub(crate) fn request_by(
+    alloc: Global,
+    root: &str,
+    raw: RawRequest,
+) -> Result<Request, SessionFault>
+    ensures request { Decodes (λ request. request) result (request_by root.now raw) }
+    ensures other { IfErr result IsNoCut }
+{
+    if raw.version != VERSION {
+        return refuse(BadReason::UnknownVersion, raw.version);
+    }
+    if raw.root.as_str() != root {
+        return refuse(BadReason::WrongRoot, 0);
+    }
+    if let Some(number) = bad_field(alloc, &raw)? {
+        return refuse(BadReason::BadField, number);
+    }
+    if let Some(number) = unbuilt_field(alloc, &raw)? {
+        return refuse(BadReason::NotBuilt, number);
+    }
+    Ok(request_from(raw))
+}
+
+/// The least field that breaks its rule.
+#[tactic(auto, unfolding(crate::specs::Rules::bad_field))]
+fn bad_field(alloc: Global, raw: &RawRequest) -> Result<Option<u64>, NoMemory>
+    ensures { IfOk result (λ number. number ≡ bad_field raw.now) }
+{
+    if !words_hold(raw.words.as_slice()) {
+        return Ok(Some(3));
+    }
+    if !environment_holds(alloc, raw.environment.as_slice())? {
+        return Ok(Some(4));
+    }
+    if !directory_holds(alloc, &raw.working_directory)? {
+        return Ok(Some(5));
+    }
+    if !is_within(1, 4, raw.strategy) {
+        return Ok(Some(6));
+    }
+    if !is_within(1, 2, raw.kind) {
+        return Ok(Some(7));
+    }
+    if !paths_hold(alloc, raw.inputs.as_slice())? {
+        return Ok(Some(8));
+    }
+    if !paths_hold(alloc, raw.toolchain_inputs.as_slice())? {
+        return Ok(Some(9));
+    }
+    if !outputs_hold(alloc, raw)? {
+        return Ok(Some(10));
+    }
+    Ok(bad_last_field(raw))
+}
+
+/// The least field from 11 on that breaks its rule.
+#[tactic(auto, unfolding(crate::specs::Rules::bad_last_field))]
+fn bad_last_field(raw: &RawRequest) -> Option<u64>
+    ensures { result ≡ bad_last_field raw.now }
+{
+    if !platform_holds(raw.platform.as_slice()) {
+        return Some(11);
+    }
+    if !is_within(0, 1, raw.accept_cached) {
+        return Some(12);
+    }
+    if !is_within(0, 1, raw.watch) {
+        return Some(13);
+    }
+    if !is_within(0, 4_294_967_295, raw.timeout_seconds) {
+        return Some(14);
+    }
+    None
+}
+
+/// The least field whose value isn't served yet. A line goes with what is built.
+#[tactic(auto, unfolding(crate::specs::Rules::unbuilt_field))]
+fn unbuilt_field(alloc: Global, raw: &RawRequest) -> Result<Option<u64>, NoMemory>
+    ensures { IfOk result (λ number. number ≡ unbuilt_field raw.now) }
+{
+    if !path_in(alloc, &raw.working_directory)?.is_root() {
+        return Ok(Some(5));
+    }
+    if raw.strategy != 1 {
+        return Ok(Some(6));
+    }
+    if raw.kind != 1 {
+        return Ok(Some(7));
+    }
+    if !raw.inputs.is_empty() {
+        return Ok(Some(8));
+    }
+    if !raw.toolchain_inputs.is_empty() {
+        return Ok(Some(9));
+    }
+    if raw.watch != 0 {
+        return Ok(Some(13));
+    }
+    Ok(None)
+}
+
+fn request_from(raw: RawRequest) -> Request
+    requires { raw.timeout_seconds < 2 ^ 32 }
+    ensures { result ≡ request_from raw }
+{
+    Request {
+        root: raw.root,
+        words: raw.words,
+        environment: raw.environment,
+        working_directory: raw.working_directory,
+        strategy: strategy_of(raw.strategy),
+        kind: kind_of(raw.kind),
+        inputs: raw.inputs,
+        toolchain_inputs: raw.toolchain_inputs,
+        outputs: raw.outputs,
+        platform: raw.platform,
+        accept_cached: raw.accept_cached == 1,
+        watch: raw.watch == 1,
+        timeout_seconds: raw.timeout_seconds as u32,
+    }
+}
+
+fn strategy_of(number: u64) -> Strategy
+    ensures { result ≡ strategy_of number }
+{
+    match number {
+        1 => Strategy::Local,
+        2 => Strategy::Remote,
+        3 => Strategy::RemoteLocalFallback,
+        _ => Strategy::Racing,
+    }
+}
+
+fn kind_of(number: u64) -> Kind
+    ensures { result ≡ kind_of number }
+{
+    match number {
+        1 => Kind::Tool,
+        _ => Kind::Compile,
+    }
+}

@@ -1,0 +1,349 @@
+//! Frames byte by byte, as a client would send them and read them.
+
+ghost use Rattle.std.specs.Prelude.{None};
+
+use crate::{
+    Bad, BadReason, Reply, Request, Room, SessionFault, command_for, declared_inputs, encode,
+    read_request, write_frame,
+};
+use rx_base::{Bytes, Items, RelPath};
+use rx_world::{
+    Attempt, BenchStep, Cause, Failed, Failure, Look, Origin, Seen, Sink, Source, Stamp,
+};
+use std::alloc::Global;
+use std::test::Fail;
+
+/// Gives one byte a call, and fails at an offset.
+#[derive(Drop)]
+struct OneByOne<'a> {
+    bytes: &'a [u8],
+    at: usize,
+    fails_at: usize,
+    faults: u64,
+}
+
+impl<'a> Source for OneByOne<'a> {
+    ghost left = { λ _. None };
+
+    ghost faults = { λ source. source.faults };
+
+    fn read(&mut self, into: &mut [u8]) -> Result<usize, Failed> {
+        if self.at == self.fails_at {
+            self.faults = self.faults.saturating_add(1);
+            return Err(Failed);
+        }
+        if into.is_empty() || self.at >= self.bytes.len() {
+            return Ok(0);
+        }
+        into[0] = self.bytes[self.at];
+        self.at += 1;
+        Ok(1)
+    }
+}
+
+fn read(alloc: Global, bytes: &[u8], fails_at: usize) -> Result<Request, SessionFault> {
+    let mut source = OneByOne {
+        bytes,
+        at: 0,
+        fails_at,
+        faults: 0,
+    };
+    let mut read = Vec::new(alloc);
+    read_request(alloc, &mut source, "/r", &mut read)
+}
+
+fn refused(reason: BadReason, value: u64) -> Option<SessionFault> {
+    Some(SessionFault::Bad(Bad { reason, value }))
+}
+
+const NEVER: usize = usize::MAX;
+
+/// The words `t`, strategy local, kind tool.
+const PLAIN: [u8; 18] = *b"\x01\0\0\0\x0d\x08\x01\x12\x02/r\x1a\x01t\x30\x01\x38\x01";
+
+#[test]
+fn refuses_frames(rt: HostRuntime) {
+    let rows: [(&[u8], BadReason, u64); 26] = [
+        (b"", BadReason::CutShort, 0),
+        (b"\x01\0\0\0\x13\x08\x01\x12\x02/", BadReason::CutShort, 10),
+        (b"\x04\0\0\0\0", BadReason::BadKind, 0),
+        (b"\x01\0\x40\0\x01", BadReason::TooLong, 4_194_305),
+        (
+            b"\x01\0\0\0\x0c\x08\xff\xff\xff\xff\xff\xff\xff\xff\xff\x80\x01",
+            BadReason::BadMessage,
+            6,
+        ),
+        (b"\x01\0\0\0\x03\x12\x01\xff", BadReason::BadMessage, 6),
+        (
+            b"\x01\0\0\0\x05\x22\x03\x0a\x01\xff",
+            BadReason::BadMessage,
+            8,
+        ),
+        (b"\x01\0\0\0\x05\x22\x03\x0a\x02a", BadReason::BadMessage, 8),
+        (b"\x01\0\0\0\x01\x0b", BadReason::BadMessage, 5),
+        (b"\x01\0\0\0\0", BadReason::UnknownVersion, 0),
+        (b"\x01\0\0\0\x02\x08\x02", BadReason::UnknownVersion, 2),
+        (b"\x01\0\0\0\x06\x08\x01\x12\x02/s", BadReason::WrongRoot, 0),
+        (
+            b"\x01\0\0\0\x0a\x08\x01\x12\x02/r\x30\x01\x38\x01",
+            BadReason::BadField,
+            3,
+        ),
+        (
+            b"\x01\0\0\0\x0c\x08\x01\x12\x02/r\x1a\0\x30\x01\x38\x01",
+            BadReason::BadField,
+            3,
+        ),
+        (
+            b"\x01\0\0\0\x0d\x08\x01\x12\x02/r\x1a\x01\0\x30\x01\x38\x01",
+            BadReason::BadField,
+            3,
+        ),
+        (
+            b"\x01\0\0\0\x19\x08\x01\x12\x02/r\x1a\x01t\x22\x04\x0a\x02aa\x22\x04\x0a\x02aa\x30\x01\x38\x01",
+            BadReason::BadField,
+            4,
+        ),
+        (
+            b"\x01\0\0\0\x12\x08\x01\x12\x02/r\x1a\x01t\x22\x03\x0a\x01=\x30\x01\x38\x01",
+            BadReason::BadField,
+            4,
+        ),
+        (
+            b"\x01\0\0\0\x11\x08\x01\x12\x02/r\x1a\x01t\x2a\x02..\x30\x01\x38\x01",
+            BadReason::BadField,
+            5,
+        ),
+        (
+            b"\x01\0\0\0\x0b\x08\x01\x12\x02/r\x1a\x01t\x38\x01",
+            BadReason::BadField,
+            6,
+        ),
+        (
+            b"\x01\0\0\0\x0f\x08\x01\x12\x02/r\x1a\x01t\x30\x01\x38\x01\x42\0",
+            BadReason::BadField,
+            8,
+        ),
+        (
+            b"\x01\0\0\0\x11\x08\x01\x12\x02/r\x1a\x01t\x30\x01\x38\x01\x52\x02/a",
+            BadReason::BadField,
+            10,
+        ),
+        (
+            b"\x01\0\0\0\x15\x08\x01\x12\x02/r\x1a\x01t\x30\x01\x38\x01\x52\x03a/b\x52\x01a",
+            BadReason::BadField,
+            10,
+        ),
+        (
+            b"\x01\0\0\0\x0f\x08\x01\x12\x02/r\x1a\x01t\x30\x01\x38\x01\x60\x02",
+            BadReason::BadField,
+            12,
+        ),
+        (
+            b"\x01\0\0\0\x13\x08\x01\x12\x02/r\x1a\x01t\x30\x02\x38\x01\x42\x01a\x52\x01b",
+            BadReason::NotBuilt,
+            6,
+        ),
+        (
+            b"\x01\0\0\0\x0f\x08\x01\x12\x02/r\x1a\x01t\x30\x01\x38\x01\x68\x01",
+            BadReason::NotBuilt,
+            13,
+        ),
+        (
+            b"\x01\0\0\0\x0d\x08\x01\x12\x02/r\x1a\x01t\x30\x01\x38\x01\0",
+            BadReason::Trailing,
+            18,
+        ),
+    ];
+    for (bytes, reason, value) in rows {
+        assert_eq!(rt;
+            read(rt.alloc(), bytes, NEVER).err(),
+            refused(reason, value),
+            "{bytes:?}"
+        );
+    }
+    for len in 0..18usize {
+        let (front, _) = PLAIN.split_at(len);
+        assert_eq!(rt;
+            read(rt.alloc(), front, NEVER).err(),
+            refused(BadReason::CutShort, len as u64)
+        );
+    }
+    for at in [0usize, 3, 9, 18] {
+        assert_eq!(rt;
+            read(rt.alloc(), &PLAIN, at).err(),
+            Some(SessionFault::ReadFault)
+        );
+    }
+}
+
+#[test]
+fn reads_what_is_asked(rt: HostRuntime) -> Result<(), Fail> {
+    let frame =
+        b"\x01\0\0\0\x1a\x08\x01\x12\x02/r\x1a\x01t\x1a\x01u\x30\x01\x38\x01\x52\x01b\x52\x03./b\x70\x07".as_slice();
+    let request = read(rt.alloc(), frame, NEVER)?;
+    assert_eq!(rt; request.words.len(), 2);
+    let command = command_for(rt.alloc(), &request)?;
+    assert_eq!(rt; command.timeout_seconds, 7);
+    assert_eq!(rt; command.outputs.len(), 1);
+    for output in command.outputs.as_slice() {
+        assert_eq!(rt; output.as_str(), "b");
+    }
+    assert_eq!(rt; declared_inputs(rt.alloc(), &request)?.len(), 0);
+    Ok(())
+}
+
+fn path(alloc: Global, text: &str) -> Result<RelPath, Fail> {
+    Ok(RelPath::read(alloc, text)?)
+}
+
+fn done(alloc: Global, exit: i32, stderr: &[u8], placed: u64) -> Result<Reply, Fail> {
+    Ok(Reply::Done {
+        exit,
+        stdout: Bytes::new(alloc),
+        stderr: Bytes::copy_of(alloc, stderr)?,
+        origin: Origin::Local,
+        receipt: 1,
+        placed,
+    })
+}
+
+fn bad(reason: BadReason, value: u64) -> Reply {
+    Reply::BadRequest {
+        bad: Bad { reason, value },
+    }
+}
+
+fn file(size: u64, mark: u128) -> Seen {
+    Seen {
+        look: Look::File {
+            stamp: Stamp { size, mark },
+            executable: false,
+        },
+        digest: None,
+    }
+}
+
+fn failed(alloc: Global, cause: Cause) -> Result<Reply, Fail> {
+    let mut failures = Items::new(alloc);
+    failures.push(Failure {
+        attempt: Attempt::Local,
+        cause,
+    })?;
+    Ok(Reply::AllFailed { failures })
+}
+
+#[test]
+fn encodes_replies(rt: HostRuntime) -> Result<(), Fail> {
+    let alloc = rt.alloc();
+    let changed = Reply::InputChanged {
+        path: path(alloc, "a")?,
+        first: file(3, 1),
+        second: file(4, 2),
+    };
+    let step = BenchStep::Run;
+    let rows: [(Reply, &[u8]); 11] = [
+        (
+            done(alloc, 0, b"", 1)?,
+            b"\x02\0\0\0\x06\x28\x01\x30\x01\x38\x01",
+        ),
+        (done(alloc, 0, b"", 0)?, b"\x02\0\0\0\x04\x28\x01\x30\x01"),
+        (
+            done(alloc, 1, b"error in a\n", 0)?,
+            b"\x02\0\0\0\x13\x10\x01\x22\x0berror in a\x0a\x28\x01\x30\x01",
+        ),
+        (
+            bad(BadReason::CutShort, 0),
+            b"\x02\0\0\0\x04\x08\x01\x40\x01",
+        ),
+        (
+            bad(BadReason::Trailing, 24),
+            b"\x02\0\0\0\x06\x08\x01\x40\x08\x48\x18",
+        ),
+        (
+            bad(BadReason::NotBuilt, 6),
+            b"\x02\0\0\0\x06\x08\x01\x40\x09\x48\x06",
+        ),
+        (
+            Reply::InputMissing {
+                path: path(alloc, "a")?,
+            },
+            b"\x02\0\0\0\x05\x08\x03\x52\x01a",
+        ),
+        (
+            changed,
+            b"\x02\0\0\0\x15\x08\x04\x52\x01a\x5a\x06\x08\x01\x10\x03\x20\x01\x62\x06\x08\x01\x10\x04\x20\x02",
+        ),
+        (
+            Reply::SourceFault {
+                path: path(alloc, "a")?,
+            },
+            b"\x02\0\0\0\x05\x08\x05\x52\x01a",
+        ),
+        (
+            failed(alloc, Cause::BenchFault { step })?,
+            b"\x02\0\0\0\x0a\x08\x07\x6a\x06\x08\x01\x10\x01\x18\x04",
+        ),
+        (
+            Reply::Blocked {
+                path: path(alloc, "a")?,
+            },
+            b"\x02\0\0\0\x05\x08\x0c\x52\x01a",
+        ),
+    ];
+    for (reply, bytes) in rows {
+        assert_eq!(rt; encode(alloc, &reply)?.as_slice(), bytes);
+    }
+    let room = Room::new(alloc)?;
+    let frame = room.encode_place_fault(1, 1);
+    assert_eq!(rt;
+        frame.as_slice(),
+        b"\x02\0\0\0\x06\x08\x09\x30\x01\x38\x01".as_slice()
+    );
+    Ok(())
+}
+
+/// Takes one byte a call, and fails after some.
+#[derive(Drop)]
+struct OneTaken {
+    taken: usize,
+    most: usize,
+    faults: u64,
+}
+
+impl Sink for OneTaken {
+    ghost taken = { λ _. None };
+
+    ghost faults = { λ sink. sink.faults };
+
+    fn write(&mut self, piece: &[u8]) -> Result<usize, Failed> {
+        if piece.is_empty() {
+            return Ok(0);
+        }
+        if self.taken >= self.most {
+            self.faults = self.faults.saturating_add(1);
+            return Err(Failed);
+        }
+        self.taken += 1;
+        Ok(1)
+    }
+}
+
+#[test]
+fn writes_in_pieces(rt: HostRuntime) {
+    for (most, taken, whole) in [
+        (9usize, 4usize, true),
+        (4, 4, true),
+        (3, 3, false),
+        (0, 0, false),
+    ] {
+        let mut sink = OneTaken {
+            taken: 0,
+            most,
+            faults: 0,
+        };
+        let (count, written) = write_frame(&mut sink, b"\x02\0\0\0".as_slice());
+        assert_eq!(rt; count, taken);
+        assert_eq!(rt; written.is_ok(), whole);
+    }
+}
