@@ -1,0 +1,4 @@
+pub mod NextLemmas
+pub mod SoundLemmas
+pub mod SeenLemmas
+pub mod WriteLemmas

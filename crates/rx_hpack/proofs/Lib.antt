@@ -1,0 +1,15 @@
+pub mod HuffmanTableLemmas
+pub mod HuffmanLoop
+pub mod StaticTableLemmas
+pub mod TableLemmas
+pub mod HeaderListLemmas
+pub mod DecoderLemmas
+pub mod Takes
+pub mod IntegerLemmas
+pub mod HuffmanLemmas
+pub mod HuffmanFound
+pub mod TextLemmas
+pub mod RepresentationLemmas
+pub mod BlockLemmas
+pub mod WriteLemmas
+pub mod EncoderLemmas

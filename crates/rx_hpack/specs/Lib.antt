@@ -1,0 +1,12 @@
+pub mod Answers
+pub mod Header
+pub mod Integer
+pub mod Huffman
+pub mod HuffmanTables
+pub mod Text
+pub mod StaticTable
+pub mod DynamicTable
+pub mod HeaderList
+pub mod Representation
+pub mod Decoder
+pub mod Encoder

@@ -1,0 +1,12 @@
+pub mod LetterLemmas
+pub mod PieceLemmas
+pub mod TextLemmas
+pub mod ShorterLemmas
+pub mod RawLemmas
+pub mod FitLemmas
+pub mod StepLemmas
+pub mod LineLemmas
+pub mod PlacedLemmas
+pub mod WalkLemmas
+pub mod AnywhereLemmas
+pub mod AngledLemmas

@@ -1,0 +1,157 @@
+-- The letters of a raw literal.
+use Rattle.std.proofs.Common.{◌≡◌, ◌≢◌, ℕ, zero, suc, ◌+◌, ◌-◌, ◌<◌, ◌≤◌, List, [], ◌∷◌, ◌++◌, length, get_or, take, drop, refl, ap, sym, subst, ◌∙◌, arith, Bool, true, false, cond, ◌||◌, ◌==◌, Option, Some, None, length-drop, length-append}
+use Rattle.std.proofs.lemmas.List.{drop-drop}
+use Rattle.std.proofs.lemmas.Bool.Decides.{nat_tests}
+use Rattle.memchr.specs.Find.{is_byte2}
+use Rattle.rx_lex.specs.Letters.{Letter, begins, letters_at, IsBegun, IsNext, Without, letter_before}
+use Rattle.rx_lex.specs.Pieces.{behind_text}
+use Rattle.rx_lex.specs.Line.{any}
+use Rattle.rx_lex.specs.Directives.{contains}
+use Rattle.rx_lex.proofs.LetterLemmas.{fails, next_plain, no_backslash}
+
+-- a count goes down as its letter is passed
+split_step : (n : ℕ) (l : Letter) (now ls : List Letter) → now ≡ l ∷ ls → l.split ≡ false
+    → any (λ (m : Letter). m.split) (take (suc n) now) ≡ any (λ (m : Letter). m.split) (take n ls)
+split_step n l now ls e h = rw (e, h) refl
+
+pub split_more : (left : ℕ) (l : Letter) (now ls : List Letter) → 0 < left → now ≡ l ∷ ls → l.split ≡ false
+    → any (λ (m : Letter). m.split) (take left now) ≡ any (λ (m : Letter). m.split) (take (left - 1) ls)
+split_more left l now ls more e h =
+    let n : suc (left - 1) ≡ left = omega arith in
+    ap (λ (k : ℕ). any (λ (m : Letter). m.split) (take k now)) (sym n) ∙ split_step (left - 1) l now ls e h
+
+line_step : (n : ℕ) (l : Letter) (now ls : List Letter) → now ≡ l ∷ ls → (l.byte == 10) ≡ false
+    → contains (10 ∷ []) (take (suc n) now) ≡ contains (10 ∷ []) (take n ls)
+line_step n l now ls e h = rw (e, h) refl
+
+no_test : (b c : ℕ) → b ≢ c → (b == c) ≡ false
+no_test b c h = grind (arith, nat_tests)
+
+pub line_more : (left : ℕ) (l : Letter) (now ls : List Letter) → 0 < left → now ≡ l ∷ ls → l.byte ≢ 10
+    → contains (10 ∷ []) (take left now) ≡ contains (10 ∷ []) (take (left - 1) ls)
+line_more left l now ls more e h =
+    let n : suc (left - 1) ≡ left = omega arith in
+    ap (λ (k : ℕ). contains (10 ∷ []) (take k now)) (sym n) ∙ line_step (left - 1) l now ls e (no_test l.byte 10 h)
+
+first_fails : (x y : Bool) → (x || y) ≡ false → x ≡ false
+first_fails true y h = absurd (grind arith)
+first_fails false y h = refl
+
+-- the search for the end passes over each letter that isn't `)`
+pub close_passes : (name : List ℕ) (l : Letter) (ls : List Letter) → is_byte2 41 92 l.byte ≡ false → behind_text (41 ∷ name) (l ∷ ls) ≡ behind_text (41 ∷ name) ls
+close_passes name l ls h = rw (first_fails (l.byte == 41) (l.byte == 92) h) refl
+
+pub close_other : (name : List ℕ) (l : Letter) (ls : List Letter) → begins (41 ∷ name) (l ∷ ls) ≡ false → behind_text (41 ∷ name) (l ∷ ls) ≡ behind_text (41 ∷ name) ls
+close_other name l ls h = rw h refl
+
+pub close_here : (name : List ℕ) (l : Letter) (ls : List Letter) → begins (41 ∷ name) (l ∷ ls) ≡ true
+    → behind_text (41 ∷ name) (l ∷ ls) ≡ Some (drop (suc (length name)) (l ∷ ls))
+close_here name l ls h = rw h refl
+
+-- a run without splices has as many letters as bytes
+pub plain_count : (test : ℕ → Bool) → test 92 ≡ true → (text : List ℕ) (n at : ℕ) → Without test text at (at + n)
+    → length (letters_at text at) ≡ n + length (letters_at text (at + n))
+plain_count test mark text zero at w =
+    let place : at ≡ at + 0 = omega arith in
+    ap (λ (p : ℕ). length (letters_at text p)) place ∙ omega arith
+plain_count test mark text (suc n) at w =
+    let here : test (get_or text at 0) ≡ false = fails (test (get_or text at 0)) (w.none at (omega arith) (omega arith)) in
+    let next : IsNext text at (get_or text at 0) (at + 1) = next_plain text at (omega (arith, w.within)) (no_backslash test (get_or text at 0) mark here) in
+    let place : at + 1 + n ≡ at + suc n = omega arith in
+    let later : Without test text (at + 1) (at + 1 + n) = record {
+      on = omega arith;
+      within = omega (arith, w.within);
+      none = λ k above below. w.none k (omega arith) (omega arith);
+    } in
+    let one : length (letters_at text at) ≡ suc (length (letters_at text (at + 1))) = ap (λ (ls : List Letter). length ls) next.is in
+    let more = plain_count test mark text n (at + 1) later in
+    let same : length (letters_at text (at + 1 + n)) ≡ length (letters_at text (at + suc n)) = ap (λ (p : ℕ). length (letters_at text p)) place in
+    omega (arith, one, more, same)
+
+pub plain_count_to : (test : ℕ → Bool) → test 92 ≡ true → (text : List ℕ) (at to : ℕ) → Without test text at to
+    → to + length (letters_at text to) ≡ at + length (letters_at text at)
+plain_count_to test mark text at to w =
+    let place : at + (to - at) ≡ to = omega (arith, w.on) in
+    let all = plain_count test mark text (to - at) at (subst (Without test text at) (sym place) w) in
+    let same : length (letters_at text (at + (to - at))) ≡ length (letters_at text to) = ap (λ (p : ℕ). length (letters_at text p)) place in
+    omega (arith, all, same)
+
+-- `)`, a delimiter and a quote
+on_true : (t x y z : Bool) → (x ≡ true → y ≡ z) → cond t x false ≡ true → cond t y false ≡ z
+on_true true x y z f h = f h
+on_true false x y z f h = absurd (grind arith)
+
+pub begins_append : (one other : List ℕ) (ls : List Letter) → begins one ls ≡ true → begins (one ++ other) ls ≡ begins other (drop (length one) ls)
+begins_append [] other ls h = refl
+begins_append (b ∷ bs) other [] h = absurd (grind arith)
+begins_append (b ∷ bs) other (l ∷ ls) h =
+    on_true (l.byte == b) (begins bs ls) (begins (bs ++ other) ls) (begins other (drop (length bs) ls)) (begins_append bs other ls) h
+
+on_false : (t x y : Bool) → (x ≡ false → y ≡ false) → cond t x false ≡ false → cond t y false ≡ false
+on_false true x y f h = f h
+on_false false x y f h = refl
+
+pub begins_append_not : (one other : List ℕ) (ls : List Letter) → begins one ls ≡ false → begins (one ++ other) ls ≡ false
+begins_append_not [] other ls h = absurd (grind arith)
+begins_append_not (b ∷ bs) other [] h = refl
+begins_append_not (b ∷ bs) other (l ∷ ls) h = on_false (l.byte == b) (begins bs ls) (begins (bs ++ other) ls) (begins_append_not bs other ls) h
+
+on_length : (t x : Bool) (m n : ℕ) → (x ≡ true → m ≤ n) → cond t x false ≡ true → suc m ≤ suc n
+on_length true x m n f h = omega (arith, f h)
+on_length false x m n f h = absurd (grind arith)
+
+pub begins_long : (wanted : List ℕ) (ls : List Letter) → begins wanted ls ≡ true → length wanted ≤ length ls
+begins_long [] ls h = omega arith
+begins_long (b ∷ bs) [] h = absurd (grind arith)
+begins_long (b ∷ bs) (l ∷ ls) h = on_length (l.byte == b) (begins bs ls) (length bs) (length ls) (begins_long bs ls) h
+
+-- what `begins` passed
+pub begins_count : (text : List ℕ) (from end : ℕ) (wanted : List ℕ) → begins wanted (letters_at text from) ≡ true
+    → letters_at text end ≡ drop (length wanted) (letters_at text from) → length wanted + length (letters_at text end) ≡ length (letters_at text from)
+begins_count text from end wanted h e =
+    omega (arith, begins_long wanted (letters_at text from) h, ap (λ (ls : List Letter). length ls) e, length-drop (length wanted) (letters_at text from))
+
+closes : (name : List ℕ) (l : Letter) (ls : List Letter) → l.byte ≡ 41 → begins (41 ∷ name) (l ∷ ls) ≡ begins name ls
+closes name l ls h = grind (arith, nat_tests)
+
+either_false : (t x : Bool) → x ≡ false → cond t x false ≡ false
+either_false true x h = h
+either_false false x h = refl
+
+-- the search ends where its text begins, behind `)`
+pub close_found : (name : List ℕ) (l : Letter) (now ls behind : List Letter) → now ≡ l ∷ ls → l.byte ≡ 41 → begins name ls ≡ true → behind ≡ drop (length name) ls
+    → behind_text (41 ∷ name) now ≡ Some behind
+close_found name l now ls behind n h b e =
+    ap (λ (x : List Letter). behind_text (41 ∷ name) x) n
+    ∙ (close_here name l ls (closes name l ls h ∙ b) ∙ ap (λ (x : List Letter). Some x) (sym e))
+
+pub close_not : (name : List ℕ) (l : Letter) (now ls : List Letter) → now ≡ l ∷ ls → begins name ls ≡ false → behind_text (41 ∷ name) now ≡ behind_text (41 ∷ name) ls
+close_not name l now ls n b =
+    ap (λ (x : List Letter). behind_text (41 ∷ name) x) n ∙ close_other name l ls (either_false (l.byte == 41) (begins name ls) b)
+
+pub close_passed : (name : List ℕ) (l : Letter) (now ls : List Letter) → now ≡ l ∷ ls → l.byte ≢ 41 → behind_text (41 ∷ name) now ≡ behind_text (41 ∷ name) ls
+close_passed name l now ls n h = ap (λ (x : List Letter). behind_text (41 ∷ name) x) n ∙ close_other name l ls (rw (no_test l.byte 41 h) refl)
+
+-- a text in two parts
+pub begun_both : (one other : List ℕ) (ls middle behind : List Letter) → begins one ls ≡ true → middle ≡ drop (length one) ls
+    → begins other middle ≡ true → behind ≡ drop (length other) middle
+    → (begins (one ++ other) ls ≡ true) × (behind ≡ drop (length (one ++ other)) ls)
+begun_both one other ls middle behind h m k e =
+    let long : length (one ++ other) ≡ length one + length other = length-append one other in (
+      begins_append one other ls h ∙ (ap (λ (x : List Letter). begins other x) (sym m) ∙ k),
+      e ∙ (ap (λ (x : List Letter). drop (length other) x) m ∙ (drop-drop (length other) (length one) ls ∙ ap (λ (n : ℕ). drop n ls) (sym long))),
+    )
+
+pub begun_not : (one other : List ℕ) (ls middle : List Letter) → begins one ls ≡ true → middle ≡ drop (length one) ls
+    → begins other middle ≡ false → begins (one ++ other) ls ≡ false
+begun_not one other ls middle h m k = begins_append one other ls h ∙ (ap (λ (x : List Letter). begins other x) (sym m) ∙ k)
+
+pub letter_count : (text : List ℕ) (at byte next : ℕ) → IsNext text at byte next → length (letters_at text at) ≡ suc (length (letters_at text next))
+letter_count text at byte next n = ap (λ (ls : List Letter). length ls) n.is
+
+pub begun_at : (text : List ℕ) (from middle : ℕ) (one other : List ℕ) (end : Option ℕ)
+    → IsBegun text from one (Some middle) → IsBegun text middle other end → IsBegun text from (one ++ other) end
+begun_at text from middle one other None a b = begun_not one other (letters_at text from) (letters_at text middle) a.0 a.1 b
+begun_at text from middle one other (Some end) a b =
+    let both = begun_both one other (letters_at text from) (letters_at text middle) (letters_at text end) a.0 a.1 b.0 b.1 in
+    (both.0, both.1, omega (arith, a.2, b.2, length-append one other), b.3)

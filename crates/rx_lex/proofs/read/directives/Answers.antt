@@ -1,0 +1,41 @@
+use Rattle.std.proofs.Common.{false, ◌≡◌, List, [], map, ap, subst, sym, arith}
+use Rattle.rx_lex.specs.Letters.{letters, letters_from}
+use Rattle.rx_lex.specs.Directives.{Name, is_hard_anywhere}
+use Rattle.rx_lex.specs.Found.{name_view}
+use Rattle.rx_lex.proofs.PlacedLemmas.{pieces_from}
+use Rattle.rx_lex.proofs.WalkLemmas.{Goes, goes_ends, goes_next, goes_starts}
+use Rattle.rx_lex.proofs.read.directives.Goals as goal
+
+pub loop-first-init : goal.loop-first-init
+loop-first-init c =
+    let text = c.args.text.now in
+    let from = c.text_start-from.result in
+    let hard = c.is_hard_anywhere-hard.result in
+    let line = c.start-line.result in
+    record {
+      goes = subst (λ (xs : List Name). Goes text (pieces_from [] (letters text)) (is_hard_anywhere (letters text)) line from xs hard false)
+          (sym (ap (λ xs. map name_view xs) c.new-list.ensures.items))
+          (goes_starts text from line hard (ap (letters_from 0) c.text_start-from.ensures.value) c.start-line.ensures c.is_hard_anywhere-hard.ensures);
+      known = λ p above below. absurd (omega arith);
+      within = c.text_start-from.ensures.within;
+    }
+
+pub loop-first-preserved : goal.loop-first-preserved
+loop-first-preserved c =
+    let text = c.args.text.now in
+    let now = c.loop-first in
+    record {
+      goes = goes_next text (pieces_from [] (letters text)) (is_hard_anywhere (letters text)) now.line now.at c.in-Some.first c.in-Some.next
+          (map name_view now.list.items) now.hard now.raw c.in_ok-piece.piece (map name_view c.keep.new.list.items)
+          now.invariant.goes c.in-Some.ensures c.in_ok-piece.ensures c.in_ok-keep.ensures;
+      known = c.in_ok-piece.ensures.known;
+      within = c.in_ok-piece.ensures.within;
+    }
+
+pub returns : goal.returns
+returns c =
+    let now = c.loop-first in
+    goes_ends c.args.text.now now.line now.at (map name_view now.list.items) now.hard now.raw now.invariant.goes c.in_default.ensures
+
+pub read_piece-requires-clause-known : goal.read_piece-requires-clause-known
+read_piece-requires-clause-known c = λ p above below. c.loop-first.invariant.known p (omega (arith, c.in-Some.ensures.on)) below

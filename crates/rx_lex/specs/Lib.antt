@@ -1,0 +1,11 @@
+pub mod Letters
+pub mod Pieces
+pub mod Line
+pub mod Directives
+pub mod Found
+pub mod Ends
+pub mod Raw
+pub mod Cut
+pub mod Step
+pub mod Anywhere
+pub mod Angled
