@@ -119,11 +119,8 @@ bad_field raw =
 -- the least field whose value isn't served yet
 unfoldable pub unbuilt_field : RawRequest → Option ℕ
 unbuilt_field raw =
-    if not (length (path_in raw.working_directory) == 0) then Some 5
-    else if not (raw.strategy == 1) then Some 6
+    if not (raw.strategy == 1) then Some 6
     else if not (raw.kind == 1) then Some 7
-    else if not (length raw.inputs == 0) then Some 8
-    else if not (length raw.toolchain_inputs == 0) then Some 9
     else if not (raw.watch == 0) then Some 13
     else None
 

@@ -10,7 +10,6 @@ use crate::field_rules::{
     directory_holds, environment_holds, is_within, outputs_hold, paths_hold, platform_holds,
     words_hold,
 };
-use crate::paths_in::path_in;
 use crate::raw_request::RawRequest;
 use crate::requests::Request;
 use rx_base::NoMemory;
@@ -39,7 +38,7 @@ pub(crate) fn request_by(
     if let Some(number) = bad_field(alloc, &raw)? {
         return refuse(BadReason::BadField, number);
     }
-    if let Some(number) = unbuilt_field(alloc, &raw)? {
+    if let Some(number) = unbuilt_field(&raw) {
         return refuse(BadReason::NotBuilt, number);
     }
     Ok(request_from(raw))
@@ -99,28 +98,19 @@ fn bad_last_field(raw: &RawRequest) -> Option<u64>
 
 /// The least field whose value isn't served yet. A line goes with what is built.
 #[tactic(auto, unfolding(crate::specs::Rules::unbuilt_field))]
-fn unbuilt_field(alloc: Global, raw: &RawRequest) -> Result<Option<u64>, NoMemory>
-    ensures { IfOk result (λ number. number ≡ unbuilt_field raw.now) }
+fn unbuilt_field(raw: &RawRequest) -> Option<u64>
+    ensures { result ≡ unbuilt_field raw.now }
 {
-    if !path_in(alloc, &raw.working_directory)?.is_root() {
-        return Ok(Some(5));
-    }
     if raw.strategy != 1 {
-        return Ok(Some(6));
+        return Some(6);
     }
     if raw.kind != 1 {
-        return Ok(Some(7));
-    }
-    if !raw.inputs.is_empty() {
-        return Ok(Some(8));
-    }
-    if !raw.toolchain_inputs.is_empty() {
-        return Ok(Some(9));
+        return Some(7);
     }
     if raw.watch != 0 {
-        return Ok(Some(13));
+        return Some(13);
     }
-    Ok(None)
+    None
 }
 
 fn request_from(raw: RawRequest) -> Request
