@@ -1,0 +1,6 @@
+mod AnswerLemmas
+mod CourseLemmas
+mod InputLemmas
+mod LegalLemmas
+mod ReadyLemmas
+mod RunLemmas

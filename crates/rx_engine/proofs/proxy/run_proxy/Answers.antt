@@ -1,0 +1,9 @@
+use Rattle.std.proofs.Common.{[], ap, ◌≡◌}
+use Rattle.rx_engine.proofs.LegalLemmas.{run_legal}
+use Rattle.rx_engine.proofs.proxy.run_proxy.Goals as goal
+
+pub returns-clause-legal : goal.returns-clause-legal
+returns-clause-legal g c =
+    let start : c.new-board.result.journal ≡ [] = ap (λ b. b.journal) c.new-board.ensures in
+    let runs = rw start at c.serve_words-status.ensures.runs in
+    rw c.into_parts-place.ensures.journal (run_legal _ _ _ _ _ _ _ _ _ _ _ _ _ _ runs)

@@ -1,0 +1,31 @@
+use Rattle.std.proofs.Common.{◌≡◌, ◌≤◌, length}
+use Rattle.rx_engine.specs.Proxy.{Runs}
+use Rattle.rx_engine.specs.Serves.{Serves}
+use Rattle.rx_engine.proofs.proxy.serve_all.Given as goal
+
+abbrev pub invariant-loop-served : goal.invariant-loop-served
+invariant-loop-served g l =
+    let coming = g.F.Front.coming in
+    let faults = g.F.Front.faults in
+    let place = g.P.Place.faults in
+    record {
+      runs : Runs (coming l.fn.front) (coming l.front)
+          (Serves (record {
+            left = g.F.D.I.Source.left;
+            input_faults = g.F.D.I.Source.faults;
+            taken = g.F.D.O.Sink.taken;
+            output_faults = g.F.D.O.Sink.faults;
+            listed = g.F.D.T.Sources.listed;
+            given = g.F.D.T.Sources.given;
+            tree_faults = g.F.D.T.Sources.faults;
+            bench_faults = g.F.D.B.BenchMaker.faults;
+            content = g.W.World.content;
+            tool = g.W.World.tool;
+          }) g.F.D.T.Sources.keeps g.F.D.Desk.parts g.W.World.stamps_honest g.W.World.tools_honest l.fn.shared.root l.fn.shared.board.limit)
+          l.fn.shared.board.journal l.shared.board.journal (place l.fn.shared.board.place) (place l.shared.board.place) l.desks.items l.transcripts.items;
+      served_is : l.served ≡ length l.transcripts.items;
+      later : faults l.fn.front ≤ faults l.front;
+      root : l.shared.root ≡ l.fn.shared.root;
+      limit : l.shared.board.limit ≡ l.fn.shared.board.limit;
+      opening : g.P.Place.opening l.shared.board.place ≡ g.P.Place.opening l.fn.shared.board.place;
+    }

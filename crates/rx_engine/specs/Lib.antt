@@ -1,0 +1,11 @@
+pub mod Answered
+pub mod Answers
+pub mod Fronts
+pub mod Inputs
+pub mod Journal
+pub mod Meanings
+pub mod Proxy
+pub mod Ready
+pub mod Serves
+pub mod Session
+pub mod Words

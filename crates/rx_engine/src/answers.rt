@@ -1,0 +1,237 @@
+//! From a request to its reply: the inputs, the attempt, the publication.
+
+ghost use Rattle.std.specs.Prelude.{◌≡◌, ◌≤◌, ◌∷◌, [], List, None, Some, IfOk, OnErr};
+ghost use Rattle.rx_engine.specs.Answered.{AnswersFault, IsFailure, IsPlain, IsPublication, bad_request, reply_no_memory};
+ghost use Rattle.rx_session.specs.Jobs.{command_of, declared_of};
+ghost use Rattle.rx_session.specs.Replies.{frame_of};
+ghost use Rattle.rx_world.specs.declared.sources.Given.{Given};
+ghost use Rattle.rx_engine.specs.Answers.{Answers, RunsOn, done_end};
+ghost use Rattle.rx_engine.specs.Inputs.{Gives};
+ghost use Rattle.rx_engine.specs.Journal.{Enters};
+
+use crate::inputs::{InputFault, gather_inputs};
+use rx_base::{Items, NoMemory, RelPath, TryClone};
+use rx_board::{Board, PublishFault, Receipt};
+use rx_local::run_local;
+use rx_session::{Bad, Reply, Request, Room, command_for, declared_inputs, encode};
+use rx_world::{
+    Attempt, BenchMaker, Cause, Command, End, Ended, Failure, FileOut, Origin, Outcome, Place,
+    Sources, World, keep_outcome,
+};
+use std::alloc::{AllocError, Global};
+
+/// A reply with its frame, and what it stands on.
+#[derive(Drop)]
+pub struct Answered {
+    pub reply: Reply,
+    pub frame: Vec<u8>,
+    pub receipt: Option<Receipt>,
+    pub ends: Items<Ended>,
+}
+
+/// A reply without attempts.
+fn plain(alloc: Global, reply: Reply) -> Result<Answered, NoMemory>
+    ensures { IfOk result (IsPlain reply) }
+{
+    let frame = encode(alloc, &reply)?;
+    Ok(Answered {
+        reply,
+        frame,
+        receipt: None,
+        ends: Items::new(alloc),
+    })
+}
+
+/// The answer to bytes that are no request.
+pub fn refuse(alloc: Global, bad: Bad) -> Result<Answered, NoMemory>
+    ensures { IfOk result (IsPlain (bad_request bad)) }
+{
+    plain(alloc, Reply::BadRequest { bad })
+}
+
+/// The answer where memory ran out.
+pub fn give_up(alloc: Global) -> Result<Answered, NoMemory>
+    ensures { IfOk result (IsPlain reply_no_memory) }
+{
+    plain(alloc, Reply::NoMemory)
+}
+
+/// The answer where the inputs can't be had.
+fn refuse_inputs(alloc: Global, fault: InputFault) -> Result<Answered, NoMemory>
+    ensures { IfOk result (AnswersFault fault) }
+{
+    match fault {
+        InputFault::InputMissing { path } => plain(alloc, Reply::InputMissing { path }),
+        InputFault::InputChanged {
+            path,
+            first,
+            second,
+        } => plain(
+            alloc,
+            Reply::InputChanged {
+                path,
+                first,
+                second,
+            },
+        ),
+        InputFault::SourceFault { path } => plain(alloc, Reply::SourceFault { path }),
+        InputFault::Blocked { path } => plain(alloc, Reply::Blocked { path }),
+        InputFault::NoMemory => Err(AllocError),
+    }
+}
+
+/// The end of the one local attempt.
+fn local_end(alloc: Global, outcome: &Outcome) -> Result<Items<Ended>, NoMemory>
+    ensures { IfOk result (λ ends. ends ≡ done_end outcome.now) }
+{
+    let mut ends = Items::new(alloc);
+    ends.push(Ended {
+        attempt: Attempt::Local,
+        end: End::Done {
+            outcome: keep_outcome(alloc, outcome)?,
+            origin: Origin::Local,
+        },
+    })?;
+    Ok(ends)
+}
+
+/// The answer where the attempt has no outcome.
+fn fail(alloc: Global, cause: Cause) -> Result<Answered, NoMemory>
+    ensures { IfOk result (IsFailure cause) }
+{
+    let mut ends = Items::new(alloc);
+    ends.push(Ended {
+        attempt: Attempt::Local,
+        end: End::Failed {
+            cause: cause.try_clone(alloc)?,
+        },
+    })?;
+    let mut failures = Items::new(alloc);
+    failures.push(Failure {
+        attempt: Attempt::Local,
+        cause,
+    })?;
+    let reply = Reply::AllFailed { failures };
+    let frame = encode(alloc, &reply)?;
+    Ok(Answered {
+        reply,
+        frame,
+        receipt: None,
+        ends,
+    })
+}
+
+/// Publishes an outcome. All that needs memory comes before the first file is placed.
+fn publish<P: Place>(
+    alloc: Global,
+    session: u32,
+    outcome: Outcome,
+    board: &mut Board<P>,
+) -> Result<Answered, NoMemory>
+    ensures ok { IfOk result (IsPublication outcome) }
+    ensures journal { IfOk result (λ a. Enters board.old.limit board.old.journal board.new.journal (P.faults board.old.place) (P.faults board.new.place) session a.receipt a.ends (Some a.reply)) }
+    ensures err { OnErr result (board.new.journal ≡ board.old.journal) }
+    ensures limit { board.new.limit ≡ board.old.limit }
+    ensures opening { P.opening board.new.place ≡ P.opening board.old.place }
+    ensures later { P.faults board.old.place ≤ P.faults board.new.place }
+{
+    let ends = local_end(alloc, &outcome)?;
+    let room = Room::new(alloc)?;
+    let Outcome { exit, files } = outcome;
+    let reply = Reply::Done {
+        exit: exit.code,
+        stdout: exit.stdout,
+        stderr: exit.stderr,
+        origin: Origin::Local,
+        receipt: board.next_number(),
+        placed: files.len() as u64,
+    };
+    let frame = encode(alloc, &reply)?;
+    match board.publish(alloc, session, files.as_slice()) {
+        Ok(receipt) => Ok(Answered {
+            reply,
+            frame,
+            receipt: Some(receipt),
+            ends,
+        }),
+        Err(PublishFault::PlaceFault { receipt, placed }) => Ok(Answered {
+            reply: Reply::PlaceFault {
+                receipt: receipt.number,
+                placed,
+            },
+            frame: room.encode_place_fault(receipt.number, placed),
+            receipt: Some(receipt),
+            ends,
+        }),
+        Err(PublishFault::JournalFull { limit: _ }) => Ok(Answered {
+            frame: encode(alloc, &Reply::JournalFull)?,
+            reply: Reply::JournalFull,
+            receipt: None,
+            ends,
+        }),
+        Err(PublishFault::NoMemory) => Err(AllocError),
+    }
+}
+
+/// A copy of the working directory, alone in a list.
+fn directories_of(alloc: Global, command: &Command) -> Result<Vec<RelPath>, NoMemory>
+    ensures { IfOk result (λ list. list.items ≡ command.now.working_directory ∷ []) }
+{
+    let mut list = Vec::new(alloc);
+    list.push(command.working_directory.try_clone(alloc)?)?;
+    Ok(list)
+}
+
+/// Runs the command on its inputs, and publishes its outcome.
+fn run_and_publish<W: World, M: BenchMaker<W>, P: Place>(
+    alloc: Global,
+    session: u32,
+    command: &Command,
+    files: &[FileOut],
+    benches: &mut M,
+    board: &mut Board<P>,
+) -> Result<Answered, NoMemory>
+    ensures ok { IfOk result (λ a. RunsOn W.tool W.tools_honest command.now files.now (M.faults benches.old) (M.faults benches.new) a.receipt a.ends a.reply) }
+    ensures frame { IfOk result (λ a. a.frame.items ≡ frame_of a.reply) }
+    ensures journal { IfOk result (λ a. Enters board.old.limit board.old.journal board.new.journal (P.faults board.old.place) (P.faults board.new.place) session a.receipt a.ends (Some a.reply)) }
+    ensures err { OnErr result (board.new.journal ≡ board.old.journal) }
+    ensures limit { board.new.limit ≡ board.old.limit }
+    ensures opening { P.opening board.new.place ≡ P.opening board.old.place }
+    ensures later { P.faults board.old.place ≤ P.faults board.new.place }
+    ensures benches { M.faults benches.old ≤ M.faults benches.new }
+{
+    let directories = directories_of(alloc, command)?;
+    match run_local::<W, M>(alloc, command, files, &directories, benches) {
+        Ok(outcome) => publish(alloc, session, outcome, board),
+        Err(Cause::NoMemory) => Err(AllocError),
+        Err(cause) => fail(alloc, cause),
+    }
+}
+
+/// Answers a request.
+pub fn answer<W: World, S: Sources<W>, M: BenchMaker<W>, P: Place>(
+    alloc: Global,
+    session: u32,
+    request: &Request,
+    tree: &mut S,
+    benches: &mut M,
+    board: &mut Board<P>,
+) -> Result<Answered, NoMemory>
+    ensures answers { (answers : List Given) × Gives S.listed S.keeps S.given W.content W.stamps_honest tree.old tree.new answers
+        × IfOk result (λ a. Answers W.tool W.tools_honest request.now answers (S.faults tree.old) (S.faults tree.new) (M.faults benches.old) (M.faults benches.new) a.receipt a.ends a.reply) }
+    ensures frame { IfOk result (λ a. a.frame.items ≡ frame_of a.reply) }
+    ensures journal { IfOk result (λ a. Enters board.old.limit board.old.journal board.new.journal (P.faults board.old.place) (P.faults board.new.place) session a.receipt a.ends (Some a.reply)) }
+    ensures err { OnErr result (board.new.journal ≡ board.old.journal) }
+    ensures limit { board.new.limit ≡ board.old.limit }
+    ensures opening { P.opening board.new.place ≡ P.opening board.old.place }
+    ensures later { P.faults board.old.place ≤ P.faults board.new.place }
+    ensures tree { S.faults tree.old ≤ S.faults tree.new }
+    ensures benches { M.faults benches.old ≤ M.faults benches.new }
+{
+    let command = command_for(alloc, request)?;
+    let inputs = declared_inputs(alloc, request)?;
+    match gather_inputs::<W, S>(alloc, tree, &command, inputs.as_slice()) {
+        Ok(files) => run_and_publish::<W, M, P>(alloc, session, &command, &files, benches, board),
+        Err(fault) => refuse_inputs(alloc, fault),
+    }
+}

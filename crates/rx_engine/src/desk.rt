@@ -1,0 +1,57 @@
+//! What a session owns, and where sessions come from.
+
+ghost use Rattle.std.specs.Prelude.{◌≡◌, ◌≤◌, ℕ, List, Option, IfOk, OnErr};
+ghost use Rattle.rx_world.specs.Causes.{HasCause};
+ghost use Rattle.rx_engine.specs.declared.desk.Parts.{Parts};
+ghost use Rattle.rx_engine.specs.Fronts.{GivesNext};
+
+use rx_world::{BenchMaker, Failed, Sink, Source, Sources, World};
+
+/// The parts of a desk.
+pub struct Parts<I, O, T, B> {
+    /// Where the request comes from.
+    pub input: I,
+    /// Where the reply goes.
+    pub output: O,
+    /// The source tree that is looked at.
+    pub tree: T,
+    /// Where local attempts run.
+    pub benches: B,
+}
+
+/// What one session owns. It is taken apart as the session begins and put together at its end.
+pub trait Desk<W: World>: Sized {
+    type I: Source + Send;
+
+    type O: Sink + Send;
+
+    type T: Sources<W> + Send;
+
+    type B: BenchMaker<W> + Send;
+
+    /// The parts.
+    ghost parts: { Self → Parts Self.I Self.O Self.T Self.B };
+
+    fn split(self) -> Parts<Self::I, Self::O, Self::T, Self::B>
+        ensures { result ≡ parts self };
+
+    fn unite(of: Parts<Self::I, Self::O, Self::T, Self::B>) -> Self
+        ensures { parts result ≡ of };
+}
+
+/// Gives desks, one for each session.
+pub trait Front<W: World> {
+    type D: Desk<W> + Send;
+
+    /// The desks that are still to come, where told.
+    ghost coming: { Self → Option (List Self.D) };
+
+    /// How often a call failed.
+    ghost faults: { Self → ℕ };
+
+    /// The next desk. None says that there are no more.
+    fn next(&mut self) -> Result<Option<Self::D>, Failed>
+        ensures next { IfOk result (GivesNext (coming self.old) (coming self.new)) }
+        ensures kept { OnErr result (coming self.new ≡ coming self.old) }
+        ensures cause { HasCause (faults self.old) (faults self.new) result };
+}

@@ -1,0 +1,255 @@
+//! The top call: the desks of a front are served, one after the other.
+
+ghost use Rattle.std.specs.Prelude.{◌≡◌, ◌≤◌, ◌↔◌, [], IfSome, None, length};
+ghost use Rattle.std.specs.List.{list_any};
+ghost use Rattle.rx_board.specs.Journal.{HoldsLast, IsKeptBy, count_short};
+ghost use Rattle.rx_engine.specs.Proxy.{HasStatus, IsLegal, IsStop, Runs, is_sink_lost, is_source_lost, status_of, status_over};
+ghost use Rattle.rx_engine.specs.Serves.{Serves};
+ghost use Rattle.rx_engine.specs.Words.{root_in};
+
+use crate::desk::Front;
+use crate::sessions::{Shared, serve_session};
+use crate::transcripts::{Ending, Transcript};
+use crate::words::root_in;
+use rx_base::Text;
+use rx_board::{Board, Entry, JOURNAL_LIMIT};
+use rx_world::{Place, World};
+use std::alloc::Global;
+
+/// Why no more desks are asked for.
+#[derive(Clone, Copy, Debug, PartialEq, Eq)]
+pub enum Stop {
+    /// The front has no more.
+    Ended,
+    /// The front failed.
+    FrontLost,
+    /// Memory ran out between two sessions.
+    NoMemory,
+    /// 4,294,967,295 desks were served.
+    Spent,
+}
+
+/// What a run hands back.
+#[derive(Drop)]
+pub struct Ran<W: World, F: Front<W>, P> {
+    /// 0 the front ended; 2 the words are none that are known; 3 the front failed; 4 memory ran out
+    /// between two sessions; 5 a session lost its input; 6 a session lost its output; 7 as many
+    /// desks were served as there are numbers. Of several, the first of 3, 4, 5, 6, 7.
+    pub status: u8,
+    pub front: F,
+    pub place: P,
+    pub journal: Vec<Entry>,
+    pub transcripts: Vec<Transcript>,
+    /// The desk of each transcript, as its session handed it back.
+    pub desks: Vec<F::D>,
+}
+
+/// Serves the desks of a front, one after the other.
+fn serve_all<W: World, F: Front<W>, P: Place>(
+    alloc: Global,
+    front: &mut F,
+    shared: &mut Shared<P>,
+    transcripts: &mut Vec<Transcript>,
+    desks: &mut Vec<F::D>,
+) -> Stop
+    requires transcripts { transcripts.old.items ≡ [] }
+    requires desks { desks.old.items ≡ [] }
+    ensures runs { Runs (F.coming front.old) (F.coming front.new)
+        (Serves (record {
+          left = F.D.I.left;
+          input_faults = F.D.I.faults;
+          taken = F.D.O.taken;
+          output_faults = F.D.O.faults;
+          listed = F.D.T.listed;
+          given = F.D.T.given;
+          tree_faults = F.D.T.faults;
+          bench_faults = F.D.B.faults;
+          content = W.content;
+          tool = W.tool;
+        }) F.D.T.keeps F.D.parts W.stamps_honest W.tools_honest shared.old.root shared.old.board.limit)
+        shared.old.board.journal shared.new.board.journal (P.faults shared.old.board.place) (P.faults shared.new.board.place) desks.new.items transcripts.new.items }
+    ensures stop { IsStop (F.coming front.old) (F.coming front.new) (F.faults front.old) (F.faults front.new) (length transcripts.new.items) result }
+    ensures opening { P.opening shared.new.board.place ≡ P.opening shared.old.board.place }
+{
+    for served in 0..u32::MAX {
+        if transcripts.reserve(1).is_err() {
+            return Stop::NoMemory;
+        }
+        if desks.reserve(1).is_err() {
+            return Stop::NoMemory;
+        }
+        match front.next() {
+            Ok(None) => return Stop::Ended,
+            Err(_) => return Stop::FrontLost,
+            Ok(Some(desk)) => {
+                let (transcript, desk) = serve_session::<W, F::D, P>(
+                    alloc,
+                    served + 1,
+                    desk,
+                    shared,
+                );
+                transcripts.push(transcript).unwrap();
+                desks.push(desk).unwrap();
+            }
+        }
+    }
+    Stop::Spent
+}
+
+/// Whether a session ended so.
+fn is_source_lost(ending: Ending) -> bool
+    ensures { result ≡ is_source_lost ending }
+{
+    matches!(ending, Ending::SourceLost)
+}
+
+fn is_sink_lost(ending: Ending) -> bool
+    ensures { result ≡ is_sink_lost ending }
+{
+    matches!(ending, Ending::SinkLost)
+}
+
+fn any_source_lost(transcripts: &[Transcript]) -> bool
+    ensures { result ≡ list_any (λ t. is_source_lost t.ending) transcripts.now }
+{
+    transcripts.iter().any(|t| is_source_lost(t.ending))
+}
+
+fn any_sink_lost(transcripts: &[Transcript]) -> bool
+    ensures { result ≡ list_any (λ t. is_sink_lost t.ending) transcripts.now }
+{
+    transcripts.iter().any(|t| is_sink_lost(t.ending))
+}
+
+/// The status where the front was asked as often as it may be.
+fn status_over(otherwise: u8, transcripts: &[Transcript]) -> u8
+    ensures { result ≡ status_over otherwise transcripts.now }
+{
+    if any_source_lost(transcripts) {
+        return 5;
+    }
+    if any_sink_lost(transcripts) {
+        return 6;
+    }
+    otherwise
+}
+
+fn status_of(stop: Stop, transcripts: &[Transcript]) -> u8
+    ensures { result ≡ status_of stop transcripts.now }
+{
+    match stop {
+        Stop::FrontLost => 3,
+        Stop::NoMemory => 4,
+        Stop::Ended => status_over(0, transcripts),
+        Stop::Spent => status_over(7, transcripts),
+    }
+}
+
+/// Serves where the words are known, and answers the status.
+fn serve_words<W: World, F: Front<W>, P: Place>(
+    alloc: Global,
+    root: &str,
+    front: &mut F,
+    board: Board<P>,
+    transcripts: &mut Vec<Transcript>,
+    desks: &mut Vec<F::D>,
+) -> (u8, Board<P>)
+    requires transcripts { transcripts.old.items ≡ [] }
+    requires desks { desks.old.items ≡ [] }
+    ensures runs { Runs (F.coming front.old) (F.coming front.new)
+        (Serves (record {
+          left = F.D.I.left;
+          input_faults = F.D.I.faults;
+          taken = F.D.O.taken;
+          output_faults = F.D.O.faults;
+          listed = F.D.T.listed;
+          given = F.D.T.given;
+          tree_faults = F.D.T.faults;
+          bench_faults = F.D.B.faults;
+          content = W.content;
+          tool = W.tool;
+        }) F.D.T.keeps F.D.parts W.stamps_honest W.tools_honest root.now board.limit)
+        board.journal result.1.journal (P.faults board.place) (P.faults result.1.place) desks.new.items transcripts.new.items }
+    ensures status { HasStatus (F.coming front.old) (F.coming front.new) (F.faults front.old) (F.faults front.new) result.0 transcripts.new.items }
+    ensures opening { P.opening result.1.place ≡ P.opening board.place }
+{
+    let Ok(root) = Text::copy_of(alloc, root) else {
+        return (4, board);
+    };
+    let mut shared = Shared { root, board };
+    let stop = serve_all::<W, F, P>(alloc, front, &mut shared, transcripts, desks);
+    let status = status_of(stop, transcripts);
+    let Shared { root: _, board } = shared;
+    (status, board)
+}
+
+/// Serves the desks of a front, one after the other, and hands everything back. The words are
+/// `exec --root PATH`.
+pub fn run_proxy<W: World, F: Front<W>, P: Place>(
+    alloc: Global,
+    words: &[String],
+    front: F,
+    place: P,
+) -> Ran<W, F, P>
+    requires opening { P.contents place ≡ P.opening place }
+    requires quiet { P.faults place ≡ 0 }
+    // Nothing is done where the words aren't known.
+    ensures usage { result.status ≡ 2 ↔ (root_in words.now ≡ None) }
+    ensures unused { root_in words.now ≡ None → (result.front ≡ front) × (result.place ≡ place) × (result.transcripts.items ≡ []) }
+    // Each desk that left the front has its transcript, with its own part and its part of the journal.
+    ensures sessions { IfSome (root_in words.now) (λ root. Runs (F.coming front) (F.coming result.front)
+        (Serves (record {
+          left = F.D.I.left;
+          input_faults = F.D.I.faults;
+          taken = F.D.O.taken;
+          output_faults = F.D.O.faults;
+          listed = F.D.T.listed;
+          given = F.D.T.given;
+          tree_faults = F.D.T.faults;
+          bench_faults = F.D.B.faults;
+          content = W.content;
+          tool = W.tool;
+        }) F.D.T.keeps F.D.parts W.stamps_honest W.tools_honest root JOURNAL_LIMIT)
+        [] result.journal.items 0 (P.faults result.place) result.desks.items result.transcripts.items) }
+    // The journal is the sessions' entries, in their order.
+    ensures legal { IsLegal 1 result.journal.items result.transcripts.items }
+    // The place holds what the journal leaves of its opening contents: at each path the last entry's file.
+    ensures place { IsKeptBy (P.opening place) (P.contents result.place) result.journal.items }
+    ensures last { HoldsLast (P.opening place) (P.contents result.place) result.journal.items }
+    // There are at most as many short entries as the place had faults.
+    ensures short { count_short result.journal.items ≤ P.faults result.place }
+    // Each status has its cause.
+    ensures status { IfSome (root_in words.now) (λ root. HasStatus (F.coming front) (F.coming result.front) (F.faults front) (F.faults result.front) result.status result.transcripts.items) }
+{
+    let mut front = front;
+    let mut transcripts = Vec::new(alloc);
+    let mut desks = Vec::new(alloc);
+    let Some(root) = root_in(words) else {
+        return Ran {
+            status: 2,
+            front,
+            place,
+            journal: Vec::new(alloc),
+            transcripts,
+            desks,
+        };
+    };
+    let board = Board::new(alloc, place, JOURNAL_LIMIT);
+    let (status, board) = serve_words::<W, F, P>(
+        alloc,
+        root,
+        &mut front,
+        board,
+        &mut transcripts,
+        &mut desks,
+    );
+    let (place, journal) = board.into_parts();
+    Ran {
+        status,
+        front,
+        place,
+        journal,
+        transcripts,
+        desks,
+    }
+}

@@ -1,0 +1,257 @@
+//! One session: a request is read, answered, and its reply written.
+
+ghost use Rattle.std.specs.Prelude.{◌≡◌, ◌≤◌, ◌↔◌, [], ℕ, List, Option, Err, None, IfNone, IfSome, IsNone};
+ghost use Rattle.rx_session.specs.Bad.{Decodes};
+ghost use Rattle.rx_session.specs.Frames.{EndsRead, request_of};
+ghost use Rattle.rx_session.specs.declared.bad.SessionFault.TheVariants.{ReadFault as read_fault};
+ghost use Rattle.std.specs.Io.KnownBytes.{Appends};
+ghost use Rattle.rx_world.specs.declared.sources.Given.{Given};
+ghost use Rattle.rx_world.specs.Causes.{Rose};
+ghost use Rattle.rx_engine.specs.Answered.{IsPlain, reply_no_memory};
+ghost use Rattle.rx_engine.specs.Inputs.{Gives};
+ghost use Rattle.rx_engine.specs.Journal.{IsJournalled};
+ghost use Rattle.rx_engine.specs.Ready.{EntersReady, Finishes, IsLost, IsOrGivenUp, IsReady, IsRefusalOf};
+ghost use Rattle.rx_engine.specs.Session.{IsSession};
+
+use crate::answers::{Answered, answer, give_up, refuse};
+use crate::desk::{Desk, Parts};
+use crate::transcripts::{Ending, Transcript};
+use rx_base::{Bytes, Items, NoMemory, Text};
+use rx_board::Board;
+use rx_session::{Request, SessionFault, read_request, write_frame};
+use rx_world::{BenchMaker, Place, Sink, Source, Sources, World};
+use std::alloc::{AllocError, Global};
+
+/// What all sessions of a run share.
+#[derive(Drop)]
+pub struct Shared<P: Place> {
+    /// The served root, as requests name it.
+    pub root: Text,
+    pub board: Board<P>,
+}
+
+/// The request, and the answer to it. Without an answer, memory ran out even for that.
+#[derive(Drop)]
+pub struct Ready {
+    pub request: Option<Request>,
+    pub answered: Option<Answered>,
+}
+
+/// The answer that was made, or the one where memory ran out.
+fn or_give_up(alloc: Global, answered: Result<Answered, NoMemory>) -> Option<Answered>
+    ensures { IsOrGivenUp answered result }
+{
+    match answered {
+        Ok(answered) => Some(answered),
+        Err(_) => give_up(alloc).ok(),
+    }
+}
+
+/// Writes the answer that was made ready, if there is one, and keeps what the session did.
+fn finish<O: Sink>(
+    alloc: Global,
+    number: u32,
+    read: Bytes,
+    ready: Ready,
+    output: &mut O,
+) -> Transcript
+    ensures written { Appends (O.taken output.old) (O.taken output.new) result.written }
+    ensures finished { Finishes number read ready result }
+    ensures later { O.faults output.old ≤ O.faults output.new }
+    ensures sink { result.ending ≡ Ending.SinkLost → Rose (O.faults output.old) (O.faults output.new) }
+{
+    let Ready { request, answered } = ready;
+    match answered {
+        None => Transcript {
+            number,
+            ending: Ending::NoMemory,
+            read,
+            written: Bytes::new(alloc),
+            request,
+            reply: None,
+            receipt: None,
+            ends: Items::new(alloc),
+        },
+        Some(answered) => {
+            let Answered {
+                reply,
+                frame,
+                receipt,
+                ends,
+            } = answered;
+            let mut frame = frame;
+            let (count, outcome) = write_frame(output, &frame);
+            frame.truncate(count);
+            Transcript {
+                number,
+                ending: match outcome {
+                    Ok(()) => Ending::Replied,
+                    Err(_) => Ending::SinkLost,
+                },
+                read,
+                written: Bytes::from_vec(frame),
+                request,
+                reply: Some(reply),
+                receipt,
+                ends,
+            }
+        }
+    }
+}
+
+/// Answers what was read.
+fn make_ready<W: World, S: Sources<W>, M: BenchMaker<W>, P: Place>(
+    alloc: Global,
+    session: u32,
+    asked: Result<Request, SessionFault>,
+    tree: &mut S,
+    benches: &mut M,
+    board: &mut Board<P>,
+) -> Option<Ready>
+    ensures lost { IsNone result ↔ (asked ≡ Err read_fault) }
+    ensures ready { IfSome result (λ ready. (answers : List Given) × Gives S.listed S.keeps S.given W.content W.stamps_honest tree.old tree.new answers
+        × ((root read : List ℕ) (left : Option (List ℕ)) → Decodes (λ request. request) asked (request_of root read) → EndsRead left asked →
+        IsReady (record {
+          tool = W.tool;
+          root = root;
+          left = left;
+          answers = answers;
+          tree_before = S.faults tree.old;
+          tree_now = S.faults tree.new;
+          bench_before = M.faults benches.old;
+          bench_now = M.faults benches.new;
+        }) W.tools_honest read ready)) }
+    ensures enters { IfSome result (EntersReady board.old.limit board.old.journal board.new.journal (P.faults board.old.place) (P.faults board.new.place) session) }
+    ensures same { IfNone result ((tree.new ≡ tree.old) × (benches.new ≡ benches.old) × (board.new ≡ board.old)) }
+    ensures limit { board.new.limit ≡ board.old.limit }
+    ensures opening { P.opening board.new.place ≡ P.opening board.old.place }
+    ensures later { P.faults board.old.place ≤ P.faults board.new.place }
+    ensures tree { S.faults tree.old ≤ S.faults tree.new }
+    ensures benches { M.faults benches.old ≤ M.faults benches.new }
+{
+    match asked {
+        Ok(request) => {
+            let made = answer::<W, S, M, P>(alloc, session, &request, tree, benches, board);
+            Some(Ready {
+                answered: or_give_up(alloc, made),
+                request: Some(request),
+            })
+        }
+        Err(fault) => make_refusal(alloc, fault),
+    }
+}
+
+/// Answers what is no request. Where the input was lost there is no answer.
+fn make_refusal(alloc: Global, fault: SessionFault) -> Option<Ready>
+    ensures { IsRefusalOf fault result }
+{
+    match fault {
+        SessionFault::Bad(bad) => Some(Ready {
+            request: None,
+            answered: or_give_up(alloc, refuse(alloc, bad)),
+        }),
+        SessionFault::NoMemory => Some(Ready {
+            request: None,
+            answered: or_give_up(alloc, Err(AllocError)),
+        }),
+        SessionFault::ReadFault => None,
+    }
+}
+
+/// The transcript of a session whose input was lost.
+fn lost(alloc: Global, number: u32, read: Bytes) -> Transcript
+    ensures { IsLost number read result }
+{
+    Transcript {
+        number,
+        ending: Ending::SourceLost,
+        read,
+        written: Bytes::new(alloc),
+        request: None,
+        reply: None,
+        receipt: None,
+        ends: Items::new(alloc),
+    }
+}
+
+/// Reads, answers and writes.
+fn converse<W: World, I: Source, O: Sink, S: Sources<W>, M: BenchMaker<W>, P: Place>(
+    alloc: Global,
+    number: u32,
+    parts: &mut Parts<I, O, S, M>,
+    shared: &mut Shared<P>,
+) -> Transcript
+    ensures session { IsSession (record {
+      left = I.left;
+      input_faults = I.faults;
+      taken = O.taken;
+      output_faults = O.faults;
+      listed = S.listed;
+      given = S.given;
+      tree_faults = S.faults;
+      bench_faults = M.faults;
+      content = W.content;
+      tool = W.tool;
+    }) S.keeps W.stamps_honest W.tools_honest shared.old.root parts.old parts.new result }
+    ensures number { result.number ≡ number }
+    ensures journal { IsJournalled shared.old.board.limit shared.old.board.journal shared.new.board.journal (P.faults shared.old.board.place) (P.faults shared.new.board.place) result }
+    ensures limit { shared.new.board.limit ≡ shared.old.board.limit }
+    ensures root { shared.new.root ≡ shared.old.root }
+    ensures opening { P.opening shared.new.board.place ≡ P.opening shared.old.board.place }
+    ensures later { P.faults shared.old.board.place ≤ P.faults shared.new.board.place }
+{
+    let mut read = Vec::new(alloc);
+    let asked = read_request(alloc, &mut parts.input, shared.root.as_str(), &mut read);
+    let ready = make_ready::<W, S, M, P>(
+        alloc,
+        number,
+        asked,
+        &mut parts.tree,
+        &mut parts.benches,
+        &mut shared.board,
+    );
+    match ready {
+        None => lost(alloc, number, Bytes::from_vec(read)),
+        Some(ready) => finish(
+            alloc,
+            number,
+            Bytes::from_vec(read),
+            ready,
+            &mut parts.output,
+        ),
+    }
+}
+
+/// Serves one session: takes its desk apart, reads the request, answers it, and hands the desk back
+/// with what was done.
+pub fn serve_session<W: World, D: Desk<W>, P: Place>(
+    alloc: Global,
+    number: u32,
+    desk: D,
+    shared: &mut Shared<P>,
+) -> (Transcript, D)
+    // The session's own part: what was read, done and written, and the reply with its cause.
+    ensures session { IsSession (record {
+      left = D.I.left;
+      input_faults = D.I.faults;
+      taken = D.O.taken;
+      output_faults = D.O.faults;
+      listed = D.T.listed;
+      given = D.T.given;
+      tree_faults = D.T.faults;
+      bench_faults = D.B.faults;
+      content = W.content;
+      tool = W.tool;
+    }) D.T.keeps W.stamps_honest W.tools_honest shared.old.root (D.parts desk) (D.parts result.1) result.0 }
+    ensures number { result.0.number ≡ number }
+    // The journal's part: at most one entry, of this session's files.
+    ensures journal { IsJournalled shared.old.board.limit shared.old.board.journal shared.new.board.journal (P.faults shared.old.board.place) (P.faults shared.new.board.place) result.0 }
+    ensures limit { shared.new.board.limit ≡ shared.old.board.limit }
+    ensures root { shared.new.root ≡ shared.old.root }
+    ensures opening { P.opening shared.new.board.place ≡ P.opening shared.old.board.place }
+    ensures later { P.faults shared.old.board.place ≤ P.faults shared.new.board.place }
+{
+    let mut parts = desk.split();
+    let transcript = converse::<W, D::I, D::O, D::T, D::B, P>(alloc, number, &mut parts, shared);
+    (transcript, D::unite(parts))
+}

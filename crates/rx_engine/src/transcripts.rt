@@ -1,0 +1,39 @@
+//! What is kept of a session.
+
+use rx_base::{Bytes, Items};
+use rx_board::Receipt;
+use rx_session::{Reply, Request};
+use rx_world::Ended;
+
+/// How a session ended.
+#[derive(Clone, Copy, Debug, PartialEq, Eq)]
+pub enum Ending {
+    /// The reply was written whole.
+    Replied,
+    /// The input failed before the request and its end were read. Nothing was written.
+    SourceLost,
+    /// The output failed. A front of the reply was written.
+    SinkLost,
+    /// Memory ran out even for the reply that says so. Nothing was written.
+    NoMemory,
+}
+
+/// What a session read, did and wrote.
+#[derive(Debug, Drop)]
+pub struct Transcript {
+    /// The session's number, from 1 on in the order in which desks leave the front.
+    pub number: u32,
+    pub ending: Ending,
+    /// The bytes that were read from the input.
+    pub read: Bytes,
+    /// The bytes that were written to the output.
+    pub written: Bytes,
+    /// The request, where the bytes are one.
+    pub request: Option<Request>,
+    /// The reply, also where its frame was cut off.
+    pub reply: Option<Reply>,
+    /// Where the session published.
+    pub receipt: Option<Receipt>,
+    /// How each attempt that was started ended.
+    pub ends: Items<Ended>,
+}
