@@ -1,6 +1,7 @@
 //! Texts with what they include, told by hand from the standard's phases; and texts that would make a walk slow.
 use crate::{Directives, Include, directives};
 use std::alloc::{AllocError, Global};
+use std::process::Abort;
 use std::test::Fail;
 
 /// The includes as they stand in a text, each followed by a space.
@@ -20,7 +21,9 @@ fn shown(alloc: Global, found: &Directives) -> Result<Vec<u8>, AllocError> {
 }
 
 /// A text, its includes, whether it is hard and whether it has a raw literal.
-const ROWS: [(&str, &str, bool, bool); 70] = [
+type Row = (&'static str, &'static str, bool, bool);
+
+const ROWS: [Row; 70] = [
     ("R\"(/*)\"\n#include \"a.h\"", "\"a.h\" ", false, true),
     ("int n = 1'000; /* c */\n#include <b>", "<b> ", false, false),
     (
@@ -172,19 +175,29 @@ const ROWS: [(&str, &str, bool, bool); 70] = [
     ("1e+/**/'0'0\n1'/*\n#include <a>", "<a> ", true, false),
 ];
 
+fn expect_row(rt: &impl Abort, alloc: Global, row: Row) -> Result<(), AllocError> {
+    let (text, includes, hard, raw) = row;
+    let found = directives(alloc, text.as_bytes())?;
+    let list = shown(alloc, &found)?;
+    assert!(rt;
+        list.as_slice() == includes.as_bytes(),
+        "the includes of {text:?}"
+    );
+    assert!(rt; found.hard == hard, "hardness of {text:?}");
+    assert!(rt; found.raw == raw, "raw literals of {text:?}");
+    Ok(())
+}
+
+fn expect_rows(rt: &impl Abort, alloc: Global, rows: &[Row]) -> Result<(), AllocError> {
+    for row in rows {
+        expect_row(rt, alloc, *row)?;
+    }
+    Ok(())
+}
+
 #[test]
 fn finds_what_each_text_includes(rt: HostRuntime) -> Result<(), Fail> {
-    for (text, includes, hard, raw) in ROWS {
-        let found = directives(rt.alloc(), text.as_bytes())?;
-        let list = shown(rt.alloc(), &found)?;
-        assert_eq!(rt;
-            list.as_slice(),
-            includes.as_bytes(),
-            "the includes of {text:?}"
-        );
-        assert_eq!(rt; found.hard, hard, "hardness of {text:?}");
-        assert_eq!(rt; found.raw, raw, "raw literals of {text:?}");
-    }
+    expect_rows(&rt, rt.alloc(), &ROWS)?;
     Ok(())
 }
 
@@ -202,7 +215,9 @@ const LONG: usize = 2 * 1024 * 1024;
 
 /// A long text's front, what is repeated behind it, and whether it is hard. A walk that looked again and again at what it
 /// has seen would take many minutes.
-const LONG_ROWS: [(&str, &str, bool); 9] = [
+type LongRow = (&'static str, &'static str, bool);
+
+const LONG_ROWS: [LongRow; 9] = [
     ("int ", "x", false),
     ("#include <", "x", true),
     ("#if ", "__has_include(<", true),
@@ -214,16 +229,26 @@ const LONG_ROWS: [(&str, &str, bool); 9] = [
     ("", "\\ ", false),
 ];
 
+fn expect_long_row(rt: &impl Abort, alloc: Global, row: LongRow) -> Result<(), AllocError> {
+    let (head, unit, hard) = row;
+    let text = repeated(alloc, head, unit)?;
+    let found = directives(alloc, &text)?;
+    assert!(rt;
+        found.hard == hard,
+        "hardness of {head:?} and {unit:?} repeated"
+    );
+    Ok(())
+}
+
+fn expect_long_rows(rt: &impl Abort, alloc: Global, rows: &[LongRow]) -> Result<(), AllocError> {
+    for row in rows {
+        expect_long_row(rt, alloc, *row)?;
+    }
+    Ok(())
+}
+
 #[test]
 fn ends_soon_on_long_texts(rt: HostRuntime) -> Result<(), Fail> {
-    for (head, unit, hard) in LONG_ROWS {
-        let text = repeated(rt.alloc(), head, unit)?;
-        let found = directives(rt.alloc(), &text)?;
-        assert_eq!(rt;
-            found.hard,
-            hard,
-            "hardness of {head:?} and {unit:?} repeated"
-        );
-    }
+    expect_long_rows(&rt, rt.alloc(), &LONG_ROWS)?;
     Ok(())
 }
