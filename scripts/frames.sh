@@ -49,7 +49,6 @@ hex() {
 reply_in_words() {
     od -An -v -tu1 "$1" | awk '
     function varint(    n, scale) {
-        n = 0
         scale = 1
         while (at < count && bytes[at] >= 128) {
             n += (bytes[at++] - 128) * scale
@@ -57,31 +56,43 @@ reply_in_words() {
         }
         return n + bytes[at++] * scale
     }
-    function text(size,    end, shown) {
-        end = at + size
+    function text(end,    shown) {
         while (at < end) shown = shown sprintf("%c", bytes[at++])
         return shown
     }
-    { for (i = 1; i <= NF; i++) bytes[count++] = $i }
-    END {
-        split("BadRequest NotRemotable InputMissing InputChanged SourceFault TooLarge AllFailed Cancelled PlaceFault JournalFull NoMemory Blocked", kinds, " ")
-        split("kind exit stdout stderr origin receipt placed reason value path first second ends", names, " ")
-        split("local remote cache", origins, " ")
-        kinds[0] = "Done"
-        size = ((bytes[1] * 256 + bytes[2]) * 256 + bytes[3]) * 256 + bytes[4]
-        if (count < 5 || bytes[0] != 2 || count != size + 5) exit 1
-        # a Done leaves its kind out, as every number that is 0
-        at = 5
-        if (bytes[at] != 8) print "kind: Done"
-        while (at < count) {
+    # the fields up to an offset, by their names in the order of their numbers
+    function show(end, list, before,    names, tag, name, value) {
+        split(list, names, " ")
+        while (at < end) {
             tag = varint()
             name = names[int(tag / 8)]
             value = varint()
-            if (tag % 8 == 2) shown = text(value)
-            if (tag % 8 == 2) value = name ~ /^(first|second|ends)$/ ? "a message of " value " bytes" : shown
-            if (name == "kind") value = kinds[value]
-            if (name == "origin") value = origins[value]
-            print name ": " value
+            if (name in within) {
+                show(at + value, within[name], before name " ")
+                continue
+            }
+            if (tag % 8 == 2) value = text(at + value)
+            if ((before name, value) in words) value = words[before name, value]
+            print before name ": " value
         }
+    }
+    function name_values(name, first, list,    values, i, n) {
+        n = split(list, values, " ")
+        for (i = 1; i <= n; i++) words[name, first + i - 1] = values[i]
+    }
+    { for (i = 1; i <= NF; i++) bytes[count++] = $i }
+    END {
+        size = ((bytes[1] * 256 + bytes[2]) * 256 + bytes[3]) * 256 + bytes[4]
+        if (count < 5 || bytes[0] != 2 || count != size + 5) exit 1
+        name_values("kind", 1, "BadRequest NotRemotable InputMissing InputChanged SourceFault TooLarge AllFailed Cancelled PlaceFault JournalFull NoMemory Blocked")
+        name_values("origin", 1, "local remote cache")
+        name_values("reason", 1, "CutShort TooLong BadKind BadMessage UnknownVersion WrongRoot BadField Trailing NotBuilt")
+        name_values("ends attempt", 1, "local remote")
+        within["ends"] = "attempt cause value path first second"
+        within["first"] = within["second"] = "kind size mark_above mark_below digest executable"
+        at = 5
+        # a Done leaves its kind out, as every number that is 0
+        if (bytes[at] != 8) print "kind: Done"
+        show(count, "kind exit stdout stderr origin receipt placed reason value path first second ends", "")
     }'
 }
