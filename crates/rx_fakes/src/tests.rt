@@ -2,11 +2,13 @@
 //! script says that it fails.
 
 use crate::{
-    Change, MemoryPlace, MemorySink, MemorySource, MemorySources, Script, SourceEntries,
-    honest_read,
+    Change, MemoryPlace, MemorySink, MemorySource, MemorySources, Script, SourceEntries, ToyBench,
+    ToyBenches, honest_read,
 };
-use rx_base::{Bytes, RelPath};
-use rx_world::{Failed, Look, Place, Sink, Source, Sources};
+use rx_base::{Bytes, Items, RelPath, TryClone};
+use rx_world::{
+    Bench, BenchMaker, Command, Failed, Look, Place, Refused, Sink, Source, Sources, Toy,
+};
 use std::alloc::{AllocError, Global};
 use std::marker::Brand;
 use std::test::Fail;
@@ -47,6 +49,52 @@ fn place(rt: HostRuntime) -> Result<(), Fail> {
     assert_eq!(rt; place.place(&path, b"de", true), Err(Failed));
     assert_eq!(rt; place.place(&path, b"fgh", false), Ok(()));
     assert_eq!(rt; place.files.len(), 1);
+    Ok(())
+}
+
+/// What the tool makes at an output of a tree with one file.
+fn output_of<B: Bench<Toy<Brand>>>(
+    bench: &mut B,
+    command: &Command,
+    input: &RelPath,
+    output: &RelPath,
+) -> Result<Option<Bytes>, Refused> {
+    bench.make_dir(input)?;
+    bench.put(output, b"abc", false)?;
+    bench.run(command)?;
+    let file = bench.take(output)?;
+    Ok(file.map(|f| f.bytes))
+}
+
+fn make_bench<M: BenchMaker<Toy<Brand>>>(maker: &mut M) -> Result<M::B, Failed> {
+    maker.make()
+}
+
+fn command(alloc: Global, output: RelPath) -> Result<Command, AllocError> {
+    Ok(Command {
+        words: Items::new(alloc),
+        environment: Items::new(alloc),
+        working_directory: RelPath::root(alloc),
+        outputs: Items::from_vec(vec![in alloc; output]?),
+        platform: Items::new(alloc),
+        timeout_seconds: 0,
+    })
+}
+
+/// What the tool makes at `b`, where `b` held `abc`.
+fn made_at_b(alloc: Global) -> Result<Option<Bytes>, Fail> {
+    let dir = RelPath::read(alloc, "d")?;
+    let path = RelPath::read(alloc, "b")?;
+    let command = command(alloc, path.try_clone(alloc)?)?;
+    let mut maker = ToyBenches::new(alloc, Vec::new(alloc), Script::empty(alloc));
+    let mut bench: ToyBench = make_bench(&mut maker)?;
+    Ok(output_of(&mut bench, &command, &dir, &path)?)
+}
+
+#[test]
+fn bench(rt: HostRuntime) -> Result<(), Fail> {
+    let bytes = made_at_b(rt.alloc())?.ok_or("no file")?;
+    assert_eq!(rt; bytes.as_slice(), b"b\nb 3 294\n".as_slice());
     Ok(())
 }
 
