@@ -1,6 +1,9 @@
 mod AnswerLemmas
 mod CourseLemmas
+mod EachDone
+mod Early
 mod InputLemmas
 mod LegalLemmas
+mod Quiet
 mod ReadyLemmas
 mod RunLemmas

@@ -5,6 +5,7 @@ pub mod Inputs
 pub mod Journal
 pub mod Meanings
 pub mod Proxy
+pub mod Quiet
 pub mod Ready
 pub mod Serves
 pub mod Session

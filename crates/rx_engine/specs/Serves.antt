@@ -1,10 +1,13 @@
 -- One session of a run: its own part, its number, and its part of the journal.
-use Rattle.std.specs.Prelude.{◌≡◌, ℕ, List}
+use Rattle.std.specs.Prelude.{◌≡◌, ◌<◌, ◌≤◌, ℕ, List, [], ◌∷◌, Option, length}
 use Rattle.rx_board.specs.declared.journal.Entry.{Entry}
 use Rattle.rx_engine.specs.declared.desk.Parts.{Parts}
 use Rattle.rx_engine.specs.declared.transcripts.Transcript.{Transcript}
+use Rattle.rx_session.specs.declared.requests.Request.{Request}
 use Rattle.rx_engine.specs.Journal.{IsJournalled}
 use Rattle.rx_engine.specs.Meanings.{Meanings}
+use Rattle.rx_engine.specs.Proxy.{Runs}
+use Rattle.rx_engine.specs.Quiet.{IsDoneOr, IsQuiet}
 use Rattle.rx_engine.specs.Session.{IsSession}
 
 pub record Serves {D I O T B : Type 0} (m : Meanings I O T B) (keeps : T → Type 0) (parts : D → Parts I O T B) (stamps_honest tools_honest : Type 0)
@@ -12,3 +15,18 @@ pub record Serves {D I O T B : Type 0} (m : Meanings I O T B) (keeps : T → Typ
   pub own : IsSession m keeps stamps_honest tools_honest root (parts desk) (parts back) t
   pub number_is : t.number ≡ number
   pub journal : IsJournalled limit old new before now t
+  pub later : before ≤ now
+
+-- each of these sessions that was quiet is done
+abbrev pub EachDone : {D : Type 0} → (D → D → List ℕ → Request → Type 0) → List D → List D → List Transcript → Type 0
+EachDone Quiet [] [] [] = Unit {0}
+EachDone Quiet (desk ∷ desks) (back ∷ backs) (t ∷ ts) =
+    ((bytes : List ℕ) (asked : Request) → Quiet desk back bytes asked → IsDoneOr t.ending t.reply) × EachDone Quiet desks backs ts
+EachDone Quiet desks backs ts = ⊥
+
+-- A run, and that each quiet session of it is done where the journal took all entries and the place never failed.
+pub record RunsDone {D I O T B : Type 0} (coming_old coming_new : Option (List D)) (m : Meanings I O T B) (keeps : T → Type 0) (parts : D → Parts I O T B) (stamps_honest tools_honest : Type 0)
+    (root : List ℕ) (limit : ℕ) (journal : List Entry) (faults : ℕ) (handed : List D) (transcripts : List Transcript) : Type 0 where
+  pub runs : Runs coming_old coming_new (Serves m keeps parts stamps_honest tools_honest root limit) [] journal 0 faults handed transcripts
+  pub done : length journal < limit → faults ≡ 0 →
+      EachDone (λ desk back bytes asked. IsQuiet m keeps stamps_honest tools_honest root (parts desk) (parts back) bytes asked) runs.left handed transcripts

@@ -4,7 +4,7 @@ ghost use Rattle.std.specs.Prelude.{◌≡◌, ◌≤◌, ◌↔◌, [], IfSome,
 ghost use Rattle.std.specs.List.{list_any};
 ghost use Rattle.rx_board.specs.Journal.{HoldsLast, IsKeptBy, count_short};
 ghost use Rattle.rx_engine.specs.Proxy.{HasStatus, IsLegal, IsStop, Runs, is_sink_lost, is_source_lost, status_of, status_over};
-ghost use Rattle.rx_engine.specs.Serves.{Serves};
+ghost use Rattle.rx_engine.specs.Serves.{RunsDone, Serves};
 ghost use Rattle.rx_engine.specs.Words.{root_in};
 
 use crate::desk::Front;
@@ -197,20 +197,20 @@ pub fn run_proxy<W: World, F: Front<W>, P: Place>(
     ensures usage { result.status ≡ 2 ↔ (root_in words.now ≡ None) }
     ensures unused { root_in words.now ≡ None → (result.front ≡ front) × (result.place ≡ place) × (result.transcripts.items ≡ []) }
     // Each desk that left the front has its transcript, with its own part and its part of the journal.
-    ensures sessions { IfSome (root_in words.now) (λ root. Runs (F.coming front) (F.coming result.front)
-        (Serves (record {
-          left = F.D.I.left;
-          input_faults = F.D.I.faults;
-          taken = F.D.O.taken;
-          output_faults = F.D.O.faults;
-          listed = F.D.T.listed;
-          given = F.D.T.given;
-          tree_faults = F.D.T.faults;
-          bench_faults = F.D.B.faults;
-          content = W.content;
-          tool = W.tool;
-        }) F.D.T.keeps F.D.parts W.stamps_honest W.tools_honest root JOURNAL_LIMIT)
-        [] result.journal.items 0 (P.faults result.place) result.desks.items result.transcripts.items) }
+    // Where nothing fails in an honest world, the request that its input tells is done, unless memory runs out.
+    ensures sessions { IfSome (root_in words.now) (λ root. RunsDone (F.coming front) (F.coming result.front) (record {
+      left = F.D.I.left;
+      input_faults = F.D.I.faults;
+      taken = F.D.O.taken;
+      output_faults = F.D.O.faults;
+      listed = F.D.T.listed;
+      given = F.D.T.given;
+      tree_faults = F.D.T.faults;
+      bench_faults = F.D.B.faults;
+      content = W.content;
+      tool = W.tool;
+    }) F.D.T.keeps F.D.parts W.stamps_honest W.tools_honest root JOURNAL_LIMIT
+        result.journal.items (P.faults result.place) result.desks.items result.transcripts.items) }
     // The journal is the sessions' entries, in their order.
     ensures legal { IsLegal 1 result.journal.items result.transcripts.items }
     // The place holds what the journal leaves of its opening contents: at each path the last entry's file.

@@ -10,6 +10,8 @@ ghost use Rattle.rx_world.specs.Causes.{Rose};
 ghost use Rattle.rx_engine.specs.Answered.{IsPlain, reply_no_memory};
 ghost use Rattle.rx_engine.specs.Inputs.{Gives};
 ghost use Rattle.rx_engine.specs.Journal.{IsJournalled};
+ghost use Rattle.rx_session.specs.declared.requests.Request.{Request};
+ghost use Rattle.rx_engine.specs.Quiet.{HasRoom, IsDoneOr, IsQuiet};
 ghost use Rattle.rx_engine.specs.Ready.{EntersReady, Finishes, IsLost, IsOrGivenUp, IsReady, IsRefusalOf};
 ghost use Rattle.rx_engine.specs.Session.{IsSession};
 
@@ -246,6 +248,22 @@ pub fn serve_session<W: World, D: Desk<W>, P: Place>(
     ensures number { result.0.number ≡ number }
     // The journal's part: at most one entry, of this session's files.
     ensures journal { IsJournalled shared.old.board.limit shared.old.board.journal shared.new.board.journal (P.faults shared.old.board.place) (P.faults shared.new.board.place) result.0 }
+    // Where nothing fails in an honest world, the request that the input tells is done, unless memory runs out.
+    ensures complete { (bytes : List ℕ) (asked : Request) →
+        IsQuiet (record {
+          left = D.I.left;
+          input_faults = D.I.faults;
+          taken = D.O.taken;
+          output_faults = D.O.faults;
+          listed = D.T.listed;
+          given = D.T.given;
+          tree_faults = D.T.faults;
+          bench_faults = D.B.faults;
+          content = W.content;
+          tool = W.tool;
+        }) D.T.keeps W.stamps_honest W.tools_honest shared.old.root (D.parts desk) (D.parts result.1) bytes asked →
+        HasRoom shared.old.board.limit shared.old.board.journal (P.faults shared.old.board.place) (P.faults shared.new.board.place) →
+        IsDoneOr result.0.ending result.0.reply }
     ensures limit { shared.new.board.limit ≡ shared.old.board.limit }
     ensures root { shared.new.root ≡ shared.old.root }
     ensures opening { P.opening shared.new.board.place ≡ P.opening shared.old.board.place }

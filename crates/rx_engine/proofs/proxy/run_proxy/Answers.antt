@@ -1,6 +1,12 @@
 use Rattle.std.proofs.Common.{[], ap, ◌≡◌}
+use Rattle.rx_engine.proofs.EachDone.{runs-done}
 use Rattle.rx_engine.proofs.LegalLemmas.{run_legal}
 use Rattle.rx_engine.proofs.proxy.run_proxy.Goals as goal
+
+pub returns-clause-sessions : goal.returns-clause-sessions
+returns-clause-sessions g c =
+    let runs = rw (c.new-board.ensures, c.requires.quiet) at c.serve_words-status.ensures.runs in
+    rw (← c.in-Some.ensures, c.into_parts-place.ensures.journal, c.into_parts-place.ensures.place) (runs-done _ _ _ _ _ _ _ _ _ _ _ _ _ runs)
 
 pub returns-clause-legal : goal.returns-clause-legal
 returns-clause-legal g c =
