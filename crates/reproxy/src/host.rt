@@ -1,0 +1,26 @@
+//! The outside as the machine has it: files, child programs and the standard streams. Each adapter
+//! counts its faults and tells nothing of contents, so what the machine does is trusted and no
+//! contract speaks of it.
+
+mod below;
+mod bench;
+mod benches;
+mod desk;
+mod faults;
+mod files;
+mod listing;
+mod looks;
+mod names;
+mod place;
+mod streams;
+mod world;
+
+pub(crate) use benches::HostBenches;
+pub(crate) use desk::{HostDesk, HostFront};
+pub(crate) use files::HostSources;
+pub(crate) use place::HostPlace;
+pub(crate) use streams::{HostSink, HostSource};
+pub(crate) use world::HostWorld;
+
+#[cfg(test)]
+mod tests;

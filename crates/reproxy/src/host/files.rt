@@ -1,0 +1,111 @@
+//! The source tree of the host: the files below a root directory.
+
+ghost use Rattle.std.specs.Prelude.{◌≡◌, [], None, IfOk};
+ghost use Rattle.rx_world.specs.Sources.{HasBytes};
+
+use super::below::Below;
+use super::faults::Faults;
+use super::looks::{content_mark, look_with, time_mark};
+use super::world::HostWorld;
+use rx_base::{Bytes, Items, RelPath};
+use rx_world::{Failed, Found, Look, Refused, Sources};
+use std::fs::{Files, Metadata};
+use std::io;
+
+/// The files below a root directory. A link is Other and is never followed. Nothing stands below
+/// what is no directory.
+#[derive(Drop)]
+pub(crate) struct HostSources<R> {
+    pub(super) tree: Below<R>,
+    faults: Faults,
+}
+
+impl<R: Files + AllocGlobal + Clone + Drop> HostSources<R> {
+    /// The files below this directory.
+    pub(crate) fn new(rt: R, root: String) -> HostSources<R> {
+        HostSources {
+            tree: Below::new(rt, root),
+            faults: Faults::new(),
+        }
+    }
+
+    /// What stands at a path.
+    fn look_at(&self, path: &RelPath) -> io::Result<Look> {
+        let standing = self.tree.find(path)?;
+        self.look_of(path, standing.metadata.as_ref())
+    }
+
+    /// The look of a path that the system tells this of. The content is read only for its mark.
+    pub(super) fn look_of(&self, path: &RelPath, metadata: Option<&Metadata>) -> io::Result<Look> {
+        match time_mark_of(metadata) {
+            Some(mark) => Ok(look_with(metadata, mark)),
+            None => Ok(self.read_at(path)?.0),
+        }
+    }
+
+    /// What stands at a path, with the bytes of a file.
+    fn read_at(&self, path: &RelPath) -> io::Result<(Look, Bytes)>
+        ensures { IfOk result (λ read. HasBytes read.0 read.1) }
+    {
+        let read = self.tree.read(path)?;
+        let metadata = read.metadata.as_ref();
+        let mark = match time_mark_of(metadata) {
+            Some(mark) => mark,
+            None => content_mark(read.bytes.as_slice()),
+        };
+        match look_with(metadata, mark) {
+            Look::File { stamp, executable } => Ok((
+                Look::File { stamp, executable },
+                Bytes::from_vec(read.bytes),
+            )),
+            Look::Absent => Ok((Look::Absent, self.no_bytes())),
+            Look::Dir => Ok((Look::Dir, self.no_bytes())),
+            Look::Other => Ok((Look::Other, self.no_bytes())),
+        }
+    }
+
+    fn no_bytes(&self) -> Bytes
+        ensures { result ≡ [] }
+    {
+        Bytes::new(self.tree.runtime().alloc())
+    }
+}
+
+/// The time mark of what the system tells this of; what is no file needs none.
+fn time_mark_of(metadata: Option<&Metadata>) -> Option<u128> {
+    match metadata {
+        Some(metadata) if metadata.is_file() => time_mark(metadata),
+        _ => Some(0),
+    }
+}
+
+impl<R: Files + AllocGlobal + Clone + Drop> Sources<HostWorld> for HostSources<R> {
+    ghost listed = { λ s. None };
+
+    ghost keeps = { λ s. ⊥ };
+
+    ghost given = { λ s. None };
+
+    ghost faults = { λ s. s.faults.count };
+
+    fn look(&mut self, path: &RelPath) -> Result<Look, Failed> {
+        match self.look_at(path) {
+            Ok(look) => Ok(look),
+            Err(error) => Err(self.faults.failed(error)),
+        }
+    }
+
+    fn read(&mut self, path: &RelPath) -> Result<(Look, Bytes), Refused> {
+        match self.read_at(path) {
+            Ok(read) => Ok(read),
+            Err(error) => Err(self.faults.refused(error)),
+        }
+    }
+
+    fn list(&mut self, under: &RelPath, most: usize) -> Result<Items<Found>, Refused> {
+        match self.list_at(under, most) {
+            Ok(found) => Ok(found),
+            Err(error) => Err(self.faults.refused(error)),
+        }
+    }
+}

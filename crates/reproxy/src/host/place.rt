@@ -1,0 +1,95 @@
+//! The place of the host: files below a root directory, each put there whole.
+
+ghost use Rattle.std.specs.Prelude.{◌≡◌, None};
+
+use super::below::Below;
+use super::faults::Faults;
+use super::names::FreshNames;
+use rx_base::RelPath;
+use rx_world::{Failed, Place};
+use std::fs::Files;
+use std::io::{Error, ErrorKind};
+use std::{fs, io};
+
+/// How many names are tried for one new file.
+const WRITE_TRIES: u32 = 4096;
+
+/// The files below a root directory. A new file is written beside its target, with mode 0755 or
+/// 0644, and renamed, so that its path has the old file or the new one at any time.
+#[derive(Drop)]
+pub(crate) struct HostPlace<R> {
+    tree: Below<R>,
+    names: FreshNames,
+    faults: Faults,
+}
+
+impl<R: Files + AllocGlobal> HostPlace<R> {
+    /// The files below this directory, for the process with this number.
+    pub(crate) fn new(rt: R, root: String, process: u32) -> HostPlace<R>
+        ensures { result.faults.count ≡ 0 }
+    {
+        HostPlace {
+            tree: Below::new(rt, root),
+            names: FreshNames::new(process),
+            faults: Faults::new(),
+        }
+    }
+}
+
+/// Makes the directories above a path, and puts the file there. Where a step fails no new file is
+/// left.
+fn put<R: Files + AllocGlobal>(
+    tree: &Below<R>,
+    names: &mut FreshNames,
+    path: &RelPath,
+    bytes: &[u8],
+    executable: bool,
+) -> io::Result<()> {
+    if path.is_root() {
+        return Err(Error::from(ErrorKind::IsADirectory));
+    }
+    let directory = tree.make_parent(path)?;
+    let target = tree.text_of(path.as_str())?;
+    let beside = write_beside(tree, names, directory.as_str(), bytes, executable)?;
+    let renamed = fs::rename(tree.runtime(), beside.as_str(), target.as_str());
+    if renamed.is_err() {
+        let _ = fs::remove_file(tree.runtime(), beside.as_str());
+    }
+    renamed
+}
+
+/// Writes a file that wasn't there into a directory, and answers its path.
+fn write_beside<R: Files + AllocGlobal>(
+    tree: &Below<R>,
+    names: &mut FreshNames,
+    directory: &str,
+    bytes: &[u8],
+    executable: bool,
+) -> io::Result<String> {
+    let alloc = tree.runtime().alloc();
+    let before = format!(in alloc; "{directory}/.")?;
+    for _ in 0..WRITE_TRIES {
+        let text = names.next(alloc, before.as_str())?;
+        match tree.write_new(text.as_str(), bytes, executable) {
+            Ok(()) => return Ok(text),
+            Err(error) if error.kind() == ErrorKind::AlreadyExists => {}
+            Err(error) => return Err(error),
+        }
+    }
+    Err(Error::from(ErrorKind::AlreadyExists))
+}
+
+impl<R: Files + AllocGlobal> Place for HostPlace<R> {
+    ghost contents = { λ s. None };
+
+    ghost opening = { λ s. None };
+
+    ghost faults = { λ s. s.faults.count };
+
+    fn place(&mut self, path: &RelPath, bytes: &[u8], executable: bool) -> Result<(), Failed> {
+        match put(&self.tree, &mut self.names, path, bytes, executable) {
+            Ok(()) => Ok(()),
+            Err(error) => Err(self.faults.failed(error)),
+        }
+    }
+}

@@ -1,0 +1,44 @@
+//! One run of the proxy over the machine.
+
+use crate::host::{
+    HostBenches, HostDesk, HostFront, HostPlace, HostSink, HostSource, HostSources, HostWorld,
+};
+use crate::words::root_of;
+use rx_engine::run_proxy;
+use std::alloc::AllocError;
+use std::io::{Print, Read};
+use std::process;
+
+/// The directory below which commands are staged.
+const SCRATCH: &str = "/tmp";
+
+/// The root of the place where the words name none. Nothing is placed there.
+const NO_ROOT: &str = "/nonexistent";
+
+/// Serves what the words ask for, by one desk over these streams, and answers the status.
+pub(crate) fn serve<I: Read + Send + Drop, O: Print + Send + Drop>(
+    rt: HostRuntime,
+    words: &[String],
+    input: I,
+    output: O,
+) -> Result<u8, AllocError> {
+    let alloc = rt.alloc();
+    let process = process::id(rt.process());
+    let root = root_of(words);
+    let desk = match root {
+        Some(root) => Some(HostDesk {
+            input: HostSource::new(input),
+            output: HostSink::new(output),
+            tree: HostSources::new(rt, String::from_str(alloc, root)?),
+            benches: HostBenches::new(rt, String::from_str(alloc, SCRATCH)?, process),
+        }),
+        None => None,
+    };
+    let place = HostPlace::new(
+        rt,
+        String::from_str(alloc, root.unwrap_or(NO_ROOT))?,
+        process,
+    );
+    let ran = run_proxy::<HostWorld, _, _>(alloc, words, HostFront { desk }, place);
+    Ok(ran.status)
+}

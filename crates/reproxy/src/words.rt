@@ -1,0 +1,25 @@
+//! The words of the command line, as far as the outside depends on them.
+
+/// What `--help` prints.
+pub(crate) const USAGE: &str = "usage: reproxy exec --root PATH
+Serves one request: its frame comes from standard input, the reply goes to standard output.
+PATH begins with a slash. Its files are the source tree and the place for outputs.
+";
+
+/// Whether the words are `--help` alone.
+pub(crate) fn is_help(words: &[String]) -> bool {
+    match words {
+        [word] => word.as_str() == "--help",
+        _ => false,
+    }
+}
+
+/// The root in the words `exec --root PATH`. Words that name none are refused by the run.
+pub(crate) fn root_of(words: &[String]) -> Option<&str> {
+    match words {
+        [command, option, path]
+            if command.as_str() == "exec" && option.as_str() == "--root" && path.starts_with('/') =>
+            { Some(path.as_str()) }
+        _ => None,
+    }
+}
