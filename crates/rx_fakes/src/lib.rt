@@ -6,6 +6,7 @@
 mod bench;
 mod benches;
 mod copies;
+mod desk;
 mod entries;
 mod files;
 mod found;
@@ -21,6 +22,7 @@ mod told;
 
 pub use bench::ToyBench;
 pub use benches::ToyBenches;
+pub use desk::{MemoryDesk, MemoryFront};
 pub use entries::SourceEntries;
 pub use honest::honest_read;
 pub use place::MemoryPlace;
