@@ -33,4 +33,6 @@ pub use source::{MemorySource, QuietSource};
 pub use sources::{Change, MemorySources};
 
 #[cfg(test)]
+mod rows;
+#[cfg(test)]
 mod tests;
