@@ -1,11 +1,12 @@
 -- Bytes without splices are letters; from dull bytes come dull letters.
-use Rattle.std.proofs.Common.{◌≡◌, ◌≢◌, ℕ, zero, suc, ◌+◌, ◌-◌, ◌<◌, ◌≤◌, List, [], ◌∷◌, ◌++◌, length, length-drop, get_or, drop, take, refl, ap, sym, subst, ◌∙◌, arith, Bool, true, false, cond, ◌||◌, ◌==◌}
-use Rattle.std.specs.Prelude.{codes}
+use Rattle.std.proofs.Common.{not, ◌≡◌, ◌≢◌, ℕ, zero, suc, ◌+◌, ◌-◌, ◌<◌, ◌≤◌, List, [], ◌∷◌, ◌++◌, length, length-drop, get_or, drop, take, refl, ap, sym, subst, ◌∙◌, arith, Bool, true, false, cond, ◌||◌, ◌==◌}
+use Rattle.std.specs.Prelude.{codes, min}
 use Rattle.std.proofs.lemmas.Bool.Decides.{nat_tests}
 use Rattle.std.proofs.lemmas.List.{get_or-drop, get_or-take, length-take-le}
-use Rattle.memchr.specs.Find.{NoneBefore, Nowhere, OccursAt, is_byte}
+use Rattle.memchr.specs.Find.{NoneBefore, Nowhere, OccursAt, Passes, is_byte}
 use Rattle.rx_lex.specs.Letters.{IsNext, Letter, begins, letter_before, letters_at}
-use Rattle.rx_lex.specs.Quiet.{Absent, IsDull, IsLineEnd, Run, is_dull}
+use Rattle.rx_lex.specs.Quiet.{IsAhead, IsDull, IsLineEnd, Run, is_dull, opens_literal, opens_mark, quiet_end}
+use Rattle.rx_lex.specs.declared.quiet.Ahead.{Ahead}
 use Rattle.rx_lex.proofs.LetterLemmas.{fails, next_plain, range_all}
 
 -- so many bytes as letters
@@ -16,15 +17,48 @@ plain text at (suc n) = letter_before text (get_or text at 0) (at + 1) ∷ plain
 pub record IsQuiet (text : List ℕ) (from to : ℕ) : Type 0 where
   pub within : to ≤ length text
   pub dull : (k : ℕ) → from ≤ k → k < to → is_dull (get_or text k 0) ≡ true
-  pub import_word : Absent text (codes "import") from to
-  pub module_word : Absent text (codes "module") from to
+  pub import_word : Nowhere (OccursAt text (codes "import")) from to
+  pub module_word : Nowhere (OccursAt text (codes "module")) from to
 
-quiet_later : (text : List ℕ) (at n : ℕ) → IsQuiet text at (at + suc n) → IsQuiet text (at + 1) (at + 1 + n)
-quiet_later text at n q = record {
+-- what is nowhere is nowhere in a part
+nowhere_part : (P : ℕ → Type 0) (i j low high : ℕ) → Nowhere P i j → i ≤ low → high ≤ j → Nowhere P low high
+nowhere_part P i j low high h a b = λ k above below. h k (omega arith) (omega arith)
+
+quiet_part : (text : List ℕ) (from to low high : ℕ) → IsQuiet text from to → from ≤ low → high ≤ to → IsQuiet text low high
+quiet_part text from to low high q a b = record {
   within = omega (arith, q.within);
   dull = λ k above below. q.dull k (omega arith) (omega arith);
-  import_word = λ k above below. q.import_word k (omega arith) (omega arith);
-  module_word = λ k above below. q.module_word k (omega arith) (omega arith);
+  import_word = nowhere_part (OccursAt text (codes "import")) from to low high q.import_word a b;
+  module_word = nowhere_part (OccursAt text (codes "module")) from to low high q.module_word a b;
+}
+
+pub ahead_later : (text : List ℕ) (at later : ℕ) (ahead : Ahead) → IsAhead text at ahead → at ≤ later → IsAhead text later ahead
+ahead_later text at later ahead h a = record {
+  import_word = nowhere_part (OccursAt text (codes "import")) at ahead.import_at later ahead.import_at h.import_word a (omega arith);
+  module_word = nowhere_part (OccursAt text (codes "module")) at ahead.module_at later ahead.module_at h.module_word a (omega arith);
+  literal = nowhere_part (Passes opens_literal text) at ahead.literal_at later ahead.literal_at h.literal a (omega arith);
+  mark = nowhere_part (Passes opens_mark text) at ahead.mark_at later ahead.mark_at h.mark a (omega arith);
+}
+
+pub ahead_nothing : (text : List ℕ) (at : ℕ) (ahead : Ahead) → ahead ≡ (record { import_at = 0; module_at = 0; literal_at = 0; mark_at = 0 }) → IsAhead text at ahead
+ahead_nothing text at ahead e = subst (λ (ahead : Ahead). IsAhead text at ahead) (sym e) (record {
+  import_word = λ k above below. absurd (omega arith);
+  module_word = λ k above below. absurd (omega arith);
+  literal = λ k above below. absurd (omega arith);
+  mark = λ k above below. absurd (omega arith);
+})
+
+dull_by : (x y : Bool) → x ≡ false → y ≡ false → not (x || y) ≡ true
+dull_by x y e f = rw (e, f) refl
+
+pub quiet_ahead : (text : List ℕ) (at : ℕ) (ahead : Ahead) → IsAhead text at ahead → quiet_end ahead ≤ length text → IsQuiet text at (quiet_end ahead)
+quiet_ahead text at ahead h room = record {
+  within = room;
+  dull = λ k above below. dull_by (opens_literal (get_or text k 0)) (opens_mark (get_or text k 0))
+      (fails (opens_literal (get_or text k 0)) (h.literal k above (omega arith)))
+      (fails (opens_mark (get_or text k 0)) (h.mark k above (omega arith)));
+  import_word = nowhere_part (OccursAt text (codes "import")) at ahead.import_at at (quiet_end ahead) h.import_word (omega arith) (omega arith);
+  module_word = nowhere_part (OccursAt text (codes "module")) at ahead.module_at at (quiet_end ahead) h.module_word (omega arith) (omega arith);
 }
 
 dull_no_backslash : (b : ℕ) → is_dull b ≡ true → b ≢ 92
@@ -37,7 +71,7 @@ plain_is text (suc n) at q =
     let next : IsNext text at (get_or text at 0) (at + 1) = next_plain text at (omega (arith, q.within)) (dull_no_backslash (get_or text at 0) here) in
     let place : at + 1 + n ≡ at + suc n = omega arith in
     let l : Letter = letter_before text (get_or text at 0) (at + 1) in
-    next.is ∙ (ap (λ (ls : List Letter). l ∷ ls) (plain_is text n (at + 1) (quiet_later text at n q))
+    next.is ∙ (ap (λ (ls : List Letter). l ∷ ls) (plain_is text n (at + 1) (quiet_part text at (at + suc n) (at + 1) (at + 1 + n) q (omega arith) (omega arith)))
     ∙ ap (λ (p : ℕ). l ∷ (plain text (at + 1) n ++ letters_at text p)) place)
 
 -- a word that the letters begin with occurs in the text
@@ -74,7 +108,7 @@ pub plain_quiet : (text : List ℕ) (n at : ℕ) → IsQuiet text at (at + n) �
 plain_quiet text zero at q = tt
 plain_quiet text (suc n) at q = (
   q.dull at (omega arith) (omega arith),
-  plain_quiet text n (at + 1) (quiet_later text at n q),
+  plain_quiet text n (at + 1) (quiet_part text at (at + suc n) (at + 1) (at + 1 + n) q (omega arith) (omega arith)),
   neither (begins (codes "import") (plain text at (suc n))) (begins (codes "module") (plain text at (suc n)))
       (fails (begins (codes "import") (plain text at (suc n)))
       (λ e. q.import_word at (omega arith) (omega arith) (begins_occurs text (codes "import") (suc n) at (omega (arith, q.within)) e)))
@@ -86,23 +120,21 @@ line_no_backslash : (b : ℕ) → b ≡ 10 → b ≢ 92
 line_no_backslash b h e = grind arith
 
 -- from what was looked at to a run
-pub run_of : (text : List ℕ) (from to place : ℕ) → IsQuiet text from to → from ≤ place → place < to → get_or text place 0 ≡ 10 → Run text from place
-run_of text from to place q on before h =
+pub run_of : (text : List ℕ) (from to place : ℕ) → IsQuiet text from to → IsLineEnd text from to place → Run text from (place + 1)
+run_of text from to place q line =
     let n : ℕ = place - from in
-    let e : from + n ≡ place = omega arith in
-    let quiet : IsQuiet text from (from + n) = record {
-      within = omega (arith, q.within);
-      dull = λ k above below. q.dull k above (omega arith);
-      import_word = λ k above below. q.import_word k above (omega arith);
-      module_word = λ k above below. q.module_word k above (omega arith);
-    } in
-    let next : IsNext text place (get_or text place 0) (place + 1) = next_plain text place (omega (arith, q.within)) (line_no_backslash (get_or text place 0) h) in
+    let e : from + n ≡ place = omega (arith, line.on) in
+    let quiet : IsQuiet text from (from + n) = quiet_part text from to from (from + n) q (omega arith) (omega (arith, line.before)) in
+    let next : IsNext text place (get_or text place 0) (place + 1) =
+    next_plain text place (omega (arith, q.within, line.before)) (line_no_backslash (get_or text place 0) line.is) in
     record {
       run = plain text from n;
-      is = plain_is text n from quiet ∙ ap (λ (p : ℕ). plain text from n ++ letters_at text p) e;
+      last = letter_before text (get_or text place 0) (place + 1);
+      is = plain_is text n from quiet
+          ∙ (ap (λ (p : ℕ). plain text from n ++ letters_at text p) e
+          ∙ ap (λ (ls : List Letter). plain text from n ++ ls) next.is);
       dull = plain_quiet text n from quiet;
-      rest = letters_at text (place + 1);
-      stop = next.is ∙ ap (λ (b : ℕ). letter_before text b (place + 1) ∷ letters_at text (place + 1)) h;
+      line_end = line.is;
     }
 
 -- a word that occurs in a text occurs in its rest
@@ -114,18 +146,18 @@ occurs_behind text word at k above o = record {
       get_or-drop at text (k - at + j) 0 ∙ (ap (λ (p : ℕ). get_or text p 0) place ∙ o.reads j below);
 }
 
-pub absent_found : (text word : List ℕ) (at n : ℕ) → at ≤ length text
+pub word_found : (text word : List ℕ) (at n : ℕ) → at ≤ length text
     → NoneBefore (OccursAt (take (length text - at) (drop at text)) word) 0 (length (take (length text - at) (drop at text)) + 1) n
-    → Absent text word at (at + n)
-absent_found text word at n room h =
+    → Nowhere (OccursAt text word) at (at + n)
+word_found text word at n room h =
     let e = range_all text at in
     let g = rw e at h in
     λ k above below o. g.before (k - at) (omega arith) (omega arith) (occurs_behind text word at k above o)
 
-pub absent_any : (text word : List ℕ) (at : ℕ) → at ≤ length text
+pub word_nowhere : (text word : List ℕ) (at : ℕ) → at ≤ length text
     → Nowhere (OccursAt (take (length text - at) (drop at text)) word) 0 (length (take (length text - at) (drop at text)) + 1)
-    → Absent text word at (length text)
-absent_any text word at room h =
+    → Nowhere (OccursAt text word) at (length text)
+word_nowhere text word at room h =
     let e = range_all text at in
     let g = rw e at h in
     λ k above below o. g (k - at) (omega arith) (omega (arith, length-drop at text)) (occurs_behind text word at k above o)

@@ -240,10 +240,10 @@ given_line line l ls h d =
     ∙ given_skip at (pieces_from [] ls) refl (hard_not line p d (no_module (is_empty line) (is_exported line)) refl tt) refl
 
 pub given_run : (line : List Piece) (run rest : List Letter) (l : Letter) → is_directive line ≡ false → IsDull run → l.byte ≡ 10
-    → given_by (pieces_from line (run ++ l ∷ rest)) ≡ given_by (pieces_from [] (l ∷ rest))
+    → given_by (pieces_from line (run ++ (l ∷ rest))) ≡ given_by (pieces_from [] rest)
 given_run line run rest l d u h =
     let passed : Passed line run (l ∷ rest) = dull_run (suc (length run)) line run (l ∷ rest) (omega arith) d u (is_line l.byte h) in
-    passed.same ∙ (given_line passed.line2 l rest h passed.plain ∙ sym (given_line [] l rest h refl))
+    passed.same ∙ given_line passed.line2 l rest h passed.plain
 
 goes_either : (text : List ℕ) (all : List Placed) (anywhere : Bool) (line : Line) (at : ℕ) (list : List Name) (hard raw : Bool) (place : Place)
     → Goes text all anywhere line at list hard raw
@@ -255,12 +255,9 @@ goes_either text all anywhere line at list hard raw place g (inl same) =
 goes_either text all anywhere line at list hard raw place g (inr passed) =
     let run : Run text at place.at = passed.2 in
     let plain : is_directive g.before ≡ false = ap (λ (x : Line). x.directive) g.stands ∙ passed.0 in
-    let first : Letter = letter_before text 10 (place.at + 1) in
-    let before : List Placed = pieces_from g.before (letters_at text at) in
-    let after : List Placed = pieces_from [] (letters_at text place.at) in
-    let same : given_by before ≡ given_by after =
-    ap (λ (ls : List Letter). given_by (pieces_from g.before ls)) (run.is ∙ ap (λ (ls : List Letter). run.run ++ ls) run.stop)
-    ∙ (given_run g.before run.run run.rest first plain run.dull refl ∙ ap (λ (ls : List Letter). given_by (pieces_from [] ls)) (sym run.stop)) in
+    let same : given_by (pieces_from g.before (letters_at text at)) ≡ given_by (pieces_from [] (letters_at text place.at)) =
+    ap (λ (ls : List Letter). given_by (pieces_from g.before ls)) run.is
+    ∙ given_run g.before run.run (letters_at text place.at) run.last plain run.dull run.line_end in
     record {
       before = [];
       stands = sym passed.1;

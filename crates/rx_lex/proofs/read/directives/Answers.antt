@@ -2,8 +2,7 @@ use Rattle.std.proofs.Common.{false, ◌||◌, ◌≡◌, List, [], map, ap, sub
 use Rattle.rx_lex.specs.Letters.{letters, letters_from}
 use Rattle.rx_lex.specs.Directives.{Name, is_hard_anywhere}
 use Rattle.rx_lex.specs.Found.{name_view}
-use Rattle.rx_lex.specs.Quiet.{IsAhead}
-use Rattle.rx_lex.specs.declared.quiet.Ahead.{Ahead}
+use Rattle.rx_lex.proofs.QuietLemmas.{ahead_later, ahead_nothing}
 use Rattle.rx_lex.proofs.RunLemmas.{goes_skips}
 use Rattle.rx_lex.proofs.PlacedLemmas.{pieces_from}
 use Rattle.rx_lex.proofs.WalkLemmas.{Goes, goes_ends, goes_next, goes_starts}
@@ -20,8 +19,7 @@ loop-first-init c =
           (sym (ap (λ xs. map name_view xs) c.new-list.ensures.items))
           (goes_starts text from line hard (ap (letters_from 0) c.text_start-from.ensures.value) c.start-line.ensures c.is_hard_anywhere-hard.ensures);
       known = λ p above below. absurd (omega arith);
-      ahead = subst (λ (ahead : Ahead). IsAhead text from ahead) (sym c.nothing_ahead-ahead.ensures)
-          (record { import_word = λ k above below. absurd (omega arith); module_word = λ k above below. absurd (omega arith) });
+      ahead = ahead_nothing text from c.nothing_ahead-ahead.result c.nothing_ahead-ahead.ensures;
       within = c.text_start-from.ensures.within;
     }
 
@@ -30,12 +28,8 @@ read_piece-requires-clause-known c = λ p above below. c.loop-first.invariant.kn
 
 pub skip_lines-requires-clause-known : goal.skip_lines-requires-clause-known
 skip_lines-requires-clause-known c =
-    let known = c.loop-first.invariant.ahead in
-    let on = c.in_ok-piece.ensures.on in
-    record {
-      import_word = λ k above below. known.import_word k (omega (arith, on, c.in-Some.ensures.on)) below;
-      module_word = λ k above below. known.module_word k (omega (arith, on, c.in-Some.ensures.on)) below;
-    }
+    ahead_later c.args.text.now c.loop-first.at c.in_ok-piece.piece.end c.loop-first.ahead c.loop-first.invariant.ahead
+    (omega (arith, c.in_ok-piece.ensures.on, c.in-Some.ensures.on))
 
 pub loop-first-preserved : goal.loop-first-preserved
 loop-first-preserved c =
