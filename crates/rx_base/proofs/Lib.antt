@@ -1,4 +1,5 @@
 pub mod DigestLemmas
+pub mod FrontOrder
 pub mod Orders
 pub mod PathAbove
 pub mod PathAgain
@@ -7,3 +8,4 @@ pub mod PathBelow
 pub mod PathShape
 pub mod PathsSorted
 pub mod ResultLemmas
+pub mod SortedSearch

@@ -11,8 +11,8 @@ use Rattle.std.proofs.lemmas.List.Kept.{IsStrictlySortedBy-dedup, Contains-dedup
 use Rattle.std.proofs.lemmas.List.Sorted.{Contains-permutation, IsPermutation-sym}
 use Rattle.std.proofs.lemmas.Map.Text.{is_eq-slice_cmp}
 use Rattle.std.proofs.lemmas.Slice.Eq.{bytes_eq-Decides}
-use Rattle.rx_base.specs.SortedPaths.{sorted_paths, HasSameMembers}
-use Rattle.rx_base.proofs.Orders.{is_sorted_once}
+use Rattle.rx_base.specs.SortedPaths.{sorted_paths, AreSorted, HasSameMembers}
+use Rattle.rx_base.proofs.Orders.{is_sorted_once, IsStrictlySortedBy-sorted_once}
 
 pub ascending : (sorted once : List (List ℕ)) → IsSorted (slice_cmp nat_cmp) sorted → IsFiltered (DiffersFromLast bytes_eq) [] sorted once → IsStrictlySortedBy (slice_cmp nat_cmp) once
 ascending sorted once s kept =
@@ -29,3 +29,7 @@ members paths sorted once p kept =
 pub sorted_is : (paths sorted once : List (List ℕ)) → IsPermutation paths sorted → IsSorted (slice_cmp nat_cmp) sorted → IsFiltered (DiffersFromLast bytes_eq) [] sorted once → once ≡ sorted_paths paths
 sorted_is paths sorted once p s kept =
     is_sorted_once nat_list_cmp_total (slice_cmp-IsAntisymmetric nat_cmp-IsAntisymmetric) paths once (ascending sorted once s kept) (members paths sorted once p kept)
+
+-- the list that a sort gives is sorted
+pub AreSorted-sorted_paths : (paths : List (List ℕ)) → AreSorted (sorted_paths paths)
+AreSorted-sorted_paths paths = IsStrictlySortedBy-sorted_once nat_list_cmp_total (slice_cmp-IsAntisymmetric nat_cmp-IsAntisymmetric) paths

@@ -18,7 +18,7 @@ pub use item_list::Items;
 pub use memory::{NoMemory, TryClone};
 pub use path_fault::PathFault;
 pub use paths::{MAX_PATH_LEN, RelPath};
-pub use sorted_paths::sort_paths;
+pub use sorted_paths::{first_above, first_at_or_above, first_below, sort_paths};
 pub use text_list::Text;
 
 #[cfg(test)]
