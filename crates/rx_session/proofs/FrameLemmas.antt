@@ -12,7 +12,7 @@ use Rattle.rx_session.specs.declared.bad.SessionFault.{SessionFault}
 use Rattle.rx_session.specs.declared.bad.SessionFault.TheVariants as faults
 use Rattle.rx_session.specs.declared.requests.Request.{Request}
 use Rattle.rx_session.specs.Bad.{Decodes, bad}
-use Rattle.rx_session.specs.Frames.{EndsRead, alone, len_in, payload_request, request_of, request_within}
+use Rattle.rx_session.specs.Frames.{EndsRead, alone, len_in, payload_request, reach_by, reach_of, request_of, request_within}
 use Rattle.rx_session.specs.Streams.{IsNoBad, IsNoCut, IsNoCutPast, ReadsOn}
 
 -- ---- pieces that were read one after the other
@@ -81,6 +81,20 @@ unfolding request_of
 request_of-header root len head text more h e =
     let told : len_in text ≡ Ok len = rw e (len_in-more len head more h) in
     rw told refl
+
+-- ---- how far is read
+
+five_reached : (told : Result ℕ Bad) → 5 ≤ reach_by told
+five_reached (Ok len) = omega arith
+five_reached (Err why) = omega arith
+
+pub reach-header : (text : List ℕ) → length text ≤ 5 → length text ≤ reach_of text
+reach-header text h = let five = five_reached (len_in text) in omega (arith, h, five)
+
+pub reach-told : (len : ℕ) (head text more : List ℕ) → len_in head ≡ Ok len → text ≡ head ++ more → length text ≤ 5 + len + 1 → length text ≤ reach_of text
+reach-told len head text more h e le =
+    let told : len_in text ≡ Ok len = rw e (len_in-more len head more h) in
+    rw told le
 
 -- ---- the payload
 

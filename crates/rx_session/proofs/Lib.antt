@@ -1,4 +1,6 @@
 pub mod FrameLemmas
 pub mod MessageLemmas
+pub mod NameLemmas
+pub mod OutputLemmas
 pub mod RuleLemmas
 pub mod TextLemmas

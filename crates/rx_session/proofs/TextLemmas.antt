@@ -1,12 +1,13 @@
--- Texts that are UTF-8 or not, and tests of lists.
-use Rattle.std.proofs.Common.{◌≡◌, ℕ, ◌+◌, ◌<◌, Bool, true, false, ◌&&◌, List, [], ◌∷◌, length, take, get_or, Ok, Err, refl, ◌∙◌}
-use Rattle.std.specs.List.{list_all}
+-- Texts that are UTF-8 or not, and the empty text.
+use Rattle.std.proofs.Common.{◌≡◌, ℕ, Bool, true, false, List, [], ◌∷◌, length, Ok, Err, refl, sym, ◌∙◌, arith, true≢false}
+use Rattle.std.specs.Prelude.{◌==◌}
 use Rattle.std.specs.Str.{IsUtf8, is_utf8}
+use Rattle.std.proofs.lemmas.Bool.{ne_eqb}
 use Rattle.std.proofs.lemmas.Str.{IsUtf8-from_is_utf8, is_utf8-from_IsUtf8}
-use Rattle.std.proofs.lemmas.List.{take_more}
-use Rattle.std.proofs.lemmas.List.Folds.{list_all-append}
+use Rattle.rx_base.specs.Paths.{read_of}
 use Rattle.rx_wire.specs.declared.faults.WireFault.TheVariants.{BadUtf8}
 use Rattle.rx_session.specs.Messages.{text_at}
+use Rattle.rx_session.specs.Rules.{directory_holds, path_in}
 
 pub text_read : (text : List ℕ) (at : ℕ) → IsUtf8 text → text_at text at ≡ Ok text
 unfolding text_at
@@ -20,11 +21,11 @@ pub text_refused : (text : List ℕ) (at : ℕ) → (IsUtf8 text → ⊥) → te
 unfolding text_at
 text_refused text at h = rw (not_utf8 text (is_utf8 text) refl h) refl
 
-and_true : (a b : Bool) → (a && (b && true)) ≡ (a && b)
-and_true true true = refl
-and_true true false = refl
-and_true false b = refl
+empty_text : (text : List ℕ) → (length text == 0) ≡ true → text ≡ []
+empty_text [] h = refl
+empty_text (b ∷ bytes) h = absurd (true≢false (sym h ∙ ne_eqb (length (b ∷ bytes)) 0 (λ e. omega arith)))
 
--- one more item is tested
-pub all_more : {X : Type 0} (p : X → Bool) (xs : List X) (i : ℕ) (d : X) → i < length xs → list_all p (take (i + 1) xs) ≡ (list_all p (take i xs) && p (get_or xs i d))
-all_more p xs i d lt = rw (take_more xs i d lt) (list_all-append p (take i xs) (get_or xs i d ∷ []) ∙ and_true (list_all p (take i xs)) (p (get_or xs i d)))
+-- an empty text stands for the root
+pub root_directory : (path text : List ℕ) → path ≡ [] → (length text == 0) ≡ true → (path ≡ path_in text) × (directory_holds text ≡ true)
+unfolding directory_holds read_of
+root_directory path text e h = rw (empty_text text h) (e, refl)

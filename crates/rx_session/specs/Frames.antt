@@ -60,6 +60,14 @@ request_of root text = do
   len ← len_in text
   request_within root len text
 
+-- The most bytes that are read: a header and, where it tells a length, so many bytes of payload and one byte behind the frame.
+abbrev pub reach_by : Result ℕ Bad → ℕ
+reach_by (Ok len) = 5 + len + 1
+reach_by (Err why) = 5
+
+abbrev pub reach_of : List ℕ → ℕ
+reach_of text = reach_by (len_in text)
+
 -- Whether the end of the input was read: for a request, and where the frame is cut short.
 abbrev pub EndsRead : Option (List ℕ) → Result Request SessionFault → Type 0
 EndsRead left (Ok request) = IsAtEnd left

@@ -82,14 +82,19 @@ paths_hold texts = list_all is_path texts
 unfoldable pub some_above : List (List ℕ) → List (List ℕ) → Bool
 some_above outputs paths = list_any (λ output. list_any (λ path. is_below path output) paths) outputs
 
+-- the outputs are below the working directory, and none is above another or above a declared input
+unfoldable pub outputs_stand : List ℕ → List (List ℕ) → List (List ℕ) → List (List ℕ) → Bool
+outputs_stand directory inputs toolchain_inputs outputs =
+    if not (list_all (λ output. is_below output directory) outputs) then false
+    else if some_above outputs outputs then false
+    else if some_above outputs inputs then false
+    else not (some_above outputs toolchain_inputs)
+
 -- 10: paths below the working directory, none above another or above a declared input
 unfoldable pub outputs_hold : List ℕ → List (List ℕ) → List (List ℕ) → List (List ℕ) → Bool
 outputs_hold directory inputs toolchain_inputs outputs =
     if not (paths_hold outputs) then false
-    else if not (list_all (λ output. is_below output (path_in directory)) (paths_in outputs)) then false
-    else if some_above (paths_in outputs) (paths_in outputs) then false
-    else if some_above (paths_in outputs) (paths_in inputs) then false
-    else not (some_above (paths_in outputs) (paths_in toolchain_inputs))
+    else outputs_stand (path_in directory) (paths_in inputs) (paths_in toolchain_inputs) (paths_in outputs)
 
 unfoldable pub platform_holds : List Pair → Bool
 platform_holds pairs = list_all property_holds pairs

@@ -8,11 +8,11 @@
 //!
 //! Kind 1 is a Request; no other kind is served yet.
 
-ghost use Rattle.std.specs.Prelude.{◌≡◌, ◌≤◌, [], IfErr, IfOk, IsErrOf, length};
+ghost use Rattle.std.specs.Prelude.{◌≡◌, ◌≤◌, ◌+◌, IfErr, IfOk, IsErrOf, length};
 ghost use Rattle.std.specs.Io.KnownBytes.{Consumes};
 ghost use Rattle.rx_world.specs.Causes.{Rose};
 ghost use Rattle.rx_session.specs.Bad.{Decodes};
-ghost use Rattle.rx_session.specs.Frames.{EndsRead, len_in, payload_request, request_of};
+ghost use Rattle.rx_session.specs.Frames.{EndsRead, len_in, payload_request, reach_of, request_of};
 ghost use Rattle.rx_session.specs.Messages.{offset_of};
 ghost use Rattle.rx_session.specs.Streams.{IsNoCut, IsNoCutPast};
 
@@ -36,17 +36,19 @@ const REQUEST_KIND: u8 = 1;
 pub const MAX_REQUEST_LEN: usize = 4_194_304;
 
 /// Reads one request frame of the served root, and then whether the input ends there, of which it
-/// takes one byte at most. All that is read is left in `read`. It grows as the bytes come: a
-/// length alone takes no memory.
+/// takes one byte at most. All that is read is left in `read`, in place of what stood there. It
+/// grows as the bytes come: a length alone takes no memory.
 pub fn read_request<S: Source>(
     alloc: Global,
     source: &mut S,
     root: &str,
     read: &mut Vec<u8>,
 ) -> Result<Request, SessionFault>
-    requires { read.old.items ≡ [] }
     // What was taken from the source is what was read.
     ensures read { Consumes (S.left source.old) (S.left source.new) read.new.items }
+    // No more is taken than a header, the payload of the length that it tells, and one byte behind.
+    ensures reach { length read.new.items ≤ reach_of read.new.items }
+    ensures most { length read.new.items ≤ MAX_REQUEST_LEN + 6 }
     // The answer is the one that the definition gives for it.
     ensures request { Decodes (λ request. request) result (request_of root.now read.new.items) }
     // After a request, and where the frame is cut short, the input is at its end.
@@ -54,6 +56,7 @@ pub fn read_request<S: Source>(
     ensures later { S.faults source.old ≤ S.faults source.new }
     ensures failed { IsErrOf result SessionFault.ReadFault → Rose (S.faults source.old) (S.faults source.new) }
 {
+    read.clear();
     read_up_to(source, read, HEADER_LEN)?;
     let len = payload_len(read)?;
     read_up_to(source, read, HEADER_LEN + len)?;

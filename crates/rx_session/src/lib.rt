@@ -8,6 +8,7 @@ mod frames;
 mod jobs;
 mod message_fault;
 mod messages;
+mod output_rules;
 mod parts;
 mod paths_in;
 mod raw_request;

@@ -1,20 +1,49 @@
 //! The paths that texts name.
 
-ghost use Rattle.std.specs.Prelude.{◌≡◌, IfOk, map};
-ghost use Rattle.rx_session.specs.Rules.{is_path, path_in, paths_in};
+ghost use Rattle.std.specs.Prelude.{◌≡◌, IfNone, IfOk, IfSome, false, true};
+ghost use Rattle.rx_session.specs.Rules.{directory_holds, is_path, path_in, paths_hold, paths_in};
 
 use rx_base::{Items, NoMemory, PathFault, RelPath, Text};
 use std::alloc::{AllocError, Global};
 
-/// Whether a text names a path.
-pub(crate) fn is_path(alloc: Global, text: &Text) -> Result<bool, NoMemory>
-    ensures { IfOk result (λ holds. holds ≡ is_path text.now) }
+/// The path that a text names, where it names one.
+fn read_path(alloc: Global, text: &Text) -> Result<Option<RelPath>, NoMemory>
+    ensures some { IfOk result (λ read. IfSome read (λ path. (path ≡ path_in text.now) × (is_path text.now ≡ true))) }
+    ensures none { IfOk result (λ read. IfNone read (is_path text.now ≡ false)) }
 {
     match RelPath::read(alloc, text.as_str()) {
-        Ok(_) => Ok(true),
+        Ok(path) => Ok(Some(path)),
         Err(PathFault::NoMemory) => Err(AllocError),
-        Err(_) => Ok(false),
+        Err(_) => Ok(None),
     }
+}
+
+/// 5: the directory that a text names, where it names one: the root for an empty text.
+#[tactic(auto, unfolding(crate::specs::Rules::directory_holds))]
+pub(crate) fn read_directory(alloc: Global, text: &Text) -> Result<Option<RelPath>, NoMemory>
+    ensures some { IfOk result (λ read. IfSome read (λ path. (path ≡ path_in text.now) × (directory_holds text.now ≡ true))) }
+    ensures none { IfOk result (λ read. IfNone read (directory_holds text.now ≡ false)) }
+{
+    if text.is_empty() {
+        return Ok(Some(RelPath::root(alloc)));
+    }
+    read_path(alloc, text)
+}
+
+/// 8, 9, 10: the paths that texts name, where each names one.
+#[tactic(auto, unfolding(crate::specs::Rules::paths_hold))]
+pub(crate) fn read_paths(alloc: Global, texts: &[Text]) -> Result<Option<Items<RelPath>>, NoMemory>
+    ensures some { IfOk result (λ read. IfSome read (λ paths. (paths ≡ paths_in texts.now) × (paths_hold texts.now ≡ true))) }
+    ensures none { IfOk result (λ read. IfNone read (paths_hold texts.now ≡ false)) }
+{
+    let mut paths = Vec::with_capacity(alloc, texts.len())?;
+    for text in texts {
+        match read_path(alloc, text)? {
+            Some(path) => paths.push(path)?,
+            None => return Ok(None),
+        }
+    }
+    Ok(Some(Items::from_vec(paths)))
 }
 
 /// The path that a text names; one that names none stands for the root.

@@ -6,10 +6,9 @@ ghost use Rattle.rx_session.specs.Streams.{IsNoCut};
 ghost use Rattle.rx_session.specs.Rules.{bad_field, bad_last_field, kind_of, request_by, request_from, strategy_of, unbuilt_field};
 
 use crate::bad::{BadReason, SessionFault, refuse};
-use crate::field_rules::{
-    directory_holds, environment_holds, is_within, outputs_hold, paths_hold, platform_holds,
-    words_hold,
-};
+use crate::field_rules::{environment_holds, is_within, platform_holds, words_hold};
+use crate::output_rules::outputs_stand;
+use crate::paths_in::{read_directory, read_paths};
 use crate::raw_request::RawRequest;
 use crate::requests::Request;
 use rx_base::NoMemory;
@@ -45,7 +44,7 @@ pub(crate) fn request_by(
 }
 
 /// The least field that breaks its rule.
-#[tactic(auto, unfolding(crate::specs::Rules::bad_field))]
+#[tactic(auto, unfolding(crate::specs::Rules::bad_field, crate::specs::Rules::outputs_hold))]
 fn bad_field(alloc: Global, raw: &RawRequest) -> Result<Option<u64>, NoMemory>
     ensures { IfOk result (λ number. number ≡ bad_field raw.now) }
 {
@@ -55,22 +54,25 @@ fn bad_field(alloc: Global, raw: &RawRequest) -> Result<Option<u64>, NoMemory>
     if !environment_holds(alloc, raw.environment.as_slice())? {
         return Ok(Some(4));
     }
-    if !directory_holds(alloc, &raw.working_directory)? {
+    let Some(directory) = read_directory(alloc, &raw.working_directory)? else {
         return Ok(Some(5));
-    }
+    };
     if !is_within(1, 4, raw.strategy) {
         return Ok(Some(6));
     }
     if !is_within(1, 2, raw.kind) {
         return Ok(Some(7));
     }
-    if !paths_hold(alloc, raw.inputs.as_slice())? {
+    let Some(inputs) = read_paths(alloc, raw.inputs.as_slice())? else {
         return Ok(Some(8));
-    }
-    if !paths_hold(alloc, raw.toolchain_inputs.as_slice())? {
+    };
+    let Some(toolchain) = read_paths(alloc, raw.toolchain_inputs.as_slice())? else {
         return Ok(Some(9));
-    }
-    if !outputs_hold(alloc, raw)? {
+    };
+    let Some(outputs) = read_paths(alloc, raw.outputs.as_slice())? else {
+        return Ok(Some(10));
+    };
+    if !outputs_stand(&directory, inputs.as_slice(), toolchain.as_slice(), outputs)? {
         return Ok(Some(10));
     }
     Ok(bad_last_field(raw))

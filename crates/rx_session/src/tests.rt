@@ -63,7 +63,7 @@ const PLAIN: [u8; 18] = *b"\x01\0\0\0\x0d\x08\x01\x12\x02/r\x1a\x01t\x30\x01\x38
 
 #[test]
 fn refuses_frames(rt: HostRuntime) {
-    let rows: [(&[u8], BadReason, u64); 26] = [
+    let rows: [(&[u8], BadReason, u64); 29] = [
         (b"", BadReason::CutShort, 0),
         (b"\x01\0\0\0\x13\x08\x01\x12\x02/", BadReason::CutShort, 10),
         (b"\x04\0\0\0\0", BadReason::BadKind, 0),
@@ -134,6 +134,23 @@ fn refuses_frames(rt: HostRuntime) {
             BadReason::BadField,
             10,
         ),
+        // Above another output, with a path between them in the order of the bytes.
+        (
+            b"\x01\0\0\0\x1a\x08\x01\x12\x02/r\x1a\x01t\x30\x01\x38\x01\x52\x03a/b\x52\x03a-b\x52\x01a",
+            BadReason::BadField,
+            10,
+        ),
+        // Above an input, and above an input of the toolchain.
+        (
+            b"\x01\0\0\0\x15\x08\x01\x12\x02/r\x1a\x01t\x30\x01\x38\x01\x42\x03a/b\x52\x01a",
+            BadReason::BadField,
+            10,
+        ),
+        (
+            b"\x01\0\0\0\x15\x08\x01\x12\x02/r\x1a\x01t\x30\x01\x38\x01\x4a\x03a/b\x52\x01a",
+            BadReason::BadField,
+            10,
+        ),
         (
             b"\x01\0\0\0\x0f\x08\x01\x12\x02/r\x1a\x01t\x30\x01\x38\x01\x60\x02",
             BadReason::BadField,
@@ -179,17 +196,27 @@ fn refuses_frames(rt: HostRuntime) {
 
 #[test]
 fn reads_what_is_asked(rt: HostRuntime) -> Result<(), Fail> {
-    let frame =
-        b"\x01\0\0\0\x1a\x08\x01\x12\x02/r\x1a\x01t\x1a\x01u\x30\x01\x38\x01\x52\x01b\x52\x03./b\x70\x07".as_slice();
-    let request = read(rt.alloc(), frame, NEVER)?;
+    // The output `b` is an input too, and `a/b` stands below the input `a`.
+    let bytes =
+        b"\x01\0\0\0\x25\x08\x01\x12\x02/r\x1a\x01t\x1a\x01u\x30\x01\x38\x01\x42\x01b\x4a\x01a\x52\x01b\x52\x03./b\x52\x03a/b\x70\x07".as_slice();
+    let mut source = OneByOne {
+        bytes,
+        at: 0,
+        fails_at: NEVER,
+        faults: 0,
+    };
+    let mut all = Vec::from_slice(rt.alloc(), b"before")?;
+    let request = read_request(rt.alloc(), &mut source, "/r", &mut all)?;
+    assert_eq!(rt; all.as_slice(), bytes);
     assert_eq!(rt; request.words.len(), 2);
     let command = command_for(rt.alloc(), &request)?;
     assert_eq!(rt; command.timeout_seconds, 7);
-    assert_eq!(rt; command.outputs.len(), 1);
-    for output in command.outputs.as_slice() {
-        assert_eq!(rt; output.as_str(), "b");
+    let outputs = command.outputs.as_slice();
+    assert_eq!(rt; outputs.len(), 2);
+    for (output, text) in outputs.iter().zip(["a/b", "b"]) {
+        assert_eq!(rt; output.as_str(), text);
     }
-    assert_eq!(rt; declared_inputs(rt.alloc(), &request)?.len(), 0);
+    assert_eq!(rt; declared_inputs(rt.alloc(), &request)?.len(), 2);
     Ok(())
 }
 
