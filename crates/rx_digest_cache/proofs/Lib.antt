@@ -1,0 +1,2 @@
+mod CacheLemmas
+mod KeptLemmas

@@ -1,0 +1,109 @@
+//! The cache that sessions share: the kept digests behind a lock, and the sources that they stand for.
+
+ghost use Rattle.std.specs.Prelude.{◌≡◌, [], ◌∷◌, IfOk, IfSome, IsOk, List, MatchResult, false, true};
+ghost use Rattle.rx_base.specs.Digests.{digest_of};
+ghost use Rattle.rx_world.specs.declared.sources.Given.{Given};
+ghost use Rattle.rx_world.specs.Causes.{HasCauseOf};
+ghost use Rattle.rx_world.specs.Sources.{given_bytes, given_look, is_file};
+ghost use Rattle.rx_digest_cache.specs.declared.cache_fault.CacheFault.TheVariants.{SourceFault as source_fault};
+ghost use Rattle.rx_digest_cache.specs.Answers.{Gives};
+ghost use Rattle.rx_digest_cache.specs.Cache.{HasDigest, IsFound, IsRead, Refuses, RefusesRead};
+ghost use Rattle.rx_digest_cache.specs.Kept.{IsTied};
+
+use crate::{CacheFault, KeptDigests, StampedDigest};
+use rx_base::{Digest, NoMemory, RelPath, digest_of};
+use rx_world::{Look, Sources, Stamp, World};
+use std::alloc::Global;
+use std::sync::{Mutex, Wait};
+
+/// The most paths of which the proxy's cache keeps a digest.
+pub const DIGEST_CACHE_LIMIT: usize = 1_000_000;
+
+/// Digests of one source tree's files, by path and stamp. It is shared by reference. The lock is
+/// held for one look-up or one change of the map, and never while a file is looked at or read.
+#[derive(Drop)]
+pub struct DigestCache<W: World> {
+    kept: Mutex<KeptDigests<W>>,
+}
+
+impl<W: World> DigestCache<W> {
+    /// An empty cache, which keeps a digest of at most so many paths.
+    pub fn new(alloc: Global, limit: usize) -> Result<DigestCache<W>, NoMemory>
+        ensures { IsOk result }
+    {
+        Ok(DigestCache {
+            kept: Mutex::new(KeptDigests::new(alloc, limit)),
+        })
+    }
+
+    /// The digest of the file at a path, with the look that it belongs to. The path is looked at;
+    /// where its digest is kept under just the stamp of that look, this is the answer, and it took
+    /// no memory. Else the file is read, and the look is that of the read. The digest that was read
+    /// is kept in place of an older one of the path; where the cache is full, or memory is wanting,
+    /// it is answered all the same.
+    pub fn digest<S: Sources<W>>(
+        &self,
+        rt: &impl Wait,
+        alloc: Global,
+        sources: &mut S,
+        path: &RelPath,
+    ) -> Result<(Look, Digest), CacheFault>
+        ensures answered { (answers : List Given) × Gives S.listed S.keeps S.given W.content W.stamps_honest sources.old sources.new answers
+            × MatchResult result (λ found. IsFound path.now answers found.0 found.1) (Refuses path.now answers) }
+        ensures content { IfOk result (λ found. W.stamps_honest → HasDigest W.content path.now found.0 found.1) }
+        ensures cause { HasCauseOf source_fault (S.faults sources.old) (S.faults sources.new) result }
+    {
+        let look = sources.look(path)?;
+        let Look::File {
+            stamp,
+            executable: _,
+        } = look
+        else {
+            return Err(CacheFault::NotFile { look });
+        };
+        match self.find(rt, path, stamp) {
+            Some(digest) => Ok((look, digest)),
+            None => self.read_anew(rt, alloc, sources, path),
+        }
+    }
+
+    /// The digest that is kept of a path under a stamp.
+    fn find(&self, rt: &impl Wait, path: &RelPath, stamp: Stamp) -> Option<Digest>
+        ensures { IfSome result (λ digest. W.stamps_honest → digest ≡ digest_of (W.content path.now stamp)) }
+    {
+        self.kept.lock(rt).find(path, stamp)
+    }
+
+    /// The digest of a file's bytes, which are read. It is kept where it can be.
+    fn read_anew<S: Sources<W>>(
+        &self,
+        rt: &impl Wait,
+        alloc: Global,
+        sources: &mut S,
+        path: &RelPath,
+    ) -> Result<(Look, Digest), CacheFault>
+        ensures answered { (others : List Given) × Gives S.listed S.keeps S.given W.content W.stamps_honest sources.old sources.new others
+            × MatchResult result (λ found. IsRead path.now others found.0 found.1) (RefusesRead path.now others) }
+        ensures content { IfOk result (λ found. W.stamps_honest → HasDigest W.content path.now found.0 found.1) }
+        ensures cause { HasCauseOf source_fault (S.faults sources.old) (S.faults sources.new) result }
+    {
+        let (look, bytes) = sources.read(path)?;
+        let Look::File {
+            stamp,
+            executable: _,
+        } = look
+        else {
+            return Err(CacheFault::NotFile { look });
+        };
+        let digest = digest_of(bytes.as_slice());
+        self.keep(rt, alloc, path, StampedDigest { stamp, digest });
+        Ok((look, digest))
+    }
+
+    /// Keeps a digest where it can be kept. It is as good where it can't.
+    fn keep(&self, rt: &impl Wait, alloc: Global, path: &RelPath, entry: StampedDigest)
+        requires { W.stamps_honest → IsTied W.content path.now entry }
+    {
+        let _ = self.kept.lock(rt).keep(alloc, path, entry);
+    }
+}

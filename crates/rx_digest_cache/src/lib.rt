@@ -1,0 +1,14 @@
+//! Digests of a source tree's files, kept from one call to the next: a file whose stamp hasn't
+//! changed isn't read again. Nothing here knows of commands, of sessions or of what a file means.
+#![tactic(auto)]
+
+mod cache;
+mod cache_fault;
+mod kept;
+
+pub use cache::{DIGEST_CACHE_LIMIT, DigestCache};
+pub use cache_fault::CacheFault;
+pub use kept::{KeptDigests, NotKept, StampedDigest};
+
+#[cfg(test)]
+mod tests;
