@@ -1,2 +1,4 @@
 pub mod Behind
+pub mod Lists
+pub mod SafeOutputs
 pub mod WordSteps

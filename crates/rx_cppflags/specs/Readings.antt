@@ -1,5 +1,7 @@
 -- How a compile command is read.
-use Rattle.std.specs.Prelude.{ℕ, ◌&&◌, List, [], ◌∷◌, ◌++◌, drop, Option, Some, None, if◌then◌else◌}
+use Rattle.std.specs.Prelude.{◌≡◌, ℕ, true, false, ◌&&◌, List, [], ◌∷◌, ◌++◌, drop, Option, Some, None, if◌then◌else◌}
+use Rattle.std.specs.List.{AllByRecursion}
+use Rattle.rx_base.specs.Paths.{is_below}
 use Rattle.rx_base.specs.SortedPaths.{sorted_paths}
 use Rattle.rx_world.specs.declared.commands.Command.{Command}
 use Rattle.rx_cppflags.specs.declared.meanings.Meaning.TheVariants.{CSource, QuoteDir, Dir, SystemDir, AfterDir, Forced, Sysroot, Output, DependencyFile, CompileOnly}
@@ -57,3 +59,17 @@ reading_from command said =
 -- How a command with these declared inputs is read.
 unfoldable pub reading_of : Command → List (List ℕ) → Reading
 reading_of command inputs = reading_from command (sayings command.working_directory inputs (drop 1 command.words))
+
+-- ---- the outputs of a compile command
+
+-- An output that its command may write: it lies below the working directory, above no declared input, and
+-- above and below none of the outputs that the command has or that its words name.
+pub record IsSafeOutput (command : Command) (inputs outputs : List (List ℕ)) (path : List ℕ) : Type 0 where
+  pub below : is_below path command.working_directory ≡ true
+  pub clear : AllByRecursion (λ input. is_below input path ≡ false) inputs
+  pub apart : AllByRecursion (λ other. (is_below path other ≡ false) × (is_below other path ≡ false)) (command.outputs ++ outputs)
+
+-- where a command is read as one that compiles, each output that its words name is such
+abbrev pub HasSafeOutputs : Command → List (List ℕ) → Reading → Type 0
+HasSafeOutputs command inputs (Compile source quote_dirs dirs forced sysroots outputs is_c) = AllByRecursion (IsSafeOutput command inputs outputs) outputs
+HasSafeOutputs command inputs (LocalOnly word) = Unit {0}

@@ -3,7 +3,7 @@
 
 ghost use Rattle.std.specs.Prelude.{◌≡◌, ◌++◌, IfOk, drop, option_map};
 ghost use Rattle.rx_cppflags.specs.Found.{outputs_of, sources_of};
-ghost use Rattle.rx_cppflags.specs.Readings.{compiled, counted, first_word, only, reading_from, reading_of};
+ghost use Rattle.rx_cppflags.specs.Readings.{HasSafeOutputs, compiled, counted, first_word, only, reading_from, reading_of};
 
 use crate::found::{first_outside, outputs_of, paths_of, says, says_once, sources_of, texts_of};
 use crate::meanings::Meaning;
@@ -54,7 +54,8 @@ pub fn read_command(
     command: &Command,
     inputs: &[RelPath],
 ) -> Result<Reading, NoMemory>
-    ensures { IfOk result (λ reading. reading ≡ reading_of command.now inputs.now) }
+    ensures exact { IfOk result (λ reading. reading ≡ reading_of command.now inputs.now) }
+    ensures safe { IfOk result (λ reading. HasSafeOutputs command.now inputs.now reading) }
 {
     read(alloc, command, inputs)
 }
