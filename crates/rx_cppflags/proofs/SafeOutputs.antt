@@ -14,7 +14,7 @@ use Rattle.rx_cppflags.specs.Meanings.{same, names_output}
 use Rattle.rx_cppflags.specs.Places.{is_writable, kept, path_from, path_of}
 use Rattle.rx_cppflags.specs.Rows.{Row, row_for, own_value, takes_next}
 use Rattle.rx_cppflags.specs.Pieces.{Saying, said_by, saying, sayings_after, uses_next, with_next}
-use Rattle.rx_cppflags.specs.Found.{first_outside, is_apart, is_in_table, outputs_of, path_for, paths_of, says, says_once, sources_of}
+use Rattle.rx_cppflags.specs.Found.{is_apart, is_in_table, outputs_of, outside_of, path_for, paths_of, says, says_once, sources_of}
 use Rattle.rx_cppflags.specs.Variables.{first_variable}
 use Rattle.rx_cppflags.specs.Readings.{IsSafeOutput, HasSafeOutputs, compiled, counted, first_word, judged, only, reading_of, unless_variable}
 use Rattle.rx_cppflags.proofs.Lists.{split, and_left, and_right, not_false, or_left, or_right, or_true, each, both, first_part, second_part, none_passes, with_option, of_sorted}
@@ -129,7 +129,7 @@ counted_safe command inputs said p (Some source) =
     (λ _. tt)
 
 outputs_safe : (command : Command) (inputs : List (List ℕ)) (said : List Saying) → AllByRecursion (λ s. s.path ≡ path_of command.working_directory inputs s.meaning s.text) said
-    → first_outside (says DependencyFile said) (command.outputs ++ outputs_of said) said ≡ None
+    → outside_of command.outputs said ≡ None
     → AllByRecursion (IsSafeOutput command inputs (sorted_paths (outputs_of said))) (sorted_paths (outputs_of said))
 outputs_safe command inputs said p e =
     let has_file : Bool = says DependencyFile said in
@@ -145,7 +145,7 @@ outputs_safe command inputs said p e =
     (λ path w _. safe command inputs (outputs_of said) path w) (outputs_of said) all_written all_written)
 
 judged_safe : (command : Command) (inputs : List (List ℕ)) (said : List Saying) → AllByRecursion (λ s. s.path ≡ path_of command.working_directory inputs s.meaning s.text) said
-    → (o : Option (List ℕ)) → first_outside (says DependencyFile said) (command.outputs ++ outputs_of said) said ≡ o → HasSafeOutputs command inputs (judged command said o)
+    → (o : Option (List ℕ)) → outside_of command.outputs said ≡ o → HasSafeOutputs command inputs (judged command said o)
 judged_safe command inputs said p None e = counted_safe command inputs said (outputs_safe command inputs said p e) (only (sources_of said))
 judged_safe command inputs said p (Some word) e = tt
 
@@ -154,7 +154,7 @@ pub reading_safe : (command : Command) (inputs : List (List ℕ)) → HasSafeOut
 unfolding reading_of
 reading_safe command inputs =
     let said : List Saying = sayings_after command.working_directory inputs false (drop 1 command.words) in
-    judged_safe command inputs said (placed command.working_directory inputs false (drop 1 command.words)) (first_outside (says DependencyFile said) (command.outputs ++ outputs_of said) said) refl
+    judged_safe command inputs said (placed command.working_directory inputs false (drop 1 command.words)) (outside_of command.outputs said) refl
 
 pub told_safe : {E : Type 0} (command : Command) (inputs : List (List ℕ)) (result : Result Reading E) → IfOk result (λ reading. reading ≡ reading_of command inputs) → IfOk result (λ reading. HasSafeOutputs command inputs reading)
 told_safe command inputs (Ok reading) e = subst (λ (found : Reading). HasSafeOutputs command inputs found) (sym e) (reading_safe command inputs)

@@ -52,3 +52,7 @@ is_in_table has_file outputs s =
 -- the first word that is no compile word, where a file of dependencies is named or not, among these outputs
 abbrev pub first_outside : Bool → List (List ℕ) → List Saying → Option (List ℕ)
 first_outside has_file outputs said = option_map (λ s. s.word) (find (λ s. not (is_in_table has_file outputs s)) said)
+
+-- the first word that is no compile word, in a command that has these outputs besides those that its words name
+abbrev pub outside_of : List (List ℕ) → List Saying → Option (List ℕ)
+outside_of outputs said = first_outside (says DependencyFile said) (outputs ++ outputs_of said) said

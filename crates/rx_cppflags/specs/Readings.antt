@@ -4,11 +4,11 @@ use Rattle.std.specs.List.{AllByRecursion}
 use Rattle.rx_base.specs.Paths.{is_below}
 use Rattle.rx_base.specs.SortedPaths.{sorted_paths}
 use Rattle.rx_world.specs.declared.commands.Command.{Command}
-use Rattle.rx_cppflags.specs.declared.meanings.Meaning.TheVariants.{CSource, QuoteDir, Dir, SystemDir, AfterDir, Forced, Sysroot, Output, DependencyFile, CompileOnly}
+use Rattle.rx_cppflags.specs.declared.meanings.Meaning.TheVariants.{CSource, QuoteDir, Dir, SystemDir, AfterDir, Forced, Sysroot, Output, CompileOnly}
 use Rattle.rx_cppflags.specs.declared.readings.Reading.{Reading}
 use Rattle.rx_cppflags.specs.declared.readings.Reading.TheVariants.{Compile, LocalOnly}
 use Rattle.rx_cppflags.specs.Pieces.{Saying, sayings}
-use Rattle.rx_cppflags.specs.Found.{says, says_once, paths_of, texts_of, sources_of, outputs_of, first_outside}
+use Rattle.rx_cppflags.specs.Found.{says, says_once, paths_of, texts_of, sources_of, outputs_of, outside_of}
 use Rattle.rx_cppflags.specs.Variables.{first_variable}
 
 -- the compiler; a command without words has the empty text for it
@@ -53,8 +53,7 @@ judged command said None = counted command said (only (sources_of said))
 judged command said (Some word) = LocalOnly word
 
 abbrev pub reading_from : Command → List Saying → Reading
-reading_from command said =
-    judged command said (first_outside (says DependencyFile said) (command.outputs ++ outputs_of said) said)
+reading_from command said = judged command said (outside_of command.outputs said)
 
 -- How a command with these declared inputs is read.
 unfoldable pub reading_of : Command → List (List ℕ) → Reading

@@ -1,12 +1,12 @@
 //! What all words of a command together name, and which of them aren't compile words.
 
-ghost use Rattle.std.specs.Prelude.{◌≡◌, ◌++◌, ◌||◌, IfOk, option_map};
-ghost use Rattle.std.specs.List.{list_any};
-ghost use Rattle.rx_base.specs.Paths.{is_below};
-ghost use Rattle.rx_cppflags.specs.Found.{first_outside, is_apart, is_in_table, outputs_of, path_for, paths_of, says, says_once, sources_of, texts_of};
+ghost use Rattle.std.specs.Prelude.{◌≡◌, ◌++◌, IfOk, option_map};
+ghost use Rattle.rx_base.specs.SortedPaths.{AreSorted};
+ghost use Rattle.rx_cppflags.specs.Found.{first_outside, is_in_table, outputs_of, path_for, paths_of, says, says_once, sources_of, texts_of};
 
 use crate::meanings::Meaning;
 use crate::pieces::Piece;
+use crate::searches::is_apart;
 use rx_base::{Items, NoMemory, RelPath, Text, TryClone};
 use std::alloc::Global;
 
@@ -70,11 +70,15 @@ pub(crate) fn sources_of(alloc: Global, pieces: &[Piece]) -> Result<Items<RelPat
     paths_of(alloc, pieces, Meaning::CppSource, paths)
 }
 
-/// The outputs that are named.
-pub(crate) fn outputs_of(alloc: Global, pieces: &[Piece]) -> Result<Items<RelPath>, NoMemory>
-    ensures { IfOk result (λ paths. paths ≡ outputs_of pieces.now) }
+/// Paths, and behind them the outputs that are named.
+pub(crate) fn outputs_of(
+    alloc: Global,
+    pieces: &[Piece],
+    paths: Items<RelPath>,
+) -> Result<Items<RelPath>, NoMemory>
+    ensures { IfOk result (λ all. all ≡ paths ++ outputs_of pieces.now) }
 {
-    let paths = paths_of(alloc, pieces, Meaning::Output, Items::new(alloc))?;
+    let paths = paths_of(alloc, pieces, Meaning::Output, paths)?;
     paths_of(alloc, pieces, Meaning::DependencyFile, paths)
 }
 
@@ -89,18 +93,18 @@ pub(crate) fn says_once(pieces: &[Piece], meaning: Meaning) -> bool
         == 1
 }
 
-/// The word of the first piece that is no compile word, in a command with these outputs, whose
-/// words name those, and name a file of dependencies or not.
+/// The word of the first piece that is no compile word, where a file of dependencies is named or
+/// not, among these sorted outputs.
 pub(crate) fn first_outside<'a>(
     has_file: bool,
     outputs: &[RelPath],
-    named: &[RelPath],
     pieces: &[Piece<'a>],
 ) -> Option<&'a str>
-    ensures { option_map (λ word. word.now) result ≡ first_outside has_file (outputs.now ++ named.now) pieces.now }
+    requires { AreSorted outputs.now }
+    ensures { option_map (λ word. word.now) result ≡ first_outside has_file outputs.now pieces.now }
 {
     for piece in pieces {
-        if !is_in_table(has_file, outputs, named, piece) {
+        if !is_in_table(has_file, outputs, piece) {
             return Some(piece.word);
         }
     }
@@ -108,12 +112,13 @@ pub(crate) fn first_outside<'a>(
 }
 
 /// Whether a piece is a compile word.
-fn is_in_table(has_file: bool, outputs: &[RelPath], named: &[RelPath], piece: &Piece) -> bool
-    ensures { result ≡ is_in_table has_file (outputs.now ++ named.now) piece.now }
+fn is_in_table(has_file: bool, outputs: &[RelPath], piece: &Piece) -> bool
+    requires { AreSorted outputs.now }
+    ensures { result ≡ is_in_table has_file outputs.now piece.now }
 {
     if piece.meaning.names_output() {
         match &piece.path {
-            Some(path) => is_apart(outputs, named, path),
+            Some(path) => is_apart(path, outputs),
             None => false,
         }
     } else if piece.meaning.names_path() {
@@ -123,19 +128,4 @@ fn is_in_table(has_file: bool, outputs: &[RelPath], named: &[RelPath], piece: &P
     } else {
         !piece.meaning.is(Meaning::Refused)
     }
-}
-
-/// Whether a path is neither above nor below one of these.
-fn is_apart(outputs: &[RelPath], named: &[RelPath], path: &RelPath) -> bool
-    ensures { result ≡ is_apart (outputs.now ++ named.now) path.now }
-{
-    !is_near(outputs, path) && !is_near(named, path)
-}
-
-fn is_near(others: &[RelPath], path: &RelPath) -> bool
-    ensures { result ≡ list_any (λ other. is_below path.now other || is_below other path.now) others.now }
-{
-    others
-        .iter()
-        .any(|other| path.is_below(other) || other.is_below(path))
 }

@@ -8,6 +8,7 @@ mod pieces;
 mod places;
 mod readings;
 mod rows;
+mod searches;
 mod variables;
 
 pub use readings::{Reading, read_command};

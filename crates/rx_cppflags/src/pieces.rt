@@ -1,6 +1,7 @@
 //! What the words of a command say, one after the other.
 
 ghost use Rattle.std.specs.Prelude.{◌≡◌, ◌++◌, ◌∷◌, [], IfOk, option_map};
+ghost use Rattle.rx_base.specs.SortedPaths.{AreSorted};
 ghost use Rattle.rx_cppflags.specs.Pieces.{outside, said_by, saying, sayings, sayings_after, uses_next};
 ghost use Rattle.rx_cppflags.specs.Rows.{row_of};
 
@@ -31,7 +32,7 @@ impl<'a> Model for Piece<'a> {
     ghost view = { λ p. record { meaning = p.meaning; word = p.word.now; text = p.text.now; path = p.path } };
 }
 
-/// Where a command's paths go on from, and what it declares.
+/// Where a command's paths go on from, and its declared inputs, sorted.
 #[derive(Clone, Copy)]
 pub(crate) struct Site<'a> {
     pub directory: &'a RelPath,
@@ -45,6 +46,7 @@ pub(crate) fn cut<'a>(
     words: &'a [Text],
     pieces: &mut Vec<Piece<'a>>,
 ) -> Result<(), NoMemory>
+    requires { AreSorted site.inputs.now }
     ensures { IfOk result (λ _. pieces.new.items ≡ pieces.old.items ++ sayings site.entry.directory.now site.entry.inputs.now words.now) }
 {
     let mut rest = words;
@@ -71,6 +73,7 @@ fn say<'a>(
     others: &'a [Text],
     pieces: &mut Vec<Piece<'a>>,
 ) -> Result<(), NoMemory>
+    requires { AreSorted site.inputs.now }
     ensures { IfOk result (λ _. pieces.new.items ≡ pieces.old.items
         ++ said_by site.entry.directory.now site.entry.inputs.now (option_map row_of row.entry) word.now others.now ∷ []) }
 {
@@ -96,6 +99,7 @@ fn say_value<'a>(
     word: &'a str,
     pieces: &mut Vec<Piece<'a>>,
 ) -> Result<(), NoMemory>
+    requires { AreSorted site.inputs.now }
     ensures { IfOk result (λ _. pieces.new.items ≡ pieces.old.items
         ++ saying site.entry.directory.now site.entry.inputs.now meaning text.now word.now ∷ []) }
 {

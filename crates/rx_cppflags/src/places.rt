@@ -1,11 +1,11 @@
 //! The paths that values name. No word is read here.
 
 ghost use Rattle.std.specs.Prelude.{◌≡◌, IfOk};
-ghost use Rattle.std.specs.List.{list_any};
-ghost use Rattle.rx_base.specs.Paths.{is_below};
+ghost use Rattle.rx_base.specs.SortedPaths.{AreSorted};
 ghost use Rattle.rx_cppflags.specs.Places.{is_replaced, is_writable, path_from, path_of};
 
 use crate::meanings::Meaning;
+use crate::searches::is_above_one;
 use rx_base::{NoMemory, PathFault, RelPath};
 use std::alloc::{AllocError, Global};
 
@@ -17,6 +17,7 @@ pub(crate) fn path_of(
     meaning: Meaning,
     text: &str,
 ) -> Result<Option<RelPath>, NoMemory>
+    requires { AreSorted inputs.now }
     ensures { IfOk result (λ path. path ≡ path_of directory.now inputs.now meaning text.now) }
 {
     if !meaning.names_output() {
@@ -54,15 +55,10 @@ fn is_replaced(text: &str) -> bool
     bytes.starts_with(b"=") || bytes.starts_with(b"$")
 }
 
-/// Whether a path lies below the working directory, and isn't above a declared input.
+/// Whether a path lies below the working directory, and above none of the declared inputs.
 fn is_writable(path: &RelPath, directory: &RelPath, inputs: &[RelPath]) -> bool
+    requires { AreSorted inputs.now }
     ensures { result ≡ is_writable directory.now inputs.now path.now }
 {
     path.is_below(directory) && !is_above_one(path, inputs)
-}
-
-fn is_above_one(path: &RelPath, inputs: &[RelPath]) -> bool
-    ensures { result ≡ list_any (λ input. is_below input path.now) inputs.now }
-{
-    inputs.iter().any(|input| input.is_below(path))
 }

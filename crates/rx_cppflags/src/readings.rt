@@ -2,14 +2,16 @@
 //! machine itself can run.
 
 ghost use Rattle.std.specs.Prelude.{◌≡◌, ◌++◌, IfOk, drop, option_map};
-ghost use Rattle.rx_cppflags.specs.Found.{outputs_of, sources_of};
+ghost use Rattle.rx_base.specs.SortedPaths.{AreSorted};
+ghost use Rattle.rx_cppflags.specs.Found.{outside_of, sources_of};
 ghost use Rattle.rx_cppflags.specs.Readings.{HasSafeOutputs, compiled, counted, first_word, only, reading_from, reading_of};
 
 use crate::found::{first_outside, outputs_of, paths_of, says, says_once, sources_of, texts_of};
 use crate::meanings::Meaning;
 use crate::pieces::{Piece, Site, cut};
+use crate::searches::{are_sorted, copy_paths};
 use crate::variables::first_variable;
-use rx_base::{Items, NoMemory, RelPath, Text, sort_paths};
+use rx_base::{Items, NoMemory, RelPath, Text, TryClone, sort_paths};
 use rx_world::Command;
 use std::alloc::Global;
 
@@ -60,8 +62,20 @@ pub fn read_command(
     read(alloc, command, inputs)
 }
 
-#[tactic(auto, unfolding(crate::specs::Readings::reading_of))]
 fn read(alloc: Global, command: &Command, inputs: &[RelPath]) -> Result<Reading, NoMemory>
+    ensures { IfOk result (λ reading. reading ≡ reading_of command.now inputs.now) }
+{
+    if are_sorted(inputs) {
+        return read_sorted(alloc, command, inputs);
+    }
+    let inputs = sort_paths(copy_paths(alloc, inputs)?)?;
+    read_sorted(alloc, command, inputs.as_slice())
+}
+
+/// The reading of a command with these sorted declared inputs.
+#[tactic(auto, unfolding(crate::specs::Readings::reading_of))]
+fn read_sorted(alloc: Global, command: &Command, inputs: &[RelPath]) -> Result<Reading, NoMemory>
+    requires { AreSorted inputs.now }
     ensures { IfOk result (λ reading. reading ≡ reading_of command.now inputs.now) }
 {
     let site = Site {
@@ -92,27 +106,31 @@ fn arguments(words: &[Text]) -> &[Text]
 fn read_pieces(alloc: Global, command: &Command, pieces: &[Piece]) -> Result<Reading, NoMemory>
     ensures { IfOk result (λ reading. reading ≡ reading_from command.now pieces.now) }
 {
-    let outputs = outputs_of(alloc, pieces)?;
-    let has_file = says(pieces, Meaning::DependencyFile);
-    match first_outside(
-        has_file,
-        command.outputs.as_slice(),
-        outputs.as_slice(),
-        pieces,
-    ) {
-        Some(word) => local_only(alloc, word),
-        None => count(alloc, command, pieces, outputs),
+    match outside_of(alloc, &command.outputs, pieces)? {
+        Some(word) => Ok(Reading::LocalOnly { word }),
+        None => count(alloc, command, pieces),
     }
 }
 
-/// The reading of compile words that name these outputs.
-fn count(
+/// The first word that is no compile word, in a command that has these outputs besides those that
+/// its words name.
+fn outside_of(
     alloc: Global,
-    command: &Command,
+    outputs: &Items<RelPath>,
     pieces: &[Piece],
-    outputs: Items<RelPath>,
-) -> Result<Reading, NoMemory>
-    requires { outputs ≡ outputs_of pieces.now }
+) -> Result<Option<Text>, NoMemory>
+    ensures { IfOk result (λ word. word ≡ outside_of outputs.now pieces.now) }
+{
+    let outputs = sort_paths(outputs_of(alloc, pieces, outputs.try_clone(alloc)?)?)?;
+    let has_file = says(pieces, Meaning::DependencyFile);
+    match first_outside(has_file, outputs.as_slice(), pieces) {
+        Some(word) => Ok(Some(Text::copy_of(alloc, word)?)),
+        None => Ok(None),
+    }
+}
+
+/// The reading of compile words.
+fn count(alloc: Global, command: &Command, pieces: &[Piece]) -> Result<Reading, NoMemory>
     ensures { IfOk result (λ reading. reading ≡ counted command.now pieces.now (only (sources_of pieces.now))) }
 {
     let Some(source) = only(sources_of(alloc, pieces)?) else {
@@ -123,18 +141,12 @@ fn count(
     }
     match first_variable(command.environment.as_slice()) {
         Some(name) => local_only(alloc, name.as_str()),
-        None => compile(alloc, pieces, source, outputs),
+        None => compile(alloc, pieces, source),
     }
 }
 
-/// The reading of a compile command with this source and these outputs.
-fn compile(
-    alloc: Global,
-    pieces: &[Piece],
-    source: RelPath,
-    outputs: Items<RelPath>,
-) -> Result<Reading, NoMemory>
-    requires { outputs ≡ outputs_of pieces.now }
+/// The reading of a compile command with this source.
+fn compile(alloc: Global, pieces: &[Piece], source: RelPath) -> Result<Reading, NoMemory>
     ensures { IfOk result (λ reading. reading ≡ compiled pieces.now source) }
 {
     let dirs = paths_of(alloc, pieces, Meaning::Dir, Items::new(alloc))?;
@@ -145,7 +157,7 @@ fn compile(
         dirs: paths_of(alloc, pieces, Meaning::AfterDir, dirs)?,
         forced: texts_of(alloc, pieces, Meaning::Forced)?,
         sysroots: paths_of(alloc, pieces, Meaning::Sysroot, Items::new(alloc))?,
-        outputs: sort_paths(outputs)?,
+        outputs: sort_paths(outputs_of(alloc, pieces, Items::new(alloc))?)?,
         is_c: says(pieces, Meaning::CSource),
     })
 }

@@ -71,9 +71,9 @@ fn show(alloc: Global, reading: &Reading) -> Result<String, NoMemory> {
     Ok(shown)
 }
 
-/// The reading of a line in the directory `w`, as a line. The inputs are `w/a.cc` and `w/d/x.h`, and
-/// `w/k/l` is an output of the command.
-fn read_line(alloc: Global, words: &str, names: &str) -> Result<String, Fail> {
+/// The reading of a line in the directory `w`, as a line. `w/k/l` is an output of the
+/// command.
+fn read_line(alloc: Global, words: &str, names: &str, inputs: &str) -> Result<String, Fail> {
     let command = Command {
         words: texts(alloc, words)?,
         environment: variables(alloc, names)?,
@@ -82,10 +82,15 @@ fn read_line(alloc: Global, words: &str, names: &str) -> Result<String, Fail> {
         platform: Items::new(alloc),
         timeout_seconds: 0,
     };
-    let inputs = paths(alloc, "w/a.cc w/d/x.h")?;
+    let inputs = paths(alloc, inputs)?;
     let reading = read_command(alloc, &command, inputs.as_slice())?;
     Ok(show(alloc, &reading)?)
 }
+
+/// Declared inputs in the order of their bytes, and with repeats in another.
+const SORTED: &str = "w/a.cc w/d/x.h";
+
+const UNSORTED: &str = "w/d/x.h w/a.cc w/d/x.h";
 
 static COMPILED: [(&str, &str); 13] = [
     ("cc -c a.cc -o a.o", "w/a.cc | | | | | w/a.o | C++"),
@@ -125,7 +130,7 @@ static COMPILED: [(&str, &str); 13] = [
 #[test]
 fn reads_compile_commands(rt: HostRuntime) -> Result<(), Fail> {
     for (words, want) in COMPILED {
-        let shown = read_line(rt.alloc(), words, "PATH")?;
+        let shown = read_line(rt.alloc(), words, "PATH", SORTED)?;
         assert_eq!(rt; shown.as_str(), want, "at {words}");
     }
     Ok(())
@@ -183,7 +188,7 @@ static SILENT: [&str; 44] = [
 fn passes_over_silent_words(rt: HostRuntime) -> Result<(), Fail> {
     for word in SILENT {
         let words = format!(in rt.alloc(); "cc {word} -c a.cc -o a.o")?;
-        let shown = read_line(rt.alloc(), words.as_str(), "CPATHS")?;
+        let shown = read_line(rt.alloc(), words.as_str(), "CPATHS", SORTED)?;
         assert_eq!(rt; shown.as_str(), "w/a.cc | | | | | w/a.o | C++", "at {word}");
     }
     Ok(())
@@ -259,7 +264,7 @@ static LOCAL_ONLY: [(&str, &str); 62] = [
 fn tells_the_word(rt: HostRuntime) -> Result<(), Fail> {
     for (words, want) in LOCAL_ONLY {
         let words = format!(in rt.alloc(); "cc -c a.cc {words}")?;
-        let shown = read_line(rt.alloc(), words.as_str(), "CPATH")?;
+        let shown = read_line(rt.alloc(), words.as_str(), "CPATH", UNSORTED)?;
         assert_eq!(rt; shown.as_str(), want, "at {words}");
     }
     Ok(())
@@ -292,7 +297,7 @@ static OTHERS: [(&str, &str, &str); 8] = [
 #[test]
 fn tells_counts_and_variables(rt: HostRuntime) -> Result<(), Fail> {
     for (words, names, want) in OTHERS {
-        let shown = read_line(rt.alloc(), words, names)?;
+        let shown = read_line(rt.alloc(), words, names, SORTED)?;
         assert_eq!(rt; shown.as_str(), want, "at {words} with {names}");
     }
     Ok(())
