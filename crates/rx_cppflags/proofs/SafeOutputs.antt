@@ -1,0 +1,161 @@
+-- The outputs of a compile command are safe.
+use Rattle.std.proofs.Common.{◌≡◌, ℕ, Bool, true, false, not, ◌&&◌, ◌||◌, inl, inr, List, [], ◌∷◌, ◌++◌, Option, Some, None, Result, Ok, Err, IfOk, refl, sym, ◌∙◌, subst, cond, drop}
+use Rattle.std.specs.List.{AllByRecursion, find, list_any}
+use Rattle.std.specs.Option.{option_map}
+use Rattle.std.proofs.lemmas.Bool.{cond_both}
+use Rattle.rx_base.specs.Paths.{is_below}
+use Rattle.rx_base.specs.SortedPaths.{sorted_paths}
+use Rattle.rx_world.specs.declared.commands.Command.{Command}
+use Rattle.rx_cppflags.specs.declared.meanings.Meaning.{Meaning}
+use Rattle.rx_cppflags.specs.declared.meanings.Meaning.TheVariants.{Output, DependencyFile, CompileOnly}
+use Rattle.rx_cppflags.specs.declared.readings.Reading.{Reading}
+use Rattle.rx_cppflags.specs.declared.readings.Reading.TheVariants.{LocalOnly}
+use Rattle.rx_cppflags.specs.Meanings.{same, names_output}
+use Rattle.rx_cppflags.specs.Places.{is_writable, kept, path_from, path_of}
+use Rattle.rx_cppflags.specs.Rows.{Row, row_for, own_value, takes_next}
+use Rattle.rx_cppflags.specs.Pieces.{Saying, said_by, saying, sayings_after, uses_next, with_next}
+use Rattle.rx_cppflags.specs.Found.{is_apart, is_in_table, outputs_of, outside_of, path_for, paths_of, says, says_once, sources_of}
+use Rattle.rx_cppflags.specs.Variables.{first_variable}
+use Rattle.rx_cppflags.specs.Readings.{IsSafeOutput, HasSafeOutputs, compiled, counted, first_word, judged, only, reading_of, unless_variable}
+use Rattle.rx_cppflags.proofs.Lists.{split, and_left, and_right, not_false, or_left, or_right, or_true, each, both, first_part, second_part, none_passes, with_option, of_sorted}
+
+-- ---- what each word's path is
+
+next_placed : (d : List ℕ) (inputs : List (List ℕ)) (meaning : Meaning) (word : List ℕ) (others : List (List ℕ))
+    → (with_next d inputs meaning word others).path ≡ path_of d inputs (with_next d inputs meaning word others).meaning (with_next d inputs meaning word others).text
+next_placed d inputs meaning word [] = refl
+next_placed d inputs meaning word (next ∷ others) = refl
+
+said_placed : (d : List ℕ) (inputs : List (List ℕ)) (row : Option Row) (word : List ℕ) (others : List (List ℕ))
+    → (said_by d inputs row word others).path ≡ path_of d inputs (said_by d inputs row word others).meaning (said_by d inputs row word others).text
+said_placed d inputs None word others = refl
+said_placed d inputs (Some row) word others =
+    cond_both (takes_next word row) (with_next d inputs row.meaning word others) (saying d inputs row.meaning (own_value word row) word) (λ s. s.path ≡ path_of d inputs s.meaning s.text)
+    (λ _. next_placed d inputs row.meaning word others)
+    (λ _. refl)
+
+placed : (d : List ℕ) (inputs : List (List ℕ)) (is_value : Bool) (words : List (List ℕ)) → AllByRecursion (λ s. s.path ≡ path_of d inputs s.meaning s.text) (sayings_after d inputs is_value words)
+unfolding sayings_after
+placed d inputs true [] = tt
+placed d inputs false [] = tt
+placed d inputs true (word ∷ others) = placed d inputs false others
+placed d inputs false (word ∷ others) = (said_placed d inputs (row_for word) word others, placed d inputs (uses_next (row_for word) word) others)
+
+-- ---- what is known of each word in the table
+
+none_outside : (test : Saying → Bool) (said : List Saying) → option_map (λ s. s.word) (find (λ s. not (test s)) said) ≡ None → AllByRecursion (λ s. test s ≡ true) said
+none_outside test [] e = tt
+none_outside test (s ∷ said) e =
+    elim (split (test s)) [
+      | inl t ↦ (t, none_outside test said (rw t at e))
+      | inr f ↦ let wrong = rw f at e in absurd (cc wrong)
+    ]
+
+passed : (test : List ℕ → Bool) (path : List ℕ) (b : Bool) (found : List ℕ) → test found ≡ b → cond b (Some found) None ≡ Some path → test path ≡ true
+passed test path true found t e = let same_path : found ≡ path = cc in rw (sym same_path) t
+passed test path false found t e = absurd (cc e)
+
+kept_passes : (test : List ℕ → Bool) (o : Option (List ℕ)) (path : List ℕ) → kept test o ≡ Some path → test path ≡ true
+kept_passes test None path e = absurd (cc e)
+kept_passes test (Some found) path e = passed test path (test found) found refl e
+
+-- a path that a command may write, apart from these
+abbrev IsWritten : List ℕ → List (List ℕ) → List (List ℕ) → List ℕ → Type 0
+IsWritten d inputs outputs path = (is_writable d inputs path ≡ true) × (is_apart outputs path ≡ true)
+
+written : (d : List ℕ) (inputs outputs : List (List ℕ)) (has_file : Bool) (s : Saying) → is_in_table has_file outputs s ≡ true → s.path ≡ path_of d inputs s.meaning s.text
+    → (path : List ℕ) → names_output s.meaning ≡ true → s.path ≡ Some path → IsWritten d inputs outputs path
+written d inputs outputs has_file s t p path n e =
+    let from_text : kept (is_writable d inputs) (path_from d s.text) ≡ Some path = sym (rw n at p) ∙ e in
+    let apart : is_apart outputs path ≡ true = rw (n, e) at t in
+    (kept_passes (is_writable d inputs) (path_from d s.text) path from_text, apart)
+
+-- ---- from the words to the outputs
+
+for_meaning : (meaning : Meaning) (P : List ℕ → Type 0) (s : Saying) → ((path : List ℕ) → same s.meaning meaning ≡ true → s.path ≡ Some path → P path)
+    → (path : List ℕ) → path_for meaning s ≡ Some path → P path
+for_meaning meaning P s f path e =
+    elim (split (same s.meaning meaning)) [
+      | inl t ↦ f path t (rw t at e)
+      | inr n ↦ let wrong = rw n at e in absurd (cc wrong)
+    ]
+
+each_path : (meaning : Meaning) (P : List ℕ → Type 0) (said : List Saying) → AllByRecursion (λ s. (path : List ℕ) → same s.meaning meaning ≡ true → s.path ≡ Some path → P path) said
+    → AllByRecursion P (paths_of meaning said)
+each_path meaning P [] p = tt
+each_path meaning P (s ∷ said) p = with_option P (path_for meaning s) (paths_of meaning said) (for_meaning meaning P s p.0) (each_path meaning P said p.1)
+
+is_output : (m : Meaning) → same m Output ≡ true → names_output m ≡ true
+is_output m e = rw e refl
+
+is_dependency_file : (m : Meaning) → same m DependencyFile ≡ true → names_output m ≡ true
+is_dependency_file m e = rw e (or_true (same m Output))
+
+each_output : (P : List ℕ → Type 0) (said : List Saying) → AllByRecursion (λ s. (path : List ℕ) → names_output s.meaning ≡ true → s.path ≡ Some path → P path) said
+    → AllByRecursion P (outputs_of said)
+each_output P said p =
+    both P (paths_of Output said) (paths_of DependencyFile said)
+    (each_path Output P said (each _ (λ _. Unit {0}) _ (λ s f _ path e. f path (is_output s.meaning e)) said p (each _ _ (λ _. Unit {0}) (λ _ _ _. tt) said p p)))
+    (each_path DependencyFile P said (each _ (λ _. Unit {0}) _ (λ s f _ path e. f path (is_dependency_file s.meaning e)) said p (each _ _ (λ _. Unit {0}) (λ _ _ _. tt) said p p)))
+
+-- what the definition tests of an output is what is promised of it
+safe : (command : Command) (inputs named : List (List ℕ)) (path : List ℕ) → IsWritten command.working_directory inputs (command.outputs ++ named) path → IsSafeOutput command inputs (sorted_paths named) path
+safe command inputs named path w =
+    let near : List ℕ → Bool = λ other. is_below path other || is_below other path in
+    let far : List ℕ → Type 0 = λ other. (is_below path other ≡ false) × (is_below other path ≡ false) in
+    let none : AllByRecursion (λ other. near other ≡ false) (command.outputs ++ named) = none_passes near (command.outputs ++ named) (not_false (list_any near (command.outputs ++ named)) w.1) in
+    let apart : AllByRecursion far (command.outputs ++ named) =
+    each (λ other. near other ≡ false) (λ other. near other ≡ false) far (λ other e _. (or_left (is_below path other) (is_below other path) e, or_right (is_below path other) (is_below other path) e)) (command.outputs ++ named) none none in
+    let above : List ℕ → Bool = λ input. is_below input path in
+    record {
+      below = and_left (is_below path command.working_directory) (not (list_any above inputs)) w.0;
+      clear = none_passes above inputs (not_false (list_any above inputs) (and_right (is_below path command.working_directory) (not (list_any above inputs)) w.0));
+      apart = both far command.outputs (sorted_paths named) (first_part far command.outputs named apart) (of_sorted far named (second_part far command.outputs named apart));
+    }
+
+-- ---- the reading
+
+unless_safe : (command : Command) (inputs : List (List ℕ)) (said : List Saying) (source : List ℕ) → AllByRecursion (IsSafeOutput command inputs (sorted_paths (outputs_of said))) (sorted_paths (outputs_of said))
+    → (o : Option (List ℕ)) → HasSafeOutputs command inputs (unless_variable o (compiled said source))
+unless_safe command inputs said source p None = p
+unless_safe command inputs said source p (Some name) = tt
+
+counted_safe : (command : Command) (inputs : List (List ℕ)) (said : List Saying) → AllByRecursion (IsSafeOutput command inputs (sorted_paths (outputs_of said))) (sorted_paths (outputs_of said))
+    → (o : Option (List ℕ)) → HasSafeOutputs command inputs (counted command said o)
+counted_safe command inputs said p None = tt
+counted_safe command inputs said p (Some source) =
+    cond_both (says CompileOnly said && says_once Output said) (unless_variable (first_variable command.environment) (compiled said source)) (LocalOnly (first_word command.words)) (λ reading. HasSafeOutputs command inputs reading)
+    (λ _. unless_safe command inputs said source p (first_variable command.environment))
+    (λ _. tt)
+
+outputs_safe : (command : Command) (inputs : List (List ℕ)) (said : List Saying) → AllByRecursion (λ s. s.path ≡ path_of command.working_directory inputs s.meaning s.text) said
+    → outside_of command.outputs said ≡ None
+    → AllByRecursion (IsSafeOutput command inputs (sorted_paths (outputs_of said))) (sorted_paths (outputs_of said))
+outputs_safe command inputs said p e =
+    let has_file : Bool = says DependencyFile said in
+    let outputs : List (List ℕ) = command.outputs ++ outputs_of said in
+    let inside : AllByRecursion (λ s. is_in_table has_file outputs s ≡ true) said = none_outside (is_in_table has_file outputs) said e in
+    let all_written : AllByRecursion (IsWritten command.working_directory inputs outputs) (outputs_of said) =
+    each_output (IsWritten command.working_directory inputs outputs) said
+    (each (λ s. is_in_table has_file outputs s ≡ true) (λ s. s.path ≡ path_of command.working_directory inputs s.meaning s.text)
+    (λ s. (path : List ℕ) → names_output s.meaning ≡ true → s.path ≡ Some path → IsWritten command.working_directory inputs outputs path)
+    (written command.working_directory inputs outputs has_file) said inside p) in
+    of_sorted (IsSafeOutput command inputs (sorted_paths (outputs_of said))) (outputs_of said)
+    (each (IsWritten command.working_directory inputs outputs) (IsWritten command.working_directory inputs outputs) (IsSafeOutput command inputs (sorted_paths (outputs_of said)))
+    (λ path w _. safe command inputs (outputs_of said) path w) (outputs_of said) all_written all_written)
+
+judged_safe : (command : Command) (inputs : List (List ℕ)) (said : List Saying) → AllByRecursion (λ s. s.path ≡ path_of command.working_directory inputs s.meaning s.text) said
+    → (o : Option (List ℕ)) → outside_of command.outputs said ≡ o → HasSafeOutputs command inputs (judged command said o)
+judged_safe command inputs said p None e = counted_safe command inputs said (outputs_safe command inputs said p e) (only (sources_of said))
+judged_safe command inputs said p (Some word) e = tt
+
+-- the outputs of each reading are safe
+pub reading_safe : (command : Command) (inputs : List (List ℕ)) → HasSafeOutputs command inputs (reading_of command inputs)
+unfolding reading_of
+reading_safe command inputs =
+    let said : List Saying = sayings_after command.working_directory inputs false (drop 1 command.words) in
+    judged_safe command inputs said (placed command.working_directory inputs false (drop 1 command.words)) (outside_of command.outputs said) refl
+
+pub told_safe : {E : Type 0} (command : Command) (inputs : List (List ℕ)) (result : Result Reading E) → IfOk result (λ reading. reading ≡ reading_of command inputs) → IfOk result (λ reading. HasSafeOutputs command inputs reading)
+told_safe command inputs (Ok reading) e = subst (λ (found : Reading). HasSafeOutputs command inputs found) (sym e) (reading_safe command inputs)
+told_safe command inputs (Err error) e = tt

@@ -1,0 +1,58 @@
+-- What all words of a command together name, and which of them aren't compile words.
+use Rattle.std.specs.Prelude.{ℕ, ◌==◌, Bool, false, not, ◌||◌, List, ◌++◌, map, Option, Some, None, if◌then◌else◌, count_by}
+use Rattle.std.specs.List.{find, filter, filter_map, list_any}
+use Rattle.std.specs.Option.{is_some, option_map}
+use Rattle.rx_base.specs.Paths.{is_below}
+use Rattle.rx_cppflags.specs.declared.meanings.Meaning.{Meaning}
+use Rattle.rx_cppflags.specs.declared.meanings.Meaning.TheVariants.{Refused, CSource, CppSource, Output, DependencyFile, Dependencies}
+use Rattle.rx_cppflags.specs.Meanings.{same, names_output, names_path}
+use Rattle.rx_cppflags.specs.Pieces.{Saying}
+
+-- whether something of this meaning is said
+abbrev pub says : Meaning → List Saying → Bool
+says meaning said = list_any (λ s. same s.meaning meaning) said
+
+-- whether exactly one word has this meaning
+abbrev pub says_once : Meaning → List Saying → Bool
+says_once meaning said = count_by (λ s. same s.meaning meaning) said == 1
+
+abbrev pub path_for : Meaning → Saying → Option (List ℕ)
+path_for meaning s = if same s.meaning meaning then s.path else None
+
+-- the paths of this meaning
+abbrev pub paths_of : Meaning → List Saying → List (List ℕ)
+paths_of meaning said = filter_map (path_for meaning) said
+
+-- the texts of this meaning
+abbrev pub texts_of : Meaning → List Saying → List (List ℕ)
+texts_of meaning said = map (λ s. s.text) (filter (λ s. same s.meaning meaning) said)
+
+abbrev pub sources_of : List Saying → List (List ℕ)
+sources_of said = paths_of CSource said ++ paths_of CppSource said
+
+abbrev pub outputs_of : List Saying → List (List ℕ)
+outputs_of said = paths_of Output said ++ paths_of DependencyFile said
+
+-- whether no path is above or below one of the others
+abbrev pub is_apart : List (List ℕ) → List ℕ → Bool
+is_apart others path = not (list_any (λ other. is_below path other || is_below other path) others)
+
+abbrev pub is_apart_output : List (List ℕ) → Option (List ℕ) → Bool
+is_apart_output others None = false
+is_apart_output others (Some path) = is_apart others path
+
+-- Whether a word is a compile word, where a file of dependencies is named or not, among these outputs.
+abbrev pub is_in_table : Bool → List (List ℕ) → Saying → Bool
+is_in_table has_file outputs s =
+    if names_output s.meaning then is_apart_output outputs s.path
+    else if names_path s.meaning then is_some s.path
+    else if same s.meaning Dependencies then has_file
+    else not (same s.meaning Refused)
+
+-- the first word that is no compile word, where a file of dependencies is named or not, among these outputs
+abbrev pub first_outside : Bool → List (List ℕ) → List Saying → Option (List ℕ)
+first_outside has_file outputs said = option_map (λ s. s.word) (find (λ s. not (is_in_table has_file outputs s)) said)
+
+-- the first word that is no compile word, in a command that has these outputs besides those that its words name
+abbrev pub outside_of : List (List ℕ) → List Saying → Option (List ℕ)
+outside_of outputs said = first_outside (says DependencyFile said) (outputs ++ outputs_of said) said

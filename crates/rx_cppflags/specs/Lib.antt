@@ -1,0 +1,7 @@
+pub mod Found
+pub mod Meanings
+pub mod Pieces
+pub mod Places
+pub mod Readings
+pub mod Rows
+pub mod Variables

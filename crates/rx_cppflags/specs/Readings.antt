@@ -1,0 +1,74 @@
+-- How a compile command is read.
+use Rattle.std.specs.Prelude.{◌≡◌, ℕ, true, false, ◌&&◌, List, [], ◌∷◌, ◌++◌, drop, Option, Some, None, if◌then◌else◌}
+use Rattle.std.specs.List.{AllByRecursion}
+use Rattle.rx_base.specs.Paths.{is_below}
+use Rattle.rx_base.specs.SortedPaths.{sorted_paths}
+use Rattle.rx_world.specs.declared.commands.Command.{Command}
+use Rattle.rx_cppflags.specs.declared.meanings.Meaning.TheVariants.{CSource, QuoteDir, Dir, SystemDir, AfterDir, Forced, Sysroot, Output, CompileOnly}
+use Rattle.rx_cppflags.specs.declared.readings.Reading.{Reading}
+use Rattle.rx_cppflags.specs.declared.readings.Reading.TheVariants.{Compile, LocalOnly}
+use Rattle.rx_cppflags.specs.Pieces.{Saying, sayings}
+use Rattle.rx_cppflags.specs.Found.{says, says_once, paths_of, texts_of, sources_of, outputs_of, outside_of}
+use Rattle.rx_cppflags.specs.Variables.{first_variable}
+
+-- the compiler; a command without words has the empty text for it
+abbrev pub first_word : List (List ℕ) → List ℕ
+first_word [] = []
+first_word (word ∷ others) = word
+
+-- a compile command with this source
+abbrev pub compiled : List Saying → List ℕ → Reading
+compiled said source =
+    Compile
+    source
+    (paths_of QuoteDir said)
+    (paths_of Dir said ++ paths_of SystemDir said ++ paths_of AfterDir said)
+    (texts_of Forced said)
+    (paths_of Sysroot said)
+    (sorted_paths (outputs_of said))
+    (says CSource said)
+
+-- unless its environment has one of these variables
+abbrev pub unless_variable : Option (List ℕ) → Reading → Reading
+unless_variable None reading = reading
+unless_variable (Some name) reading = LocalOnly name
+
+-- the one path of a list that has one
+abbrev pub only : List (List ℕ) → Option (List ℕ)
+only [] = None
+only (path ∷ []) = Some path
+only (path ∷ other ∷ others) = None
+
+-- where the words say that it compiles, and have one source and one output
+abbrev pub counted : Command → List Saying → Option (List ℕ) → Reading
+counted command said None = LocalOnly (first_word command.words)
+counted command said (Some source) =
+    if says CompileOnly said && says_once Output said
+    then unless_variable (first_variable command.environment) (compiled said source)
+    else LocalOnly (first_word command.words)
+
+-- where each of them is a compile word
+abbrev pub judged : Command → List Saying → Option (List ℕ) → Reading
+judged command said None = counted command said (only (sources_of said))
+judged command said (Some word) = LocalOnly word
+
+abbrev pub reading_from : Command → List Saying → Reading
+reading_from command said = judged command said (outside_of command.outputs said)
+
+-- How a command with these declared inputs is read.
+unfoldable pub reading_of : Command → List (List ℕ) → Reading
+reading_of command inputs = reading_from command (sayings command.working_directory inputs (drop 1 command.words))
+
+-- ---- the outputs of a compile command
+
+-- An output that its command may write: it lies below the working directory, above no declared input, and
+-- above and below none of the outputs that the command has or that its words name.
+pub record IsSafeOutput (command : Command) (inputs outputs : List (List ℕ)) (path : List ℕ) : Type 0 where
+  pub below : is_below path command.working_directory ≡ true
+  pub clear : AllByRecursion (λ input. is_below input path ≡ false) inputs
+  pub apart : AllByRecursion (λ other. (is_below path other ≡ false) × (is_below other path ≡ false)) (command.outputs ++ outputs)
+
+-- where a command is read as one that compiles, each output that its words name is such
+abbrev pub HasSafeOutputs : Command → List (List ℕ) → Reading → Type 0
+HasSafeOutputs command inputs (Compile source quote_dirs dirs forced sysroots outputs is_c) = AllByRecursion (IsSafeOutput command inputs outputs) outputs
+HasSafeOutputs command inputs (LocalOnly word) = Unit {0}

@@ -1,0 +1,131 @@
+//! What all words of a command together name, and which of them aren't compile words.
+
+ghost use Rattle.std.specs.Prelude.{◌≡◌, ◌++◌, IfOk, option_map};
+ghost use Rattle.rx_base.specs.SortedPaths.{AreSorted};
+ghost use Rattle.rx_cppflags.specs.Found.{first_outside, is_in_table, outputs_of, path_for, paths_of, says, says_once, sources_of, texts_of};
+
+use crate::meanings::Meaning;
+use crate::pieces::Piece;
+use crate::searches::is_apart;
+use rx_base::{Items, NoMemory, RelPath, Text, TryClone};
+use std::alloc::Global;
+
+/// Whether something of this meaning is said.
+pub(crate) fn says(pieces: &[Piece], meaning: Meaning) -> bool
+    ensures { result ≡ says meaning pieces.now }
+{
+    pieces.iter().any(|piece| piece.meaning.is(meaning))
+}
+
+/// The paths of this meaning.
+pub(crate) fn paths_of(
+    alloc: Global,
+    pieces: &[Piece],
+    meaning: Meaning,
+    mut paths: Items<RelPath>,
+) -> Result<Items<RelPath>, NoMemory>
+    ensures { IfOk result (λ all. all ≡ paths ++ paths_of meaning pieces.now) }
+{
+    for piece in pieces {
+        if let Some(path) = path_for(piece, meaning) {
+            paths.push(path.try_clone(alloc)?)?;
+        }
+    }
+    Ok(paths)
+}
+
+/// The path that a piece names, if it has this meaning.
+fn path_for<'a>(piece: &'a Piece, meaning: Meaning) -> Option<&'a RelPath>
+    ensures { option_map (λ path. path.now) result ≡ path_for meaning piece.now }
+{
+    if piece.meaning.is(meaning) {
+        piece.path.as_ref()
+    } else {
+        None
+    }
+}
+
+/// The texts of this meaning.
+pub(crate) fn texts_of(
+    alloc: Global,
+    pieces: &[Piece],
+    meaning: Meaning,
+) -> Result<Items<Text>, NoMemory>
+    ensures { IfOk result (λ texts. texts ≡ texts_of meaning pieces.now) }
+{
+    let mut texts = Items::new(alloc);
+    for piece in pieces {
+        if piece.meaning.is(meaning) {
+            texts.push(Text::copy_of(alloc, piece.text)?)?;
+        }
+    }
+    Ok(texts)
+}
+
+/// The sources that are named.
+pub(crate) fn sources_of(alloc: Global, pieces: &[Piece]) -> Result<Items<RelPath>, NoMemory>
+    ensures { IfOk result (λ paths. paths ≡ sources_of pieces.now) }
+{
+    let paths = paths_of(alloc, pieces, Meaning::CSource, Items::new(alloc))?;
+    paths_of(alloc, pieces, Meaning::CppSource, paths)
+}
+
+/// Paths, and behind them the outputs that are named.
+pub(crate) fn outputs_of(
+    alloc: Global,
+    pieces: &[Piece],
+    paths: Items<RelPath>,
+) -> Result<Items<RelPath>, NoMemory>
+    ensures { IfOk result (λ all. all ≡ paths ++ outputs_of pieces.now) }
+{
+    let paths = paths_of(alloc, pieces, Meaning::Output, paths)?;
+    paths_of(alloc, pieces, Meaning::DependencyFile, paths)
+}
+
+/// Whether exactly one word has this meaning.
+pub(crate) fn says_once(pieces: &[Piece], meaning: Meaning) -> bool
+    ensures { result ≡ says_once meaning pieces.now }
+{
+    pieces
+        .iter()
+        .filter(|piece| piece.meaning.is(meaning))
+        .count()
+        == 1
+}
+
+/// The word of the first piece that is no compile word, where a file of dependencies is named or
+/// not, among these sorted outputs.
+pub(crate) fn first_outside<'a>(
+    has_file: bool,
+    outputs: &[RelPath],
+    pieces: &[Piece<'a>],
+) -> Option<&'a str>
+    requires { AreSorted outputs.now }
+    ensures { option_map (λ word. word.now) result ≡ first_outside has_file outputs.now pieces.now }
+{
+    for piece in pieces {
+        if !is_in_table(has_file, outputs, piece) {
+            return Some(piece.word);
+        }
+    }
+    None
+}
+
+/// Whether a piece is a compile word.
+fn is_in_table(has_file: bool, outputs: &[RelPath], piece: &Piece) -> bool
+    requires { AreSorted outputs.now }
+    ensures { result ≡ is_in_table has_file outputs.now piece.now }
+{
+    if piece.meaning.names_output() {
+        match &piece.path {
+            Some(path) => is_apart(path, outputs),
+            None => false,
+        }
+    } else if piece.meaning.names_path() {
+        piece.path.is_some()
+    } else if piece.meaning.is(Meaning::Dependencies) {
+        has_file
+    } else {
+        !piece.meaning.is(Meaning::Refused)
+    }
+}

@@ -1,0 +1,17 @@
+//! What the words of a compile command name: its source, the directories that includes are sought
+//! in, forced files and outputs. Only words are read here: no file is looked at.
+#![tactic(auto)]
+
+mod found;
+mod meanings;
+mod pieces;
+mod places;
+mod readings;
+mod rows;
+mod searches;
+mod variables;
+
+pub use readings::{Reading, read_command};
+
+#[cfg(test)]
+mod tests;

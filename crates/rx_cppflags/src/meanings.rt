@@ -1,0 +1,80 @@
+//! What a compile word can say, and where its value stands. Which words there are stands in `rows`.
+
+/// Which words a row speaks of, and where their value stands.
+#[derive(Clone, Copy, Debug, PartialEq, Eq)]
+pub(crate) enum Form {
+    /// The spelling itself, without a value.
+    Alone,
+    /// The spelling itself; the next word is the value.
+    Next,
+    /// Words that begin with the spelling; what follows it is the value.
+    Joined,
+    /// `Next` for the spelling itself, and `Joined` for longer words.
+    JoinedOrNext,
+    /// `Joined`, for words without `=`.
+    JoinedWithoutEquals,
+    /// Words that end in the spelling and don't begin with `-`; the whole word is the value.
+    Ending,
+}
+
+/// What a word says with its value.
+#[derive(Clone, Copy, Debug, PartialEq, Eq)]
+pub(crate) enum Meaning {
+    /// The word isn't a compile word.
+    Refused,
+    /// Nothing that is read here.
+    Nothing,
+    /// A source in C.
+    CSource,
+    /// A source in C++.
+    CppSource,
+    /// A directory for quoted names alone.
+    QuoteDir,
+    /// A directory for quoted and angled names.
+    Dir,
+    /// Such a directory, sought in after those.
+    SystemDir,
+    /// Such a directory, sought in after these.
+    AfterDir,
+    /// A file that is included before the source's first line.
+    Forced,
+    /// The root of the system's own directories.
+    Sysroot,
+    /// The file that is made.
+    Output,
+    /// The file that the dependencies are written to.
+    DependencyFile,
+    /// That dependencies are written.
+    Dependencies,
+    /// That the source is compiled and not linked.
+    CompileOnly,
+}
+
+impl Meaning {
+    ghost use Rattle.std.specs.Prelude.{◌≡◌};
+    ghost use Rattle.rx_cppflags.specs.Meanings.{same, names_output, names_path};
+
+    /// Whether it is this one.
+    pub(crate) fn is(self, other: Meaning) -> bool
+        ensures { result ≡ same self other }
+    {
+        self == other
+    }
+
+    /// Whether the value is a path that the compiler writes.
+    pub(crate) fn names_output(self) -> bool
+        ensures { result ≡ names_output self }
+    {
+        self.is(Meaning::Output) || self.is(Meaning::DependencyFile)
+    }
+
+    /// Whether the value is a path.
+    pub(crate) fn names_path(self) -> bool
+        ensures { result ≡ names_path self }
+    {
+        !matches!(
+            self,
+            Meaning::Refused | Meaning::Nothing | Meaning::Dependencies | Meaning::CompileOnly
+        )
+    }
+}

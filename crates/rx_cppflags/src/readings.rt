@@ -1,0 +1,190 @@
+//! How a compile command is read: as one whose includes can be followed, or as one that only the
+//! machine itself can run.
+
+ghost use Rattle.std.specs.Prelude.{◌≡◌, ◌++◌, IfOk, drop, option_map};
+ghost use Rattle.rx_base.specs.SortedPaths.{AreSorted};
+ghost use Rattle.rx_cppflags.specs.Found.{outside_of, sources_of};
+ghost use Rattle.rx_cppflags.specs.Readings.{HasSafeOutputs, compiled, counted, first_word, only, reading_from, reading_of};
+
+use crate::found::{first_outside, outputs_of, paths_of, says, says_once, sources_of, texts_of};
+use crate::meanings::Meaning;
+use crate::pieces::{Piece, Site, cut};
+use crate::searches::{are_sorted, copy_paths};
+use crate::variables::first_variable;
+use rx_base::{Items, NoMemory, RelPath, Text, TryClone, sort_paths};
+use rx_world::Command;
+use std::alloc::Global;
+
+/// How a compile command is read. Paths are relative to the root.
+#[derive(Debug, Drop)]
+pub enum Reading {
+    /// Each word is a compile word, and the files that the compiler opens can be found by a scan.
+    Compile {
+        /// The one source.
+        source: RelPath,
+        /// The directories of `-iquote`, for quoted names alone, in the order of the words.
+        quote_dirs: Items<RelPath>,
+        /// The directories of `-I`, then of `-isystem`, then of `-idirafter`, each in the order of
+        /// the words.
+        dirs: Items<RelPath>,
+        /// The files of `-include` and `-imacros` as they are written, in the order of the words.
+        forced: Items<Text>,
+        /// The system roots, in which no name is sought.
+        sysroots: Items<RelPath>,
+        /// What the words name as outputs, sorted by bytes, each once.
+        outputs: Items<RelPath>,
+        /// Whether the source is C.
+        is_c: bool,
+    },
+    /// The command is more than that, by this word or this name of an environment variable.
+    LocalOnly {
+        word: Text,
+    },
+}
+
+/// Reads the words of a compile command with these declared inputs.
+///
+/// The first word is the compiler. `LocalOnly` names the first other word that is no compile word:
+/// that of a flag that the table doesn't have or whose next word is missing; the path's own word
+/// where the path is absolute, leaves the root or begins with `=` or `$`; an output's that isn't
+/// below the working directory, is above a declared input, or above or below another output, also
+/// one of the command's own; and `-MD` or `-MMD` without a `-MF`. Next it names the compiler where
+/// there is no `-c`, not one source, or not one `-o`. Last it names the first variable of the
+/// environment that adds directories of includes.
+pub fn read_command(
+    alloc: Global,
+    command: &Command,
+    inputs: &[RelPath],
+) -> Result<Reading, NoMemory>
+    ensures exact { IfOk result (λ reading. reading ≡ reading_of command.now inputs.now) }
+    ensures safe { IfOk result (λ reading. HasSafeOutputs command.now inputs.now reading) }
+{
+    read(alloc, command, inputs)
+}
+
+fn read(alloc: Global, command: &Command, inputs: &[RelPath]) -> Result<Reading, NoMemory>
+    ensures { IfOk result (λ reading. reading ≡ reading_of command.now inputs.now) }
+{
+    if are_sorted(inputs) {
+        return read_sorted(alloc, command, inputs);
+    }
+    let inputs = sort_paths(copy_paths(alloc, inputs)?)?;
+    read_sorted(alloc, command, inputs.as_slice())
+}
+
+/// The reading of a command with these sorted declared inputs.
+#[tactic(auto, unfolding(crate::specs::Readings::reading_of))]
+fn read_sorted(alloc: Global, command: &Command, inputs: &[RelPath]) -> Result<Reading, NoMemory>
+    requires { AreSorted inputs.now }
+    ensures { IfOk result (λ reading. reading ≡ reading_of command.now inputs.now) }
+{
+    let site = Site {
+        directory: &command.working_directory,
+        inputs,
+    };
+    let mut pieces = Vec::new(alloc);
+    cut(
+        alloc,
+        site,
+        arguments(command.words.as_slice()),
+        &mut pieces,
+    )?;
+    read_pieces(alloc, command, &pieces)
+}
+
+/// The words behind the compiler.
+fn arguments(words: &[Text]) -> &[Text]
+    ensures { result.now ≡ drop 1 words.now }
+{
+    match words {
+        [] => words,
+        [_, others @ ..] => others,
+    }
+}
+
+/// The reading of a command whose words say this.
+fn read_pieces(alloc: Global, command: &Command, pieces: &[Piece]) -> Result<Reading, NoMemory>
+    ensures { IfOk result (λ reading. reading ≡ reading_from command.now pieces.now) }
+{
+    match outside_of(alloc, &command.outputs, pieces)? {
+        Some(word) => Ok(Reading::LocalOnly { word }),
+        None => count(alloc, command, pieces),
+    }
+}
+
+/// The first word that is no compile word, in a command that has these outputs besides those that
+/// its words name.
+fn outside_of(
+    alloc: Global,
+    outputs: &Items<RelPath>,
+    pieces: &[Piece],
+) -> Result<Option<Text>, NoMemory>
+    ensures { IfOk result (λ word. word ≡ outside_of outputs.now pieces.now) }
+{
+    let outputs = sort_paths(outputs_of(alloc, pieces, outputs.try_clone(alloc)?)?)?;
+    let has_file = says(pieces, Meaning::DependencyFile);
+    match first_outside(has_file, outputs.as_slice(), pieces) {
+        Some(word) => Ok(Some(Text::copy_of(alloc, word)?)),
+        None => Ok(None),
+    }
+}
+
+/// The reading of compile words.
+fn count(alloc: Global, command: &Command, pieces: &[Piece]) -> Result<Reading, NoMemory>
+    ensures { IfOk result (λ reading. reading ≡ counted command.now pieces.now (only (sources_of pieces.now))) }
+{
+    let Some(source) = only(sources_of(alloc, pieces)?) else {
+        return local_only(alloc, first_word(command.words.as_slice()));
+    };
+    if !says(pieces, Meaning::CompileOnly) || !says_once(pieces, Meaning::Output) {
+        return local_only(alloc, first_word(command.words.as_slice()));
+    }
+    match first_variable(command.environment.as_slice()) {
+        Some(name) => local_only(alloc, name.as_str()),
+        None => compile(alloc, pieces, source),
+    }
+}
+
+/// The reading of a compile command with this source.
+fn compile(alloc: Global, pieces: &[Piece], source: RelPath) -> Result<Reading, NoMemory>
+    ensures { IfOk result (λ reading. reading ≡ compiled pieces.now source) }
+{
+    let dirs = paths_of(alloc, pieces, Meaning::Dir, Items::new(alloc))?;
+    let dirs = paths_of(alloc, pieces, Meaning::SystemDir, dirs)?;
+    Ok(Reading::Compile {
+        source,
+        quote_dirs: paths_of(alloc, pieces, Meaning::QuoteDir, Items::new(alloc))?,
+        dirs: paths_of(alloc, pieces, Meaning::AfterDir, dirs)?,
+        forced: texts_of(alloc, pieces, Meaning::Forced)?,
+        sysroots: paths_of(alloc, pieces, Meaning::Sysroot, Items::new(alloc))?,
+        outputs: sort_paths(outputs_of(alloc, pieces, Items::new(alloc))?)?,
+        is_c: says(pieces, Meaning::CSource),
+    })
+}
+
+fn local_only(alloc: Global, word: &str) -> Result<Reading, NoMemory>
+    ensures { IfOk result (λ reading. reading ≡ Reading.LocalOnly word.now) }
+{
+    Ok(Reading::LocalOnly {
+        word: Text::copy_of(alloc, word)?,
+    })
+}
+
+/// The one path of a list that has one.
+fn only(paths: Items<RelPath>) -> Option<RelPath>
+    ensures { result ≡ only paths }
+{
+    let mut paths = paths.into_vec();
+    let last = paths.pop();
+    if paths.is_empty() { last } else { None }
+}
+
+/// The compiler; a command without words has the empty text for it.
+fn first_word(words: &[Text]) -> &str
+    ensures { result.now ≡ first_word words.now }
+{
+    match words.first() {
+        Some(word) => word.as_str(),
+        None => "",
+    }
+}
