@@ -10,7 +10,6 @@ use crate::letters::{is_blank, letter};
 pub(crate) enum Class {
     /// Space, tab, vertical tab, form feed or CR.
     Blank,
-    Digit,
     /// What a word may have: a letter, a digit or `_`.
     Name,
 }
@@ -39,7 +38,6 @@ fn is_in(class: Class, byte: u8) -> bool
 {
     match class {
         Class::Blank => is_blank(byte),
-        Class::Digit => is_digit(byte),
         Class::Name => is_name(byte),
     }
 }

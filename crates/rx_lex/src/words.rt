@@ -1,5 +1,5 @@
 //! The words that matter, told by their letters.
-ghost use Rattle.std.specs.Prelude.{◌≡◌, ◌≤◌, ◌∷◌, length, true};
+ghost use Rattle.std.specs.Prelude.{◌≡◌, ◌≤◌, length, true};
 ghost use Rattle.std.specs.List.{list_all};
 ghost use Rattle.rx_lex.specs.Letters.{letters_at};
 ghost use Rattle.rx_lex.specs.Pieces.{is_name};
@@ -9,7 +9,7 @@ ghost use Rattle.rx_lex.specs.Words.{spellings, word_bytes};
 use crate::class::next_is_name;
 use crate::letters::begins;
 
-/// A word, or a few that mean the same.
+/// A word that matters, or a few of which it doesn't matter which one stands.
 #[derive(Clone, Copy)]
 pub(crate) enum Keyword {
     /// `include`, `include_next` or `import` in a directive
@@ -27,13 +27,16 @@ pub(crate) enum Keyword {
     EmbedQuery,
 }
 
-/// Whether a word that begins with `first` is `head` and `tail`.
-fn spells(text: &[u8], first: u8, next: usize, head: u8, tail: &[u8]) -> bool
+/// Whether a word that begins with `first`, before `next`, is `word`.
+fn spells(text: &[u8], first: u8, next: usize, word: &[u8]) -> bool
     requires room { next ≤ length text.now }
-    requires names { list_all is_name tail.now ≡ true }
-    ensures { result ≡ same (word_bytes first (letters_at text.now next)) (head ∷ tail.now) }
+    requires names { list_all is_name word.now ≡ true }
+    ensures { result ≡ same (word_bytes first (letters_at text.now next)) word.now }
 {
-    if first != head {
+    let Some((head, tail)) = word.split_first() else {
+        return false;
+    };
+    if first != *head {
         return false;
     }
     match begins(text, next, tail) {
@@ -50,22 +53,22 @@ pub(crate) fn is_keyword(text: &[u8], first: u8, next: usize, keyword: Keyword) 
 {
     match keyword {
         Keyword::Include => {
-            spells(text, first, next, b'i', b"nclude")
-                || spells(text, first, next, b'i', b"nclude_next")
-                || spells(text, first, next, b'i', b"mport")
+            spells(text, first, next, b"include")
+                || spells(text, first, next, b"include_next")
+                || spells(text, first, next, b"import")
         }
         Keyword::IncludeQuery => {
-            spells(text, first, next, b'_', b"_has_include")
-                || spells(text, first, next, b'_', b"_has_include_next")
+            spells(text, first, next, b"__has_include")
+                || spells(text, first, next, b"__has_include_next")
         }
         Keyword::Module => {
-            spells(text, first, next, b'i', b"mport") || spells(text, first, next, b'm', b"odule")
+            spells(text, first, next, b"import") || spells(text, first, next, b"module")
         }
-        Keyword::Import => spells(text, first, next, b'i', b"mport"),
-        Keyword::Export => spells(text, first, next, b'e', b"xport"),
-        Keyword::Pragma => spells(text, first, next, b'p', b"ragma"),
-        Keyword::Dependency => spells(text, first, next, b'd', b"ependency"),
-        Keyword::Embed => spells(text, first, next, b'e', b"mbed"),
-        Keyword::EmbedQuery => spells(text, first, next, b'_', b"_has_embed"),
+        Keyword::Import => spells(text, first, next, b"import"),
+        Keyword::Export => spells(text, first, next, b"export"),
+        Keyword::Pragma => spells(text, first, next, b"pragma"),
+        Keyword::Dependency => spells(text, first, next, b"dependency"),
+        Keyword::Embed => spells(text, first, next, b"embed"),
+        Keyword::EmbedQuery => spells(text, first, next, b"__has_embed"),
     }
 }
