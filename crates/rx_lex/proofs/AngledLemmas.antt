@@ -1,9 +1,9 @@
 -- A search for `>` that passes over letters and splices.
-use Rattle.std.proofs.Common.{◌≡◌, ◌≢◌, ◌⊎◌, ℕ, zero, suc, ◌+◌, ◌-◌, ◌<◌, ◌≤◌, List, [], ◌∷◌, length, get_or, drop, refl, ap, sym, subst, ◌∙◌, arith, Bool, true, false, cond, ◌==◌, Option, None, Some, inl, inr, ⊎_elim}
+use Rattle.std.proofs.Common.{◌≡◌, ◌≢◌, ◌⊎◌, ℕ, zero, suc, ◌+◌, ◌-◌, ◌<◌, ◌≤◌, List, [], ◌∷◌, length, get_or, drop, refl, ap, sym, subst, ◌∙◌, arith, Bool, true, false, cond, ◌==◌, Option, None, Some, inl, inr}
 use Rattle.std.proofs.lemmas.List.{drop-drop}
 use Rattle.std.proofs.lemmas.Bool.{cases_lt}
 use Rattle.std.proofs.lemmas.Bool.Decides.{nat_tests}
-use Rattle.rx_lex.specs.Letters.{Letter, IsNext, MaybeReaches, is_blank, letters_at, letters_from, letter_before, one_more, splice_at, splice_rest}
+use Rattle.rx_lex.specs.Letters.{Letter, is_blank, letters_at, letters_from, letter_before, one_more, splice_at, splice_rest}
 use Rattle.rx_lex.specs.Pieces.{behind_header}
 use Rattle.rx_lex.specs.Angled.{IsBarren}
 use Rattle.rx_lex.proofs.LetterLemmas.{letters_end, next_drop, next_of, splice_from}

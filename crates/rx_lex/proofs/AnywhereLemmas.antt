@@ -1,5 +1,5 @@
 -- The three words that make a file hard anywhere, in one search.
-use Rattle.std.proofs.Common.{◌≡◌, ℕ, List, [], ◌∷◌, ◌++◌, refl, ap, sym, ◌∙◌, Bool, true, false, cond, ◌||◌, ◌&&◌, ◌==◌}
+use Rattle.std.proofs.Common.{◌≡◌, List, [], ◌∷◌, ◌++◌, refl, ap, sym, ◌∙◌, Bool, true, false, cond, ◌||◌, ◌&&◌, ◌==◌}
 use Rattle.std.specs.Prelude.{codes}
 use Rattle.rx_lex.specs.Letters.{Letter, begins}
 use Rattle.rx_lex.specs.Directives.{contains, has_lone_return, is_hard_anywhere}

@@ -1,12 +1,11 @@
 -- Runs of bytes that matter to no phase.
-use Rattle.std.proofs.Common.{not, ◌≡◌, ◌≢◌, ℕ, zero, suc, ◌+◌, ◌-◌, ◌<◌, ◌≤◌, List, [], ◌∷◌, ◌++◌, length, refl, ap, sym, subst, ◌∙◌, arith, Bool, true, false, cond, ◌||◌, ◌&&◌, ◌==◌, Option, Some, None, drop}
+use Rattle.std.proofs.Common.{◌≡◌, ℕ, ◌≤◌, List, [], ◌∷◌, ◌++◌, length, refl, ap, sym, subst, ◌∙◌, arith, Bool, true, false, cond, ◌||◌, ◌&&◌, ◌==◌, Option, Some, None, drop}
 use Rattle.std.specs.Prelude.{codes}
-use Rattle.std.proofs.lemmas.Grind.{common_steps}
 use Rattle.std.proofs.lemmas.Bool.Decides.{nat_tests}
 use Rattle.rx_lex.specs.Letters.{Letter, begins, is_blank}
 use Rattle.rx_lex.specs.Quiet.{IsDull, is_dull}
 use Rattle.rx_lex.proofs.ShorterLemmas.{behind_all_short, behind_number_short}
-use Rattle.rx_lex.specs.Pieces.{behind_all, behind_number, begins_digit, raw_prefix, raw_at, raw_behind, space_at, comment_at, literal_at, number_at, word_at, mark_at, header_at, front, plain_front, or_else, whole, goes_on, is_name, is_digit, is_exponent, begins_name, Front, Kind, Comment, Literal, Raw, Header, Number, Word, Blank, LineEnd, Mark}
+use Rattle.rx_lex.specs.Pieces.{behind_all, behind_number, begins_digit, raw_at, raw_behind, space_at, comment_at, literal_at, number_at, word_at, mark_at, header_at, front, plain_front, or_else, whole, is_name, is_digit, is_exponent, begins_name, Front, Kind, Number, Word, Blank, LineEnd, Mark}
 
 -- what follows a run doesn't go on with what passes the test
 abbrev pub Stops : (ℕ → Bool) → List Letter → Type 0

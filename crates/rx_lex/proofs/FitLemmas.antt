@@ -1,15 +1,17 @@
 -- What a cut of the code keeps of its piece.
-use Rattle.std.proofs.Common.{◌≡◌, ◌≢◌, ℕ, zero, suc, ◌+◌, ◌-◌, ◌<◌, ◌≤◌, List, [], ◌∷◌, ◌++◌, length, take, drop, refl, ap, sym, subst, ◌∙◌, arith, Bool, true, false, cond, not, ◌||◌, ◌&&◌, ◌==◌, Option, Some, None, ⊎_elim, ◌⊎◌}
+use Rattle.std.proofs.Common.{◌≡◌, ℕ, zero, suc, ◌+◌, ◌-◌, ◌<◌, ◌≤◌, List, [], ◌∷◌, length, take, drop, refl, ap, sym, ◌∙◌, arith, Bool, true, false, cond, not, ◌||◌, ◌&&◌, ◌==◌, Option, Some, None}
 use Rattle.std.specs.Prelude.{codes}
 use Rattle.std.proofs.lemmas.Bool.Decides.{nat_tests}
-use Rattle.rx_lex.specs.Letters.{Letter, begins, bytes, letters_at, letter_before, is_blank, is_split_at}
-use Rattle.rx_lex.specs.Pieces.{Piece, Front, piece, Kind as PieceKind, Comment, Literal, Raw, Header, Number, Word, Blank, LineEnd, Mark, is_digit, is_name, behind_all, behind_line, behind_header, literal, raw, raw_at, raw_behind, raw_prefix}
+use Rattle.rx_lex.specs.Letters.{Letter, bytes, letters_at, letter_before, is_blank, is_split_at}
+use Rattle.rx_lex.specs.Pieces.{Front, Kind as PieceKind, Literal, Raw, Header, is_digit, is_name, behind_all, behind_line, behind_header, literal, raw, raw_at, raw_behind, raw_prefix}
 use Rattle.rx_lex.proofs.TextLemmas.{word_text}
-use Rattle.rx_lex.specs.Line.{any, is_word, same, spells, is_among, hash_marks, open_marks}
-use Rattle.rx_lex.specs.Directives.{is_hard_alone, is_long_raw, is_header, is_raw, is_literal, name_in, Name, contains}
-use Rattle.rx_lex.specs.Ends.{closing, header_bytes, line_front}
+use Rattle.rx_lex.specs.Line.{is_word, same, spells, hash_marks, open_marks}
+use Rattle.rx_lex.specs.Directives.{is_hard_alone, is_long_raw, is_header, is_raw, name_in, Name, contains}
+use Rattle.rx_lex.specs.Header.{closing, header_bytes}
+use Rattle.rx_lex.specs.Words.{word_bytes}
+use Rattle.rx_lex.specs.Literal.{line_front}
 use Rattle.rx_lex.proofs.ShorterLemmas.{behind_all_short}
-use Rattle.rx_lex.specs.Cut.{Fits, kind_view, is_hash, is_open, is_long, piece_view, front_view, IsRawStart, split_in}
+use Rattle.rx_lex.specs.Cut.{Fits, kind_view, is_hash, is_open, is_long, piece_view, IsRawStart, split_in}
 use Rattle.rx_lex.specs.declared.cut.Cut.{Cut}
 use Rattle.rx_lex.specs.declared.cut.Kind.{Kind}
 use Rattle.rx_lex.specs.declared.cut.Kind.TheVariants as code
@@ -49,24 +51,41 @@ open_not (suc n) l ls k w h =
 pub no_header : (h : Bool) → h ≡ false → h ≡ true → ⊥
 no_header h e f = grind arith
 
+-- a piece that opens no directive and no parenthesis
+fits_by : (text : List ℕ) (first next : ℕ) (cut : Cut) → IsPlain first → next ≤ cut.end → cut.end ≤ length text → is_hash cut.kind ≡ false → is_open cut.kind ≡ false
+    → is_hard_alone (piece_view text first next cut) ≡ cut.hard
+    → (cut.hard ≡ false → is_long_raw (piece_view text first next cut) ≡ is_long cut.kind)
+    → (is_word (kind_view cut.kind) ≡ true → bytes (piece_view text first next cut).text ≡ word_bytes first (letters_at text next))
+    → (is_header (kind_view cut.kind) ≡ true
+    → name_in (piece_view text first next cut) ≡ (record { angled = first == 60; name = header_bytes (closing first) (letters_at text next) }))
+    → Fits text first next cut
+fits_by text first next cut plain on within hash opens alone long word named =
+    let l : Letter = letter_before text first next in
+    let ls : List Letter = letters_at text next in
+    let n : ℕ = length (l ∷ ls) - length (letters_at text cut.end) in
+    record {
+      on = on;
+      within = within;
+      alone = alone;
+      long = long;
+      hash = hash_not n l ls (kind_view cut.kind) cut.whole plain ∙ sym hash;
+      opens = open_not n l ls (kind_view cut.kind) cut.whole plain ∙ sym opens;
+      word = word;
+      named = named;
+    }
+
 -- a piece of no kind of its own
 pub fits_plain : (text : List ℕ) (first next : ℕ) (kind : Kind) (end : ℕ) → IsPlain first → next ≤ end → end ≤ length text
     → is_raw (kind_view kind) ≡ false → is_header (kind_view kind) ≡ false → is_hash kind ≡ false → is_open kind ≡ false → is_long kind ≡ false
     → is_word (kind_view kind) ≡ false → Fits text first next (record { kind = kind; whole = true; hard = false; end = end })
 fits_plain text first next kind end plain on within raw header hash opens long word =
-    let l : Letter = letter_before text first next in
-    let ls : List Letter = letters_at text next in
-    let n : ℕ = length (l ∷ ls) - length (letters_at text end) in
-    record {
-      on = on;
-      within = within;
-      alone = alone_not (kind_view kind) (take n (l ∷ ls)) raw;
-      long = λ h. long_not (kind_view kind) (take n (l ∷ ls)) true raw ∙ sym long;
-      hash = hash_not n l ls (kind_view kind) true plain ∙ sym hash;
-      opens = open_not n l ls (kind_view kind) true plain ∙ sym opens;
-      word = λ h. absurd (no_header (is_word (kind_view kind)) word h);
-      named = λ h. absurd (no_header (is_header (kind_view kind)) header h);
-    }
+    let cut : Cut = record { kind = kind; whole = true; hard = false; end = end } in
+    let spelled : List Letter = (piece_view text first next cut).text in
+    fits_by text first next cut plain on within hash opens
+    (alone_not (kind_view kind) spelled raw)
+    (λ h. long_not (kind_view kind) spelled true raw ∙ sym long)
+    (λ h. absurd (no_header (is_word (kind_view kind)) word h))
+    (λ h. absurd (no_header (is_header (kind_view kind)) header h))
 
 pub blank_plain : (b : ℕ) → is_blank b ≡ true → IsPlain b
 blank_plain b h = grind (arith, nat_tests)
@@ -89,17 +108,9 @@ pub fits_word : (text : List ℕ) (first next end : ℕ) → IsPlain first → n
 fits_word text first next end plain on within e =
     let l : Letter = letter_before text first next in
     let ls : List Letter = letters_at text next in
-    let n : ℕ = length (l ∷ ls) - length (letters_at text end) in
-    record {
-      on = on;
-      within = within;
-      alone = refl;
-      long = λ no. refl;
-      hash = hash_not n l ls Word true plain;
-      opens = open_not n l ls Word true plain;
-      word = λ yes. ap (λ (rest : List Letter). bytes (take (length (l ∷ ls) - length rest) (l ∷ ls))) (sym e) ∙ word_text l ls;
-      named = λ no. absurd (no_header false refl no);
-    }
+    fits_by text first next (record { kind = code.Word; whole = true; hard = false; end = end }) plain on within refl refl refl (λ no. refl)
+    (λ yes. ap (λ (rest : List Letter). bytes (take (length (l ∷ ls) - length rest) (l ∷ ls))) (sym e) ∙ word_text l ls)
+    (λ no. absurd (no_header false refl no))
 
 -- a literal that isn't closed ends before the line's end
 by_line : (e t : Bool) (l : Letter) (ls line : List Letter) (r : Front) → (r.whole ≡ false → r.rest ≡ line)
@@ -176,37 +187,17 @@ pub fits_open : (text : List ℕ) (first next : ℕ) (hard : Bool) (end : ℕ) �
 fits_open text first next hard end plain on within e h =
     let l : Letter = letter_before text first next in
     let ls : List Letter = letters_at text next in
-    let n : ℕ = length (l ∷ ls) - length (letters_at text end) in
     let rest : letters_at text end ≡ behind_line ls =
     sym (ap (λ (f : Front). f.rest) e) ∙ open_literal first false ls (ap (λ (f : Front). f.whole) e) in
-    record {
-      on = on;
-      within = within;
-      alone = open_alone l ls (letters_at text end) rest ∙ sym h;
-      long = λ no. refl;
-      hash = hash_not n l ls Literal false plain;
-      opens = open_not n l ls Literal false plain;
-      word = λ no. absurd (no_header false refl no);
-      named = λ no. absurd (no_header false refl no);
-    }
+    fits_by text first next (record { kind = code.Literal; whole = false; hard = hard; end = end }) plain on within refl refl
+    (open_alone l ls (letters_at text end) rest ∙ sym h) (λ no. refl) (λ no. absurd (no_header false refl no)) (λ no. absurd (no_header false refl no))
 
 -- a comment without end
 pub fits_endless : (text : List ℕ) (first next end : ℕ) → IsPlain first → next ≤ end → end ≤ length text
     → Fits text first next (record { kind = code.Comment; whole = false; hard = true; end = end })
 fits_endless text first next end plain on within =
-    let l : Letter = letter_before text first next in
-    let ls : List Letter = letters_at text next in
-    let n : ℕ = length (l ∷ ls) - length (letters_at text end) in
-    record {
-      on = on;
-      within = within;
-      alone = refl;
-      long = λ no. refl;
-      hash = hash_not n l ls Comment false plain;
-      opens = open_not n l ls Comment false plain;
-      word = λ no. absurd (no_header false refl no);
-      named = λ no. absurd (no_header false refl no);
-    }
+    fits_by text first next (record { kind = code.Comment; whole = false; hard = true; end = end }) plain on within refl refl refl
+    (λ no. refl) (λ no. absurd (no_header false refl no)) (λ no. absurd (no_header false refl no))
 
 -- a raw literal
 pub fits_raw : (text : List ℕ) (first next : ℕ) (whole hard long : Bool) (end : ℕ) → IsPlain first → next ≤ end → end ≤ length text
@@ -214,19 +205,8 @@ pub fits_raw : (text : List ℕ) (first next : ℕ) (whole hard long : Bool) (en
     → (hard ≡ false → contains (10 ∷ []) (piece_view text first next (record { kind = code.Raw long; whole = whole; hard = hard; end = end })).text ≡ long)
     → Fits text first next (record { kind = code.Raw long; whole = whole; hard = hard; end = end })
 fits_raw text first next whole hard long end plain on within alone lines =
-    let l : Letter = letter_before text first next in
-    let ls : List Letter = letters_at text next in
-    let n : ℕ = length (l ∷ ls) - length (letters_at text end) in
-    record {
-      on = on;
-      within = within;
-      alone = alone;
-      long = lines;
-      hash = hash_not n l ls Raw whole plain;
-      opens = open_not n l ls Raw whole plain;
-      word = λ no. absurd (no_header false refl no);
-      named = λ no. absurd (no_header false refl no);
-    }
+    fits_by text first next (record { kind = code.Raw long; whole = whole; hard = hard; end = end }) plain on within refl refl alone lines
+    (λ no. absurd (no_header false refl no)) (λ no. absurd (no_header false refl no))
 
 pub raw_bad : (text : List ℕ) (first next end : ℕ) → IsRawStart first → next ≤ end → end ≤ length text
     → Fits text first next (record { kind = code.Raw false; whole = false; hard = true; end = end })
@@ -311,19 +291,11 @@ pub fits_header : (text : List ℕ) (first next end : ℕ) → IsPlain first →
     → behind_header (closing first) (letters_at text next) ≡ Some (letters_at text end)
     → Fits text first next (record { kind = code.Header; whole = true; hard = false; end = end })
 fits_header text first next end plain on within e =
-    let l : Letter = letter_before text first next in
     let ls : List Letter = letters_at text next in
-    let n : ℕ = length (l ∷ ls) - length (letters_at text end) in
-    record {
-      on = on;
-      within = within;
-      alone = refl;
-      long = λ no. refl;
-      hash = hash_not n l ls Header true plain;
-      opens = open_not n l ls Header true plain;
-      word = λ no. absurd (no_header false refl no);
-      named = λ yes. name_is l ls (letters_at text end) (closing first) true (header_cut (closing first) ls (letters_at text end) e);
-    }
+    let rest : List Letter = letters_at text end in
+    fits_by text first next (record { kind = code.Header; whole = true; hard = false; end = end }) plain on within refl refl refl (λ no. refl)
+    (λ no. absurd (no_header false refl no))
+    (λ yes. name_is (letter_before text first next) ls rest (closing first) true (header_cut (closing first) ls rest e))
 
 pub raw_none : (first : ℕ) (ls : List Letter) → raw_prefix first ls ≡ 0 → raw_at first ls ≡ None
 unfolding raw_at

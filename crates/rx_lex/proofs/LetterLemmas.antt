@@ -1,11 +1,11 @@
-use Rattle.std.proofs.Common.{◌≡◌, ◌≢◌, ℕ, zero, suc, ◌+◌, ◌-◌, ◌<◌, ◌≤◌, List, [], ◌∷◌, length, get_or, take, drop, refl, ap, sym, subst, ◌∙◌, add-one, arith, length-drop, drop-cons, Bool, true, false, cond, ◌==◌, eq-eqb, add-suc, zero-add}
-use Rattle.std.proofs.lemmas.Grind.{common_steps}
+-- The letters from a place on: at a plain byte, at a splice, and over a run without splices.
+use Rattle.std.proofs.Common.{◌≡◌, ◌≢◌, ℕ, zero, suc, ◌+◌, ◌-◌, ◌<◌, ◌≤◌, List, [], ◌∷◌, ◌++◌, length, get_or, take, drop, refl, ap, sym, subst, ◌∙◌, add-one, arith, length-drop, drop-cons, Bool, true, false, zero-add}
 use Rattle.std.proofs.lemmas.List.{drop_all, drop-drop, get_or-drop, take_all}
 use Rattle.std.proofs.Math.Nat.{add-zero}
 use Rattle.memchr.specs.Find.{Nowhere, NoneBefore, Passes}
 use Rattle.std.proofs.lemmas.Bool.Decides.{nat_tests}
 use Rattle.std.specs.Prelude.{nat_lt}
-use Rattle.rx_lex.specs.Letters.{Letter, begins, letters_from, letters_at, splice_at, splice_rest, one_more, IsNext, Without, is_blank, letter_before, is_split_at}
+use Rattle.rx_lex.specs.Letters.{Letter, begins, letters_from, letters_at, splice_at, splice_rest, one_more, IsNext, ReadsSame, Without, is_blank, letter_before}
 
 -- behind a splice the letters go on
 pub letters_skip : (n : ℕ) (xs : List ℕ) → letters_from n xs ≡ letters_from 0 (drop n xs)
@@ -84,7 +84,6 @@ splice_other b bs h e = grind (arith, nat_tests)
 pub splice_end : (b : ℕ) (bs : List ℕ) → b ≡ 10 → splice_rest (b ∷ bs) ≡ 1
 splice_end b bs h = grind (arith, nat_tests)
 
--- A reading that passes over each byte that fails the test reads the same behind a run of them.
 pub fails : (b : Bool) → ¬ (b ≡ true) → b ≡ false
 fails true h = absurd (h refl)
 fails false h = refl
@@ -95,30 +94,55 @@ not_both b f h = grind arith
 pub no_backslash : (test : ℕ → Bool) (b : ℕ) → test 92 ≡ true → test b ≡ false → b ≢ 92
 no_backslash test b h f e = not_both (test b) f (ap test e ∙ h)
 
-pub skips : {X : Type 0} (F : List Letter → X) (test : ℕ → Bool) → test 92 ≡ true
-    → ((l : Letter) (ls : List Letter) → test l.byte ≡ false → F (l ∷ ls) ≡ F ls)
-    → (text : List ℕ) (n at : ℕ) → Without test text at (at + n) → F (letters_at text at) ≡ F (letters_at text (at + n))
-skips F test mark each text zero at w = ap (λ p. F (letters_at text p)) (sym (add-zero at))
-skips F test mark each text (suc n) at w =
+-- so many bytes as letters
+abbrev pub plain : List ℕ → ℕ → ℕ → List Letter
+plain text at zero = []
+plain text at (suc n) = letter_before text (get_or text at 0) (at + 1) ∷ plain text (at + 1) n
+
+pub plain_length : (text : List ℕ) (n at : ℕ) → length (plain text at n) ≡ n
+plain_length text zero at = refl
+plain_length text (suc n) at = ap (λ (k : ℕ). suc k) (plain_length text n (at + 1))
+
+without_behind : (test : ℕ → Bool) (text : List ℕ) (n at : ℕ) → Without test text at (at + suc n) → Without test text (at + 1) (at + 1 + n)
+without_behind test text n at w = record {
+  on = omega arith;
+  within = omega (arith, w.within);
+  none = λ k above below. w.none k (omega arith) (omega arith);
+}
+
+-- A run without splices is read as its bytes.
+pub plain_is : (test : ℕ → Bool) → test 92 ≡ true → (text : List ℕ) (n at : ℕ) → Without test text at (at + n)
+    → letters_at text at ≡ plain text at n ++ letters_at text (at + n)
+plain_is test mark text zero at w = ap (λ p. letters_at text p) (sym (add-zero at))
+plain_is test mark text (suc n) at w =
     let here : test (get_or text at 0) ≡ false = fails (test (get_or text at 0)) (w.none at (omega arith) (omega arith)) in
     let next : IsNext text at (get_or text at 0) (at + 1) = next_plain text at (omega (arith, w.within)) (no_backslash test (get_or text at 0) mark here) in
     let place : at + 1 + n ≡ at + suc n = omega arith in
-    let later : Without test text (at + 1) (at + 1 + n) = record {
-      on = omega arith;
-      within = omega (arith, w.within);
-      none = λ k above below. w.none k (omega arith) (omega arith);
-    } in
-    ap F next.is
-    ∙ each (letter_before text (get_or text at 0) (at + 1)) (letters_at text (at + 1)) here
-    ∙ skips F test mark each text n (at + 1) later
-    ∙ ap (λ p. F (letters_at text p)) place
+    let l : Letter = letter_before text (get_or text at 0) (at + 1) in
+    next.is
+    ∙ (ap (λ (ls : List Letter). l ∷ ls) (plain_is test mark text n (at + 1) (without_behind test text n at w))
+    ∙ ap (λ (p : ℕ). l ∷ (plain text (at + 1) n ++ letters_at text p)) place)
 
-pub skips_to : {X : Type 0} (F : List Letter → X) (test : ℕ → Bool) → test 92 ≡ true
+skips_over : {X : Type 0} (F : List Letter → X) (test : ℕ → Bool) → ((l : Letter) (ls : List Letter) → test l.byte ≡ false → F (l ∷ ls) ≡ F ls)
+    → (text : List ℕ) (n at : ℕ) (rest : List Letter) → Without test text at (at + n) → F (plain text at n ++ rest) ≡ F rest
+skips_over F test each text zero at rest w = refl
+skips_over F test each text (suc n) at rest w =
+    each (letter_before text (get_or text at 0) (at + 1)) (plain text (at + 1) n ++ rest) (fails (test (get_or text at 0)) (w.none at (omega arith) (omega arith)))
+    ∙ skips_over F test each text n (at + 1) rest (without_behind test text n at w)
+
+pub reads_without : {X : Type 0} (F : List Letter → X) (test : ℕ → Bool) → test 92 ≡ true
     → ((l : Letter) (ls : List Letter) → test l.byte ≡ false → F (l ∷ ls) ≡ F ls)
-    → (text : List ℕ) (at to : ℕ) → Without test text at to → F (letters_at text at) ≡ F (letters_at text to)
-skips_to F test mark each text at to w =
+    → (text : List ℕ) (at to : ℕ) → Without test text at to → ReadsSame F text at to
+reads_without F test mark each text at to w =
     let place : at + (to - at) ≡ to = omega (arith, w.on) in
-    skips F test mark each text (to - at) at (subst (Without test text at) (sym place) w) ∙ ap (λ p. F (letters_at text p)) place
+    let run : Without test text at (at + (to - at)) = subst (Without test text at) (sym place) w in
+    record {
+      same = ap F (plain_is test mark text (to - at) at run)
+          ∙ (skips_over F test each text (to - at) at (letters_at text (at + (to - at))) run
+          ∙ ap (λ p. F (letters_at text p)) place);
+      on = w.on;
+      within = w.within;
+    }
 
 passes_at : (test : ℕ → Bool) (text : List ℕ) (at k : ℕ) → at ≤ k → test (get_or text k 0) ≡ true → Passes test (drop at text) (k - at)
 passes_at test text at k le e =

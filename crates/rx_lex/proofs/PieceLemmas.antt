@@ -1,8 +1,8 @@
-use Rattle.std.proofs.Common.{◌≡◌, ◌≢◌, ℕ, zero, suc, ◌+◌, ◌-◌, ◌<◌, ◌≤◌, List, [], ◌∷◌, length, get_or, refl, ap, sym, subst, ◌∙◌, arith, Bool, true, false, ◌==◌, Option, Some, None}
-use Rattle.std.proofs.lemmas.Grind.{common_steps}
+-- What comments and the words that make a file hard do at one letter.
+use Rattle.std.proofs.Common.{◌≡◌, ◌≢◌, List, [], ◌∷◌, arith, false, Some, None}
 use Rattle.std.proofs.lemmas.Bool.Decides.{nat_tests}
 use Rattle.memchr.specs.Find.{is_byte2, is_byte3}
-use Rattle.rx_lex.specs.Letters.{Letter, letters_at, IsNext, Reaches, Without}
+use Rattle.rx_lex.specs.Letters.{Letter}
 use Rattle.rx_lex.specs.Pieces.{behind_line, behind_block}
 use Rattle.rx_lex.specs.Directives.{has_lone_return}
 use Rattle.rx_lex.specs.Anywhere.{has_word}

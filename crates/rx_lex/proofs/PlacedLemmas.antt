@@ -1,7 +1,7 @@
 -- The pieces of a text, one by one.
-use Rattle.std.proofs.Common.{◌≡◌, ◌≢◌, ℕ, zero, suc, ◌+◌, ◌-◌, ◌<◌, ◌≤◌, List, [], ◌∷◌, length, refl, ap, sym, ◌∙◌, arith, Bool}
+use Rattle.std.proofs.Common.{◌≡◌, ℕ, zero, suc, ◌<◌, List, [], ◌∷◌, length, refl, ap, arith}
 use Rattle.rx_lex.specs.Letters.{Letter}
-use Rattle.rx_lex.specs.Pieces.{front, piece, Piece, LineEnd}
+use Rattle.rx_lex.specs.Pieces.{front, piece, Piece}
 use Rattle.rx_lex.specs.Line.{wants_header}
 use Rattle.rx_lex.specs.Directives.{Placed, placed, behind}
 use Rattle.rx_lex.proofs.ShorterLemmas.{front_short}

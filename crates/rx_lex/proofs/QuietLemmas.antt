@@ -1,33 +1,31 @@
--- Bytes without splices are letters; from dull bytes come dull letters.
+-- From what the code knows of the text ahead comes a dull run.
 use Rattle.std.proofs.Common.{not, ◌≡◌, ◌≢◌, ℕ, zero, suc, ◌+◌, ◌-◌, ◌<◌, ◌≤◌, List, [], ◌∷◌, ◌++◌, length, length-drop, get_or, drop, take, refl, ap, sym, subst, ◌∙◌, arith, Bool, true, false, cond, ◌||◌, ◌==◌}
-use Rattle.std.specs.Prelude.{codes, min}
+use Rattle.std.specs.Prelude.{codes}
 use Rattle.std.proofs.lemmas.Bool.Decides.{nat_tests}
 use Rattle.std.proofs.lemmas.List.{get_or-drop, get_or-take, length-take-le}
 use Rattle.memchr.specs.Find.{NoneBefore, Nowhere, OccursAt, Passes, is_byte}
-use Rattle.rx_lex.specs.Letters.{IsNext, Letter, begins, letter_before, letters_at}
-use Rattle.rx_lex.specs.Quiet.{IsAhead, IsDull, IsLineEnd, Run, is_dull, opens_literal, opens_mark, quiet_end}
+use Rattle.rx_lex.specs.Letters.{IsNext, Letter, Without, begins, letter_before, letters_at}
+use Rattle.rx_lex.specs.Quiet.{IsAhead, IsDull, IsLineEnd, Run, may_matter, opens_literal, opens_mark, quiet_end}
 use Rattle.rx_lex.specs.declared.quiet.Ahead.{Ahead}
-use Rattle.rx_lex.proofs.LetterLemmas.{fails, next_plain, range_all}
-
--- so many bytes as letters
-abbrev pub plain : List ℕ → ℕ → ℕ → List Letter
-plain text at zero = []
-plain text at (suc n) = letter_before text (get_or text at 0) (at + 1) ∷ plain text (at + 1) n
-
-pub record IsQuiet (text : List ℕ) (from to : ℕ) : Type 0 where
-  pub within : to ≤ length text
-  pub dull : (k : ℕ) → from ≤ k → k < to → is_dull (get_or text k 0) ≡ true
-  pub import_word : Nowhere (OccursAt text (codes "import")) from to
-  pub module_word : Nowhere (OccursAt text (codes "module")) from to
+use Rattle.rx_lex.proofs.LetterLemmas.{fails, next_plain, plain, plain_is, range_all}
 
 -- what is nowhere is nowhere in a part
 nowhere_part : (P : ℕ → Type 0) (i j low high : ℕ) → Nowhere P i j → i ≤ low → high ≤ j → Nowhere P low high
 nowhere_part P i j low high h a b = λ k above below. h k (omega arith) (omega arith)
 
-quiet_part : (text : List ℕ) (from to low high : ℕ) → IsQuiet text from to → from ≤ low → high ≤ to → IsQuiet text low high
-quiet_part text from to low high q a b = record {
-  within = omega (arith, q.within);
-  dull = λ k above below. q.dull k (omega arith) (omega arith);
+-- a part of the text that is dull and has no `import` and `module`
+pub record IsQuiet (text : List ℕ) (from to : ℕ) : Type 0 where
+  pub dull : Without may_matter text from to
+  pub import_word : Nowhere (OccursAt text (codes "import")) from to
+  pub module_word : Nowhere (OccursAt text (codes "module")) from to
+
+quiet_part : (text : List ℕ) (from to low high : ℕ) → IsQuiet text from to → from ≤ low → low ≤ high → high ≤ to → IsQuiet text low high
+quiet_part text from to low high q a on b = record {
+  dull = record {
+    on = on;
+    within = omega (arith, q.dull.within);
+    none = nowhere_part (Passes may_matter text) from to low high q.dull.none a b;
+  };
   import_word = nowhere_part (OccursAt text (codes "import")) from to low high q.import_word a b;
   module_word = nowhere_part (OccursAt text (codes "module")) from to low high q.module_word a b;
 }
@@ -48,31 +46,24 @@ ahead_nothing text at ahead e = subst (λ (ahead : Ahead). IsAhead text at ahead
   mark = λ k above below. absurd (omega arith);
 })
 
-dull_by : (x y : Bool) → x ≡ false → y ≡ false → not (x || y) ≡ true
-dull_by x y e f = rw (e, f) refl
+neither : (x y : Bool) → x ≡ false → y ≡ false → (x || y) ≡ false
+neither x y e f = rw (e, f) refl
 
-pub quiet_ahead : (text : List ℕ) (at : ℕ) (ahead : Ahead) → IsAhead text at ahead → quiet_end ahead ≤ length text → IsQuiet text at (quiet_end ahead)
-quiet_ahead text at ahead h room = record {
-  within = room;
-  dull = λ k above below. dull_by (opens_literal (get_or text k 0)) (opens_mark (get_or text k 0))
-      (fails (opens_literal (get_or text k 0)) (h.literal k above (omega arith)))
-      (fails (opens_mark (get_or text k 0)) (h.mark k above (omega arith)));
+matters_not : (x y : Bool) → ¬ (x ≡ true) → ¬ (y ≡ true) → ¬ ((x || y) ≡ true)
+matters_not true y f g h = f refl
+matters_not false y f g h = g h
+
+pub quiet_ahead : (text : List ℕ) (at : ℕ) (ahead : Ahead) → IsAhead text at ahead → at ≤ quiet_end ahead → quiet_end ahead ≤ length text → IsQuiet text at (quiet_end ahead)
+quiet_ahead text at ahead h on room = record {
+  dull = record {
+    on = on;
+    within = room;
+    none = λ k above below.
+        matters_not (opens_literal (get_or text k 0)) (opens_mark (get_or text k 0)) (h.literal k above (omega arith)) (h.mark k above (omega arith));
+  };
   import_word = nowhere_part (OccursAt text (codes "import")) at ahead.import_at at (quiet_end ahead) h.import_word (omega arith) (omega arith);
   module_word = nowhere_part (OccursAt text (codes "module")) at ahead.module_at at (quiet_end ahead) h.module_word (omega arith) (omega arith);
 }
-
-dull_no_backslash : (b : ℕ) → is_dull b ≡ true → b ≢ 92
-dull_no_backslash b h = grind (arith, nat_tests)
-
-pub plain_is : (text : List ℕ) (n at : ℕ) → IsQuiet text at (at + n) → letters_at text at ≡ plain text at n ++ letters_at text (at + n)
-plain_is text zero at q = let place : at ≡ at + 0 = omega arith in ap (letters_at text) place
-plain_is text (suc n) at q =
-    let here : is_dull (get_or text at 0) ≡ true = q.dull at (omega arith) (omega arith) in
-    let next : IsNext text at (get_or text at 0) (at + 1) = next_plain text at (omega (arith, q.within)) (dull_no_backslash (get_or text at 0) here) in
-    let place : at + 1 + n ≡ at + suc n = omega arith in
-    let l : Letter = letter_before text (get_or text at 0) (at + 1) in
-    next.is ∙ (ap (λ (ls : List Letter). l ∷ ls) (plain_is text n (at + 1) (quiet_part text at (at + suc n) (at + 1) (at + 1 + n) q (omega arith) (omega arith)))
-    ∙ ap (λ (p : ℕ). l ∷ (plain text (at + 1) n ++ letters_at text p)) place)
 
 -- a word that the letters begin with occurs in the text
 reads_more : (text word : List ℕ) (b at : ℕ) → get_or text at 0 ≡ b → OccursAt text word (at + 1)
@@ -101,20 +92,21 @@ begins_occurs text (b ∷ word) (suc n) at room h =
     let parts = test_parts (get_or text at 0 == b) (begins word (plain text (at + 1) n)) h in
     occurs_more text word b at (omega arith) (is_test (get_or text at 0) b parts.0) (begins_occurs text word n (at + 1) (omega arith) parts.1)
 
-neither : (x y : Bool) → x ≡ false → y ≡ false → (x || y) ≡ false
-neither x y e f = rw (e, f) refl
+is_dull_by : (x : Bool) → x ≡ false → not x ≡ true
+is_dull_by x e = rw e refl
 
 pub plain_quiet : (text : List ℕ) (n at : ℕ) → IsQuiet text at (at + n) → IsDull (plain text at n)
 plain_quiet text zero at q = tt
-plain_quiet text (suc n) at q = (
-  q.dull at (omega arith) (omega arith),
-  plain_quiet text n (at + 1) (quiet_part text at (at + suc n) (at + 1) (at + 1 + n) q (omega arith) (omega arith)),
-  neither (begins (codes "import") (plain text at (suc n))) (begins (codes "module") (plain text at (suc n)))
-      (fails (begins (codes "import") (plain text at (suc n)))
-      (λ e. q.import_word at (omega arith) (omega arith) (begins_occurs text (codes "import") (suc n) at (omega (arith, q.within)) e)))
-      (fails (begins (codes "module") (plain text at (suc n)))
-      (λ e. q.module_word at (omega arith) (omega arith) (begins_occurs text (codes "module") (suc n) at (omega (arith, q.within)) e))),
-)
+plain_quiet text (suc n) at q =
+    let room : at + suc n ≤ length text = q.dull.within in (
+      is_dull_by (may_matter (get_or text at 0)) (fails (may_matter (get_or text at 0)) (q.dull.none at (omega arith) (omega arith))),
+      plain_quiet text n (at + 1) (quiet_part text at (at + suc n) (at + 1) (at + 1 + n) q (omega arith) (omega arith) (omega arith)),
+      neither (begins (codes "import") (plain text at (suc n))) (begins (codes "module") (plain text at (suc n)))
+          (fails (begins (codes "import") (plain text at (suc n)))
+          (λ e. q.import_word at (omega arith) (omega arith) (begins_occurs text (codes "import") (suc n) at room e)))
+          (fails (begins (codes "module") (plain text at (suc n)))
+          (λ e. q.module_word at (omega arith) (omega arith) (begins_occurs text (codes "module") (suc n) at room e))),
+    )
 
 line_no_backslash : (b : ℕ) → b ≡ 10 → b ≢ 92
 line_no_backslash b h e = grind arith
@@ -124,13 +116,13 @@ pub run_of : (text : List ℕ) (from to place : ℕ) → IsQuiet text from to �
 run_of text from to place q line =
     let n : ℕ = place - from in
     let e : from + n ≡ place = omega (arith, line.on) in
-    let quiet : IsQuiet text from (from + n) = quiet_part text from to from (from + n) q (omega arith) (omega (arith, line.before)) in
+    let quiet : IsQuiet text from (from + n) = quiet_part text from to from (from + n) q (omega arith) (omega arith) (omega (arith, line.before)) in
     let next : IsNext text place (get_or text place 0) (place + 1) =
-    next_plain text place (omega (arith, q.within, line.before)) (line_no_backslash (get_or text place 0) line.is) in
+    next_plain text place (omega (arith, q.dull.within, line.before)) (line_no_backslash (get_or text place 0) line.is) in
     record {
       run = plain text from n;
       last = letter_before text (get_or text place 0) (place + 1);
-      is = plain_is text n from quiet
+      is = plain_is may_matter refl text n from quiet.dull
           ∙ (ap (λ (p : ℕ). plain text from n ++ letters_at text p) e
           ∙ ap (λ (ls : List Letter). plain text from n ++ ls) next.is);
       dull = plain_quiet text n from quiet;

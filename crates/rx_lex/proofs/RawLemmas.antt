@@ -1,13 +1,13 @@
 -- The letters of a raw literal.
-use Rattle.std.proofs.Common.{◌≡◌, ◌≢◌, ℕ, zero, suc, ◌+◌, ◌-◌, ◌<◌, ◌≤◌, List, [], ◌∷◌, ◌++◌, length, get_or, take, drop, refl, ap, sym, subst, ◌∙◌, arith, Bool, true, false, cond, ◌||◌, ◌==◌, Option, Some, None, length-drop, length-append}
+use Rattle.std.proofs.Common.{◌≡◌, ◌≢◌, ℕ, suc, ◌+◌, ◌-◌, ◌<◌, ◌≤◌, List, [], ◌∷◌, ◌++◌, length, take, drop, refl, ap, sym, subst, ◌∙◌, arith, Bool, true, false, cond, ◌||◌, ◌==◌, Option, Some, None, length-drop, length-append}
 use Rattle.std.proofs.lemmas.List.{drop-drop}
 use Rattle.std.proofs.lemmas.Bool.Decides.{nat_tests}
 use Rattle.memchr.specs.Find.{is_byte2}
-use Rattle.rx_lex.specs.Letters.{Letter, begins, letters_at, IsBegun, IsNext, Without, letter_before}
+use Rattle.rx_lex.specs.Letters.{Letter, begins, letters_at, IsBegun, IsNext, Without}
 use Rattle.rx_lex.specs.Pieces.{behind_text}
 use Rattle.rx_lex.specs.Line.{any}
 use Rattle.rx_lex.specs.Directives.{contains}
-use Rattle.rx_lex.proofs.LetterLemmas.{fails, next_plain, no_backslash}
+use Rattle.rx_lex.proofs.LetterLemmas.{plain, plain_is, plain_length}
 
 -- a count goes down as its letter is passed
 split_step : (n : ℕ) (l : Letter) (now ls : List Letter) → now ≡ l ∷ ls → l.split ≡ false
@@ -49,32 +49,15 @@ pub close_here : (name : List ℕ) (l : Letter) (ls : List Letter) → begins (4
 close_here name l ls h = rw h refl
 
 -- a run without splices has as many letters as bytes
-pub plain_count : (test : ℕ → Bool) → test 92 ≡ true → (text : List ℕ) (n at : ℕ) → Without test text at (at + n)
-    → length (letters_at text at) ≡ n + length (letters_at text (at + n))
-plain_count test mark text zero at w =
-    let place : at ≡ at + 0 = omega arith in
-    ap (λ (p : ℕ). length (letters_at text p)) place ∙ omega arith
-plain_count test mark text (suc n) at w =
-    let here : test (get_or text at 0) ≡ false = fails (test (get_or text at 0)) (w.none at (omega arith) (omega arith)) in
-    let next : IsNext text at (get_or text at 0) (at + 1) = next_plain text at (omega (arith, w.within)) (no_backslash test (get_or text at 0) mark here) in
-    let place : at + 1 + n ≡ at + suc n = omega arith in
-    let later : Without test text (at + 1) (at + 1 + n) = record {
-      on = omega arith;
-      within = omega (arith, w.within);
-      none = λ k above below. w.none k (omega arith) (omega arith);
-    } in
-    let one : length (letters_at text at) ≡ suc (length (letters_at text (at + 1))) = ap (λ (ls : List Letter). length ls) next.is in
-    let more = plain_count test mark text n (at + 1) later in
-    let same : length (letters_at text (at + 1 + n)) ≡ length (letters_at text (at + suc n)) = ap (λ (p : ℕ). length (letters_at text p)) place in
-    omega (arith, one, more, same)
-
 pub plain_count_to : (test : ℕ → Bool) → test 92 ≡ true → (text : List ℕ) (at to : ℕ) → Without test text at to
     → to + length (letters_at text to) ≡ at + length (letters_at text at)
 plain_count_to test mark text at to w =
-    let place : at + (to - at) ≡ to = omega (arith, w.on) in
-    let all = plain_count test mark text (to - at) at (subst (Without test text at) (sym place) w) in
-    let same : length (letters_at text (at + (to - at))) ≡ length (letters_at text to) = ap (λ (p : ℕ). length (letters_at text p)) place in
-    omega (arith, all, same)
+    let n : ℕ = to - at in
+    let place : at + n ≡ to = omega (arith, w.on) in
+    let run : letters_at text at ≡ plain text at n ++ letters_at text (at + n) = plain_is test mark text n at (subst (Without test text at) (sym place) w) in
+    let all : length (letters_at text at) ≡ length (plain text at n ++ letters_at text (at + n)) = ap (λ (ls : List Letter). length ls) run in
+    let same : length (letters_at text (at + n)) ≡ length (letters_at text to) = ap (λ (p : ℕ). length (letters_at text p)) place in
+    omega (arith, all, same, length-append (plain text at n) (letters_at text (at + n)), plain_length text n at)
 
 -- `)`, a delimiter and a quote
 on_true : (t x y z : Bool) → (x ≡ true → y ≡ z) → cond t x false ≡ true → cond t y false ≡ z

@@ -1,17 +1,17 @@
 -- A dull run on lines that are no directives changes nothing.
-use Rattle.std.proofs.Common.{inl, inr, ◌⊎◌, not, ◌≡◌, ◌≢◌, ℕ, zero, suc, ◌+◌, ◌-◌, ◌<◌, ◌≤◌, List, [], ◌∷◌, ◌++◌, length, refl, ap, sym, subst, ◌∙◌, arith, Bool, true, false, cond, ◌||◌, ◌&&◌, ◌==◌, take, drop}
+use Rattle.std.proofs.Common.{inl, inr, ◌⊎◌, not, ◌≡◌, ℕ, zero, suc, ◌-◌, ◌<◌, List, [], ◌∷◌, ◌++◌, length, refl, ap, sym, subst, ◌∙◌, arith, Bool, true, false, cond, ◌||◌, ◌&&◌, ◌==◌, take, drop}
 use Rattle.std.specs.Prelude.{codes, flat_map, reverse}
 use Rattle.std.proofs.lemmas.Bool.Decides.{nat_tests}
-use Rattle.rx_lex.specs.Letters.{Letter, begins, bytes, letter_before, letters_at}
-use Rattle.rx_lex.specs.Pieces.{Piece, Front, Kind, Comment, Literal, Raw, Header, Number, Word, Blank, LineEnd, Mark, front, header_at, plain_front, or_else, space_at, piece}
-use Rattle.rx_lex.specs.Line.{any, begins_by_open, dependency_words, embed_query_words, embed_words, export_words, hash_marks, import_words, is_any_word, is_directive, is_empty, is_exported, is_including, is_named, is_single, is_token, is_word, module_words, pragma_words, same, spells, wants_header}
-use Rattle.rx_lex.specs.Directives.{Name, Found as Reading, Placed, behind, contains, is_cut_off, is_hard_alone, is_hard_behind, is_header, is_line_end, is_literal, is_long_raw, is_raw, is_split_raw, name_in, names_of, opens_module}
+use Rattle.rx_lex.specs.Letters.{Letter, begins, bytes, letters_at}
+use Rattle.rx_lex.specs.Pieces.{Piece, Front, Kind, Comment, Literal, Raw, Header, Number, Word, Blank, LineEnd, Mark, front, header_at, plain_front, space_at, piece}
+use Rattle.rx_lex.specs.Line.{any, begins_by_open, dependency_words, embed_query_words, embed_words, hash_marks, import_words, is_any_word, is_directive, is_empty, is_exported, is_including, is_named, is_single, is_token, is_word, module_words, pragma_words, same, spells, wants_header}
+use Rattle.rx_lex.specs.Directives.{Name, Found as Reading, Placed, behind, contains, is_hard_alone, is_hard_behind, is_header, is_line_end, is_literal, is_long_raw, is_raw, names_of, opens_module}
 use Rattle.rx_lex.specs.Quiet.{IsDull, Run, Skips, is_dull}
 use Rattle.rx_lex.specs.Step.{line_of}
 use Rattle.rx_lex.specs.declared.line.Line.{Line}
 use Rattle.rx_lex.specs.declared.quiet.Place.{Place}
 use Rattle.rx_lex.proofs.PlacedLemmas.{pieces_from, pieces_step}
-use Rattle.rx_lex.proofs.StepLemmas.{and_false, or_false}
+use Rattle.rx_lex.proofs.StepLemmas.{and_false}
 use Rattle.rx_lex.proofs.WalkLemmas.{Goes, hard_at, names_at, raw_at}
 use Rattle.rx_lex.proofs.DullLemmas.{IsDullKind, IsStop, DullFront, dull_no_hash, dull_no_percent, front_dull}
 

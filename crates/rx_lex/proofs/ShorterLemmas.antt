@@ -1,9 +1,7 @@
 -- What is left behind a piece is shorter than what it was read from.
-use Rattle.std.proofs.Common.{not, ◌≡◌, ◌≢◌, ℕ, zero, suc, ◌+◌, ◌-◌, ◌<◌, ◌≤◌, List, [], ◌∷◌, length, get_or, drop, refl, ap, sym, subst, ◌∙◌, arith, Bool, true, false, cond, ◌==◌, ◌&&◌, ◌||◌, ◌++◌, Option, codes, Some, None, nat_le, nat_lt, length-drop}
-use Rattle.std.proofs.lemmas.Grind.{common_steps}
-use Rattle.std.proofs.lemmas.Bool.Decides.{nat_tests}
+use Rattle.std.proofs.Common.{not, ℕ, zero, suc, ◌≤◌, List, [], ◌∷◌, length, drop, arith, Bool, true, false, cond, ◌==◌, ◌&&◌, ◌||◌, ◌++◌, Option, codes, Some, None, nat_le, length-drop}
 use Rattle.rx_lex.specs.Letters.{Letter, begins, is_blank}
-use Rattle.rx_lex.specs.Pieces.{behind_all, behind_text, behind_header, behind_number, begins_digit, behind_block, behind_line, is_name, is_digit, is_exponent, begins_name, literal, raw, raw_prefix, raw_behind, unless_open, goes_on, Kind, header_end, whole, front, plain_front, or_else, space_at, comment_at, raw_at, literal_at, number_at, word_at, mark_at, header_at, Front, Literal, Raw, LineEnd, Blank, Comment, Number, Word, Mark, is_delimiter, all_at_front}
+use Rattle.rx_lex.specs.Pieces.{behind_all, behind_text, behind_header, behind_number, begins_digit, behind_block, behind_line, is_name, is_digit, literal, raw, raw_prefix, raw_behind, unless_open, goes_on, Kind, header_end, whole, front, plain_front, or_else, space_at, comment_at, raw_at, literal_at, number_at, word_at, mark_at, header_at, Front, Literal, Raw, LineEnd, Blank, Comment, Number, Word, Mark, is_delimiter, all_at_front}
 
 abbrev pub IfSomeShort : Option (List Letter) → ℕ → Type 0
 IfSomeShort None n = Unit {0}

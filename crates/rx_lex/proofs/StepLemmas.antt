@@ -1,13 +1,14 @@
 -- What one piece adds, by the kind that the code tells.
-use Rattle.std.proofs.Common.{◌≡◌, ℕ, ◌+◌, ◌-◌, ◌≤◌, List, [], ◌∷◌, length, refl, ap, arith, sym, subst, ◌∙◌, Bool, true, false, cond, not, ◌||◌, ◌&&◌, ◌==◌, Option}
+use Rattle.std.proofs.Common.{◌≡◌, ℕ, ◌≤◌, List, [], ◌∷◌, length, refl, ap, arith, sym, subst, ◌∙◌, Bool, true, false, cond, not, ◌||◌, ◌&&◌, ◌==◌}
 use Rattle.rx_lex.specs.Letters.{Letter, bytes, letters_at, letter_before}
-use Rattle.rx_lex.specs.Pieces.{Piece, Front, front, piece, Kind as PieceKind}
-use Rattle.rx_lex.specs.Line.{is_token, is_word, spells, is_among, is_any_word, hash_marks, open_marks, include_words, query_words, module_words, import_words, export_words, pragma_words, dependency_words, embed_words, embed_query_words}
-use Rattle.rx_lex.specs.Directives.{Name, is_header, is_raw, is_line_end, is_long_raw, is_hard_alone, name_in, names_of}
+use Rattle.rx_lex.specs.Pieces.{Piece, Front, front, piece}
+use Rattle.rx_lex.specs.Line.{is_word, spells, is_among, is_any_word, hash_marks, open_marks, include_words, query_words, module_words, import_words, export_words, pragma_words, dependency_words, embed_words, embed_query_words}
+use Rattle.rx_lex.specs.Directives.{Name, is_header, is_raw, is_long_raw, is_hard_alone, name_in, names_of}
 use Rattle.rx_lex.specs.Angled.{IsBarren}
-use Rattle.rx_lex.specs.Ends.{closing, header_bytes, word_bytes}
+use Rattle.rx_lex.specs.Header.{closing, header_bytes}
+use Rattle.rx_lex.specs.Words.{word_bytes}
 use Rattle.rx_lex.specs.Cut.{Fits, front_view, is_hash, is_long, is_open, kind_view, piece_view}
-use Rattle.rx_lex.specs.Step.{Steps, behind_mark, behind_piece, behind_token, behind_word, is_hard_after, is_hard_kind, is_hard_word, line_behind, line_of, names_in}
+use Rattle.rx_lex.specs.Step.{Steps, behind_mark, behind_piece, behind_token, behind_word, is_hard_after, is_hard_kind, is_hard_word, line_behind, names_in}
 use Rattle.rx_lex.specs.declared.cut.Cut.{Cut}
 use Rattle.rx_lex.specs.declared.cut.Kind.{Kind}
 use Rattle.rx_lex.specs.declared.cut.Kind.TheVariants as code

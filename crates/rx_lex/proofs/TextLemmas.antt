@@ -1,5 +1,5 @@
 -- The letters of a word are those that were passed.
-use Rattle.std.proofs.Common.{not, ◌≡◌, ℕ, zero, suc, ◌+◌, ◌-◌, ◌<◌, ◌≤◌, List, [], ◌∷◌, length, refl, ap, sym, ◌∙◌, arith, Bool, true, false, cond, take}
+use Rattle.std.proofs.Common.{not, ◌≡◌, ◌≢◌, ℕ, suc, ◌-◌, ◌≤◌, List, [], ◌∷◌, length, refl, ap, sym, ◌∙◌, arith, Bool, true, false, cond, take}
 use Rattle.std.proofs.lemmas.Bool.Decides.{nat_tests}
 use Rattle.std.specs.Prelude.{◌&&◌, ◌==◌, drop}
 use Rattle.std.specs.List.{list_all}
@@ -90,9 +90,34 @@ head_false true x h = h
 head_false false x h = refl
 
 -- the same with the first byte
-pub spelled_is : (first head : ℕ) (tail : List ℕ) (ls : List Letter) (on : Bool) → first ≡ head → list_all is_name tail ≡ true → begins tail ls ≡ true
+spelled_is : (first head : ℕ) (tail : List ℕ) (ls : List Letter) (on : Bool) → first ≡ head → list_all is_name tail ≡ true → begins tail ls ≡ true
     → on ≡ begins_name (drop (length tail) ls) → same (first ∷ all_at_front is_name ls) (head ∷ tail) ≡ not on
 spelled_is first head tail ls on e a h n = rw n (head_same first head (same (all_at_front is_name ls) tail) e ∙ word_is tail ls a h)
 
-pub spelled_not : (first head : ℕ) (tail : List ℕ) (ls : List Letter) → begins tail ls ≡ false → same (first ∷ all_at_front is_name ls) (head ∷ tail) ≡ false
+spelled_not : (first head : ℕ) (tail : List ℕ) (ls : List Letter) → begins tail ls ≡ false → same (first ∷ all_at_front is_name ls) (head ∷ tail) ≡ false
 spelled_not first head tail ls h = head_false (first == head) (same (all_at_front is_name ls) tail) (word_is_not tail ls h)
+
+-- The same of a word that was split there.
+pub splits_is : (first head : ℕ) (word tail : List ℕ) (ls : List Letter) (on : Bool) → word ≡ head ∷ tail → first ≡ head → list_all is_name word ≡ true
+    → begins tail ls ≡ true → on ≡ begins_name (drop (length tail) ls) → same (first ∷ all_at_front is_name ls) word ≡ not on
+splits_is first head word tail ls on w e a h n =
+    let names : list_all is_name (head ∷ tail) ≡ true = sym (ap (λ (bs : List ℕ). list_all is_name bs) w) ∙ a in
+    let parts = and_parts (is_name head) (list_all is_name tail) names in
+    ap (λ (bs : List ℕ). same (first ∷ all_at_front is_name ls) bs) w ∙ spelled_is first head tail ls on e parts.1 h n
+
+pub splits_not : (first head : ℕ) (word tail : List ℕ) (ls : List Letter) → word ≡ head ∷ tail → begins tail ls ≡ false
+    → same (first ∷ all_at_front is_name ls) word ≡ false
+splits_not first head word tail ls w h =
+    ap (λ (bs : List ℕ). same (first ∷ all_at_front is_name ls) bs) w ∙ spelled_not first head tail ls h
+
+head_other : (b c : ℕ) (x : Bool) → b ≢ c → cond (b == c) x false ≡ false
+head_other b c x e = grind (arith, nat_tests)
+
+pub splits_other : (first head : ℕ) (word tail : List ℕ) (ls : List Letter) → word ≡ head ∷ tail → first ≢ head
+    → same (first ∷ all_at_front is_name ls) word ≡ false
+splits_other first head word tail ls w e =
+    ap (λ (bs : List ℕ). same (first ∷ all_at_front is_name ls) bs) w ∙ head_other first head (same (all_at_front is_name ls) tail) e
+
+pub same_none : (first : ℕ) (front word : List ℕ) → length word ≡ 0 → same (first ∷ front) word ≡ false
+same_none first front [] h = refl
+same_none first front (b ∷ bs) h = absurd (omega arith)

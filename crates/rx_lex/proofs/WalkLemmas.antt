@@ -1,7 +1,7 @@
 -- The walk over the pieces: it starts, goes on and ends.
-use Rattle.std.proofs.Common.{◌≡◌, ℕ, suc, List, [], ◌∷◌, ◌++◌, length, drop, refl, ap, sym, subst, ◌∙◌, arith, Bool, true, false, cond, ◌||◌, ◌&&◌, append_assoc, append-nil}
+use Rattle.std.proofs.Common.{◌≡◌, ℕ, List, [], ◌∷◌, ◌++◌, refl, ap, sym, subst, ◌∙◌, Bool, true, false, ◌||◌, ◌&&◌, append_assoc, append-nil}
 use Rattle.std.specs.Prelude.{flat_map}
-use Rattle.rx_lex.specs.Letters.{Letter, letters, letters_at, letters_from, letter_before, without_mark, IsNext}
+use Rattle.rx_lex.specs.Letters.{Letter, letters, letters_at, letter_before, IsNext}
 use Rattle.rx_lex.specs.Pieces.{Piece, LineEnd, Front, front, piece}
 use Rattle.rx_lex.specs.Line.{any, wants_header}
 use Rattle.rx_lex.specs.Directives.{Name, Placed, Found as Reading, behind, directives_of, is_hard_alone, is_hard_anywhere, is_hard_behind, is_raw, names_of}

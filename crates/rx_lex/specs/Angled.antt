@@ -1,5 +1,5 @@
 -- A part of a text from whose places no header name by `<` ends.
-use Rattle.std.specs.Prelude.{ℕ, ◌≡◌, ◌≤◌, ◌<◌, List, Option, None}
+use Rattle.std.specs.Prelude.{ℕ, ◌≡◌, ◌≤◌, ◌<◌, List, None}
 use Rattle.rx_lex.specs.Letters.{letters_at}
 use Rattle.rx_lex.specs.Pieces.{behind_header}
 

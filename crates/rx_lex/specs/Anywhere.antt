@@ -1,5 +1,5 @@
 -- Words for the code's search of what makes a file hard anywhere.
-use Rattle.std.specs.Prelude.{ℕ, Bool, true, false, ◌==◌, ◌&&◌, ◌||◌, List, [], ◌∷◌, codes}
+use Rattle.std.specs.Prelude.{ℕ, Bool, false, ◌==◌, ◌&&◌, ◌||◌, List, [], ◌∷◌, codes}
 use Rattle.rx_lex.specs.Letters.{Letter, begins}
 
 -- one of the three words begins with this byte

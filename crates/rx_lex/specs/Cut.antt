@@ -1,10 +1,11 @@
 -- A cut of the code against a piece of the definition.
-use Rattle.std.specs.Prelude.{ℕ, Bool, true, false, ◌≡◌, ◌≤◌, ◌==◌, ◌||◌, List, [], ◌∷◌, Option, None, Some, length}
+use Rattle.std.specs.Prelude.{ℕ, Bool, true, false, ◌≡◌, ◌≤◌, ◌==◌, ◌||◌, List, ◌∷◌, Option, None, Some, length}
 use Rattle.rx_lex.specs.Letters.{Letter, bytes, letters_at, letter_before}
 use Rattle.rx_lex.specs.Pieces.{Front, Piece, piece, Kind as PieceKind, Comment, Literal, Raw, Header, Number, Word, Blank, LineEnd, Mark}
 use Rattle.rx_lex.specs.Line.{any, is_word, spells, hash_marks, open_marks}
-use Rattle.rx_lex.specs.Directives.{is_hard_alone, is_long_raw, is_header, name_in, Name}
-use Rattle.rx_lex.specs.Ends.{closing, header_bytes, word_bytes}
+use Rattle.rx_lex.specs.Directives.{is_hard_alone, is_long_raw, is_header, name_in}
+use Rattle.rx_lex.specs.Header.{closing, header_bytes}
+use Rattle.rx_lex.specs.Words.{word_bytes}
 use Rattle.rx_lex.specs.declared.cut.Cut.{Cut}
 use Rattle.rx_lex.specs.declared.cut.Kind.{Kind}
 use Rattle.rx_lex.specs.declared.cut.Kind.TheVariants as code

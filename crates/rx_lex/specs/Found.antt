@@ -1,5 +1,5 @@
 -- What the code found against what the definition finds.
-use Rattle.std.specs.Prelude.{ℕ, true, false, List, map}
+use Rattle.std.specs.Prelude.{true, false, map}
 use Rattle.rx_lex.specs.Directives.{Name, Found as Reading}
 use Rattle.rx_lex.specs.declared.found.Include.{Include}
 use Rattle.rx_lex.specs.declared.found.Include.TheVariants.{Quoted, Angled}

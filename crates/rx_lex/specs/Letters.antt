@@ -84,6 +84,12 @@ abbrev pub MaybeReaches : List ℕ → ℕ → Option ℕ → Option (List Lette
 MaybeReaches text from None rest = rest ≡ None
 MaybeReaches text from (Some place) rest = (rest ≡ Some (letters_at text place)) × (from ≤ place) × (place ≤ length text)
 
+-- a reading that gives the same from `to` on as from `from` on
+pub record ReadsSame {X : Type 0} (F : List Letter → X) (text : List ℕ) (from to : ℕ) : Type 0 where
+  pub same : F (letters_at text from) ≡ F (letters_at text to)
+  pub on : from ≤ to
+  pub within : to ≤ length text
+
 -- a run of bytes that all fail the test
 pub record Without (test : ℕ → Bool) (text : List ℕ) (from to : ℕ) : Type 0 where
   pub on : from ≤ to

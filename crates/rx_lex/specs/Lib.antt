@@ -3,7 +3,10 @@ pub mod Pieces
 pub mod Line
 pub mod Directives
 pub mod Found
-pub mod Ends
+pub mod Class
+pub mod Header
+pub mod Literal
+pub mod Words
 pub mod Raw
 pub mod Cut
 pub mod Step

@@ -1,5 +1,5 @@
 -- What the tokens that stand on a line before a place tell.
-use Rattle.std.specs.Prelude.{ℕ, Bool, true, false, ◌==◌, ◌&&◌, ◌||◌, if◌then◌else◌, List, [], ◌∷◌, ◌++◌, reverse, codes}
+use Rattle.std.specs.Prelude.{ℕ, Bool, true, false, ◌==◌, ◌&&◌, ◌||◌, if◌then◌else◌, List, [], ◌∷◌, reverse, codes}
 use Rattle.rx_lex.specs.Letters.{bytes}
 use Rattle.rx_lex.specs.Pieces.{Kind, Comment, Blank, LineEnd, Word, Piece}
 

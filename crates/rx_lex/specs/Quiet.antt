@@ -1,5 +1,5 @@
 -- Runs of letters that matter to no phase where they stand on lines that are no directives.
-use Rattle.std.specs.Prelude.{ℕ, Bool, true, false, not, min, ◌≡◌, ◌≤◌, ◌<◌, ◌+◌, ◌||◌, ◌⊎◌, List, [], ◌∷◌, ◌++◌, codes, length, slice_index}
+use Rattle.std.specs.Prelude.{ℕ, Bool, true, false, not, min, ◌≡◌, ◌≤◌, ◌<◌, ◌||◌, ◌⊎◌, List, [], ◌∷◌, ◌++◌, codes, length, slice_index}
 use Rattle.memchr.specs.Find.{Nowhere, OccursAt, Passes, is_byte3}
 use Rattle.rx_lex.specs.Letters.{Letter, begins, letters_at}
 use Rattle.rx_lex.specs.Step.{line_of}
@@ -15,9 +15,12 @@ opens_literal b = is_byte3 34 39 47 b
 abbrev pub opens_mark : ℕ → Bool
 opens_mark b = is_byte3 35 37 92 b
 
--- none of those
+-- one of those
+abbrev pub may_matter : ℕ → Bool
+may_matter b = opens_literal b || opens_mark b
+
 abbrev pub is_dull : ℕ → Bool
-is_dull b = not (opens_literal b || opens_mark b)
+is_dull b = not (may_matter b)
 
 -- letters that are all dull, and in which no word `import` or `module` begins
 abbrev pub IsDull : List Letter → Type 0

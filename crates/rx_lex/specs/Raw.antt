@@ -1,8 +1,15 @@
 -- Words for what the code reads of a raw literal.
-use Rattle.std.specs.Prelude.{ℕ, Bool, true, false, ◌≡◌, ◌≤◌, ◌<◌, ◌+◌, List, [], ◌∷◌, ◌++◌, take, length, Option, None, Some}
-use Rattle.rx_lex.specs.Letters.{Letter, letters_at}
-use Rattle.rx_lex.specs.Pieces.{all_at_front, behind_all, behind_text, is_delimiter}
+use Rattle.std.specs.Prelude.{ℕ, ◌≡◌, ◌≤◌, ◌<◌, ◌+◌, List, [], ◌∷◌, ◌++◌, take, drop, length, Option, None, Some}
+use Rattle.rx_lex.specs.Letters.{letters_at}
+use Rattle.rx_lex.specs.Pieces.{all_at_front, behind_all, behind_text, is_delimiter, raw_prefix}
 use Rattle.rx_lex.specs.declared.raw.Delimiter.{Delimiter}
+
+-- the prefix of a raw literal behind its first letter: the place behind it, and its letters
+abbrev pub IsPrefix : List ℕ → ℕ → ℕ → Option (ℕ × ℕ) → Type 0
+IsPrefix text first next None = raw_prefix first (letters_at text next) ≡ 0
+IsPrefix text first next (Some found) =
+    (raw_prefix first (letters_at text next) ≡ found.1) × (0 < found.1) × (letters_at text found.0 ≡ drop found.1 (letters_at text next))
+    × (found.1 + length (letters_at text found.0) ≡ length (letters_at text next)) × (next + found.1 ≤ found.0) × (found.0 ≤ length text)
 
 -- these are the letters of a delimiter from a place on
 pub record Delimits (text : List ℕ) (from : ℕ) (found : Delimiter) : Type 0 where

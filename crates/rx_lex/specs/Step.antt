@@ -1,10 +1,10 @@
 -- What one piece adds.
-use Rattle.std.specs.Prelude.{not, ℕ, Bool, true, false, ◌≡◌, ◌≤◌, ◌==◌, ◌&&◌, ◌||◌, List, [], ◌∷◌, ◌++◌, if◌then◌else◌, reverse, Option, None, Some, length}
-use Rattle.rx_lex.specs.Letters.{Letter, letters_at, letter_before}
-use Rattle.rx_lex.specs.Pieces.{Piece, Front, front, piece}
+use Rattle.std.specs.Prelude.{not, ℕ, Bool, false, ◌≡◌, ◌≤◌, ◌&&◌, ◌||◌, List, [], ◌∷◌, if◌then◌else◌, Option, None, Some, length}
+use Rattle.rx_lex.specs.Letters.{letters_at, letter_before}
+use Rattle.rx_lex.specs.Pieces.{Piece, front, piece}
 use Rattle.rx_lex.specs.Cut.{is_hash, is_open}
 use Rattle.rx_lex.specs.Line.{is_among, is_token, spells, is_any_word, hash_marks, open_marks, include_words, query_words, module_words, import_words, export_words, pragma_words, dependency_words, embed_words, embed_query_words, is_empty, is_single, is_directive, is_named, is_exported, is_asking, wants_header}
-use Rattle.rx_lex.specs.Directives.{Name, is_header, is_raw, is_line_end, is_long_raw, is_hard_alone, is_hard_behind, names_of, behind}
+use Rattle.rx_lex.specs.Directives.{Name, is_header, is_raw, is_line_end, is_long_raw, is_hard_alone, names_of}
 use Rattle.rx_lex.specs.Angled.{IsBarren}
 use Rattle.rx_lex.specs.Found.{name_view}
 use Rattle.rx_lex.specs.declared.found.Include.{Include}

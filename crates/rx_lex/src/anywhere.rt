@@ -1,6 +1,6 @@
 //! What makes a file hard wherever it stands.
 ghost use Rattle.std.specs.Prelude.{◌≡◌, ◌≤◌, ◌||◌, length};
-ghost use Rattle.rx_lex.specs.Letters.{letters_at};
+ghost use Rattle.rx_lex.specs.Letters.{ReadsSame, letters_at};
 ghost use Rattle.rx_lex.specs.Directives.{has_lone_return, is_hard_anywhere};
 ghost use Rattle.rx_lex.specs.Anywhere.{has_word, word_here};
 
@@ -22,9 +22,7 @@ fn is_word_here(text: &[u8], byte: u8, next: usize) -> bool
 #[inline(always)]
 fn near_word(text: &[u8], at: usize) -> usize
     requires { at ≤ length text.now }
-    ensures same { has_word (letters_at text.now at) ≡ has_word (letters_at text.now result) }
-    ensures on { at ≤ result }
-    ensures within { result ≤ length text.now }
+    ensures { ReadsSame has_word text.now at result }
 {
     match memchr3(b'?', b'.', b'\\', &text[at..]) {
         Some(found) => at + found,
@@ -55,9 +53,7 @@ fn has_word(text: &[u8], from: usize) -> bool
 #[inline(always)]
 fn near_return(text: &[u8], at: usize) -> usize
     requires { at ≤ length text.now }
-    ensures same { has_lone_return (letters_at text.now at) ≡ has_lone_return (letters_at text.now result) }
-    ensures on { at ≤ result }
-    ensures within { result ≤ length text.now }
+    ensures { ReadsSame has_lone_return text.now at result }
 {
     skip_to(text, at, b'\r')
 }

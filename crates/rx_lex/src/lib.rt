@@ -3,13 +3,20 @@
 
 mod angled;
 mod anywhere;
+mod class;
+mod comment;
 mod cut;
-mod ends;
 mod found;
+mod header;
 mod letters;
 mod line;
+mod literal;
+mod mark;
+mod number;
+mod piece;
 mod quiet;
 mod raw;
+mod raw_cut;
 mod read;
 mod step;
 #[cfg(test)]

@@ -1,15 +1,12 @@
 //! What the tokens that stand on a line before a place tell, and how a piece changes it.
 ghost use Rattle.std.specs.Prelude.{◌≡◌, ◌≤◌, length, []};
 ghost use Rattle.rx_lex.specs.Letters.{letters_at};
-ghost use Rattle.rx_lex.specs.Ends.{word_bytes};
+ghost use Rattle.rx_lex.specs.Words.{word_bytes};
 ghost use Rattle.rx_lex.specs.Cut.{is_hash, is_open};
 ghost use Rattle.rx_lex.specs.Step.{behind_mark, behind_word, is_hard_kind, is_hard_word, line_behind, line_of};
 
 use crate::cut::Kind;
-use crate::words::{
-    is_dependency, is_embed, is_embed_query, is_export, is_import, is_include, is_module,
-    is_pragma, is_query,
-};
+use crate::words::{Keyword, is_keyword};
 
 #[derive(Clone, Copy)]
 pub(crate) struct Line {
@@ -66,10 +63,10 @@ fn behind_word(text: &[u8], line: Line, first: u8, next: usize) -> Line
         empty: false,
         single: line.empty,
         directive: !line.empty && line.directive,
-        exported: line.empty && is_export(text, first, next),
-        wanted: named && is_include(text, first, next),
-        asking: line.directive && is_query(text, first, next),
-        pragma: line.pragma || (named && is_pragma(text, first, next)),
+        exported: line.empty && is_keyword(text, first, next, Keyword::Export),
+        wanted: named && is_keyword(text, first, next, Keyword::Include),
+        asking: line.directive && is_keyword(text, first, next, Keyword::IncludeQuery),
+        pragma: line.pragma || (named && is_keyword(text, first, next, Keyword::Pragma)),
     }
 }
 
@@ -113,10 +110,11 @@ fn is_hard_word(text: &[u8], line: Line, first: u8, next: usize) -> bool
     ensures { result ≡ is_hard_word line (word_bytes first (letters_at text.now next)) }
 {
     (line.directive
-        && ((line.single && is_embed(text, first, next)) || is_embed_query(text, first, next)))
-        || (line.pragma && is_dependency(text, first, next))
-        || (line.empty && is_module(text, first, next))
-        || (line.exported && is_import(text, first, next))
+        && ((line.single && is_keyword(text, first, next, Keyword::Embed))
+            || is_keyword(text, first, next, Keyword::EmbedQuery)))
+        || (line.pragma && is_keyword(text, first, next, Keyword::Dependency))
+        || (line.empty && is_keyword(text, first, next, Keyword::Module))
+        || (line.exported && is_keyword(text, first, next, Keyword::Import))
 }
 
 /// Whether a piece makes the file hard behind such a line.

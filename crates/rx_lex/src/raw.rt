@@ -4,11 +4,10 @@ ghost use Rattle.rx_lex.specs.Letters.{IsBegun, Letter, letters_at};
 ghost use Rattle.rx_lex.specs.Pieces.{Raw, all_at_front, behind_all, behind_text, is_delimiter, raw, raw_prefix};
 ghost use Rattle.rx_lex.specs.Directives.{contains};
 ghost use Rattle.rx_lex.specs.Line.{any};
-ghost use Rattle.rx_lex.specs.Ends.{IsPrefix};
-ghost use Rattle.rx_lex.specs.Raw.{IsClosed, IsDelimited};
+ghost use Rattle.rx_lex.specs.Raw.{IsClosed, IsDelimited, IsPrefix};
 
-use crate::ends::literal_end;
 use crate::letters::{begins, is_blank, is_split, letter, skip_to};
+use crate::literal::literal_end;
 
 /// The longest delimiter ([lex.string] 5).
 const LONGEST_DELIMITER: usize = 16;

@@ -3,15 +3,16 @@ ghost use Rattle.std.specs.Prelude.{◌≡◌, ◌≤◌, ◌||◌, ◌==◌, le
 ghost use Rattle.rx_lex.specs.Letters.{letters_at};
 ghost use Rattle.rx_lex.specs.Directives.{is_header, is_raw};
 ghost use Rattle.rx_lex.specs.Found.{name_view};
-ghost use Rattle.rx_lex.specs.Ends.{closing, header_bytes};
+ghost use Rattle.rx_lex.specs.Header.{closing, header_bytes};
 ghost use Rattle.rx_lex.specs.Angled.{IsBarren};
 ghost use Rattle.rx_lex.specs.Cut.{kind_view};
 ghost use Rattle.rx_lex.specs.Step.{Steps, names_in};
 
-use crate::cut::{Kind, next_cut};
-use crate::ends::header_bytes;
+use crate::cut::Kind;
 use crate::found::{Include, NoMemory};
+use crate::header::header_bytes;
 use crate::line::{Line, behind, is_hard_behind};
+use crate::piece::next_cut;
 use std::alloc::Global;
 
 #[derive(Drop)]

@@ -23,7 +23,7 @@ fn shown(alloc: Global, found: &Directives) -> Result<Vec<u8>, AllocError> {
 /// A text, its includes, whether it is hard and whether it has a raw literal.
 type Row = (&'static str, &'static str, bool, bool);
 
-const ROWS: [Row; 70] = [
+const ROWS: [Row; 84] = [
     ("R\"(/*)\"\n#include \"a.h\"", "\"a.h\" ", false, true),
     ("int n = 1'000; /* c */\n#include <b>", "<b> ", false, false),
     (
@@ -173,6 +173,46 @@ const ROWS: [Row; 70] = [
     ),
     ("R\"x()y\")x)x\"\n#include <a>", "<a> ", false, true),
     ("1e+/**/'0'0\n1'/*\n#include <a>", "<a> ", true, false),
+    // lines that matter to no phase, and what follows them
+    ("int a;\nimport b;\n#include <c>", "<c> ", true, false),
+    (
+        "int a;\nint b; module c;\n#include <d>",
+        "<d> ",
+        false,
+        false,
+    ),
+    (
+        "export int a;\nint b;\n\t#include <c>",
+        "<c> ",
+        false,
+        false,
+    ),
+    ("a;\n\nexport /* */ import b;", "", true, false),
+    ("export\nmodule a;", "", true, false),
+    ("a;\nimp\\\nort b;", "", true, false),
+    ("1'000;\n\n  import b;", "", true, false),
+    (
+        "a;\nb /* c\n#include <d>\n*/ #include <e>\n#include <f>",
+        "<f> ",
+        false,
+        false,
+    ),
+    ("a;\nb;\n/* c */ %:include <d>", "<d> ", false, false),
+    (
+        "a %: b\nc %\n:include <d>\n#include <e>",
+        "<e> ",
+        false,
+        false,
+    ),
+    ("R\n\"(\"\n#include <a>", "<a> ", false, false),
+    (
+        "x;\nu8R\"(\n#include <a>\n)\"\n#include <b>",
+        "<b> ",
+        false,
+        true,
+    ),
+    ("x;\ny \\\n#include <a>\n#include <b>", "<b> ", false, false),
+    ("\\\n#include <a>", "<a> ", false, false),
 ];
 
 fn expect_row(rt: &impl Abort, alloc: Global, row: Row) -> Result<(), AllocError> {
@@ -217,8 +257,18 @@ const LONG: usize = 2 * 1024 * 1024;
 /// has seen would take many minutes.
 type LongRow = (&'static str, &'static str, bool);
 
-const LONG_ROWS: [LongRow; 9] = [
+const LONG_ROWS: [LongRow; 19] = [
     ("int ", "x", false),
+    ("int ", "x = y; ", false),
+    ("int ", "module import ", false),
+    ("import ", "x ", true),
+    ("", "#if x\n", false),
+    ("#if x\n", "#elif __has_include(<a>)\n#if y\n", false),
+    ("", "\r\n", false),
+    ("R\"(", "x;\n", true),
+    ("\"", "/x", false),
+    ("x", "%% ", false),
+    ("#pragma ", "x ", false),
     ("#include <", "x", true),
     ("#if ", "__has_include(<", true),
     ("#if ", "__has_include(</**/", true),

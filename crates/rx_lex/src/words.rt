@@ -1,21 +1,42 @@
 //! The words that matter, told by their letters.
-ghost use Rattle.std.specs.Prelude.{◌≡◌, ◌≤◌, ◌∷◌, length, true};
+ghost use Rattle.std.specs.Prelude.{◌≡◌, ◌≤◌, length, true};
 ghost use Rattle.std.specs.List.{list_all};
 ghost use Rattle.rx_lex.specs.Letters.{letters_at};
 ghost use Rattle.rx_lex.specs.Pieces.{is_name};
-ghost use Rattle.rx_lex.specs.Line.{same, is_among, include_words, query_words, module_words, import_words, export_words, pragma_words, dependency_words, embed_words, embed_query_words};
-ghost use Rattle.rx_lex.specs.Ends.{word_bytes};
+ghost use Rattle.rx_lex.specs.Line.{is_among, same};
+ghost use Rattle.rx_lex.specs.Words.{spellings, word_bytes};
 
-use crate::ends::next_is_name;
+use crate::class::next_is_name;
 use crate::letters::begins;
 
-/// Whether a word that begins with `first` is `head` and `tail`.
-fn spells(text: &[u8], first: u8, next: usize, head: u8, tail: &[u8]) -> bool
+/// A word that matters, or a few of which it doesn't matter which one stands.
+#[derive(Clone, Copy)]
+pub(crate) enum Keyword {
+    /// `include`, `include_next` or `import` in a directive
+    Include,
+    /// `__has_include` or `__has_include_next`
+    IncludeQuery,
+    /// `import` or `module` at a line's front
+    Module,
+    Import,
+    Export,
+    Pragma,
+    Dependency,
+    Embed,
+    /// `__has_embed`
+    EmbedQuery,
+}
+
+/// Whether a word that begins with `first`, before `next`, is `word`.
+fn spells(text: &[u8], first: u8, next: usize, word: &[u8]) -> bool
     requires room { next ≤ length text.now }
-    requires names { list_all is_name tail.now ≡ true }
-    ensures { result ≡ same (word_bytes first (letters_at text.now next)) (head ∷ tail.now) }
+    requires names { list_all is_name word.now ≡ true }
+    ensures { result ≡ same (word_bytes first (letters_at text.now next)) word.now }
 {
-    if first != head {
+    let Some((head, tail)) = word.split_first() else {
+        return false;
+    };
+    if first != *head {
         return false;
     }
     match begins(text, next, tail) {
@@ -24,71 +45,30 @@ fn spells(text: &[u8], first: u8, next: usize, head: u8, tail: &[u8]) -> bool
     }
 }
 
-pub(crate) fn is_include(text: &[u8], first: u8, next: usize) -> bool
+/// Whether a word that begins with `first`, before `next`, is the keyword.
+#[inline(always)]
+pub(crate) fn is_keyword(text: &[u8], first: u8, next: usize, keyword: Keyword) -> bool
     requires { next ≤ length text.now }
-    ensures { result ≡ is_among include_words (word_bytes first (letters_at text.now next)) }
+    ensures { result ≡ is_among (spellings keyword) (word_bytes first (letters_at text.now next)) }
 {
-    spells(text, first, next, b'i', b"nclude")
-        || spells(text, first, next, b'i', b"nclude_next")
-        || spells(text, first, next, b'i', b"mport")
-}
-
-/// `__has_include` or `__has_include_next`
-pub(crate) fn is_query(text: &[u8], first: u8, next: usize) -> bool
-    requires { next ≤ length text.now }
-    ensures { result ≡ is_among query_words (word_bytes first (letters_at text.now next)) }
-{
-    spells(text, first, next, b'_', b"_has_include")
-        || spells(text, first, next, b'_', b"_has_include_next")
-}
-
-/// `import` or `module`
-pub(crate) fn is_module(text: &[u8], first: u8, next: usize) -> bool
-    requires { next ≤ length text.now }
-    ensures { result ≡ is_among module_words (word_bytes first (letters_at text.now next)) }
-{
-    is_import(text, first, next) || spells(text, first, next, b'm', b"odule")
-}
-
-pub(crate) fn is_import(text: &[u8], first: u8, next: usize) -> bool
-    requires { next ≤ length text.now }
-    ensures { result ≡ is_among import_words (word_bytes first (letters_at text.now next)) }
-{
-    spells(text, first, next, b'i', b"mport")
-}
-
-pub(crate) fn is_export(text: &[u8], first: u8, next: usize) -> bool
-    requires { next ≤ length text.now }
-    ensures { result ≡ is_among export_words (word_bytes first (letters_at text.now next)) }
-{
-    spells(text, first, next, b'e', b"xport")
-}
-
-pub(crate) fn is_pragma(text: &[u8], first: u8, next: usize) -> bool
-    requires { next ≤ length text.now }
-    ensures { result ≡ is_among pragma_words (word_bytes first (letters_at text.now next)) }
-{
-    spells(text, first, next, b'p', b"ragma")
-}
-
-pub(crate) fn is_dependency(text: &[u8], first: u8, next: usize) -> bool
-    requires { next ≤ length text.now }
-    ensures { result ≡ is_among dependency_words (word_bytes first (letters_at text.now next)) }
-{
-    spells(text, first, next, b'd', b"ependency")
-}
-
-pub(crate) fn is_embed(text: &[u8], first: u8, next: usize) -> bool
-    requires { next ≤ length text.now }
-    ensures { result ≡ is_among embed_words (word_bytes first (letters_at text.now next)) }
-{
-    spells(text, first, next, b'e', b"mbed")
-}
-
-/// `__has_embed`
-pub(crate) fn is_embed_query(text: &[u8], first: u8, next: usize) -> bool
-    requires { next ≤ length text.now }
-    ensures { result ≡ is_among embed_query_words (word_bytes first (letters_at text.now next)) }
-{
-    spells(text, first, next, b'_', b"_has_embed")
+    match keyword {
+        Keyword::Include => {
+            spells(text, first, next, b"include")
+                || spells(text, first, next, b"include_next")
+                || spells(text, first, next, b"import")
+        }
+        Keyword::IncludeQuery => {
+            spells(text, first, next, b"__has_include")
+                || spells(text, first, next, b"__has_include_next")
+        }
+        Keyword::Module => {
+            spells(text, first, next, b"import") || spells(text, first, next, b"module")
+        }
+        Keyword::Import => spells(text, first, next, b"import"),
+        Keyword::Export => spells(text, first, next, b"export"),
+        Keyword::Pragma => spells(text, first, next, b"pragma"),
+        Keyword::Dependency => spells(text, first, next, b"dependency"),
+        Keyword::Embed => spells(text, first, next, b"embed"),
+        Keyword::EmbedQuery => spells(text, first, next, b"__has_embed"),
+    }
 }

@@ -1,4 +1,3 @@
-use Rattle.std.proofs.Common.{sym, ◌∙◌, arith}
 use Rattle.rx_lex.proofs.AngledLemmas.{searched_more, searched_none}
 use Rattle.rx_lex.proofs.angled.angled_end.Goals as goal
 

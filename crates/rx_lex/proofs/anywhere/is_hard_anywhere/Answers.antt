@@ -1,4 +1,4 @@
-use Rattle.std.proofs.Common.{refl, sym, ◌∙◌, true, false}
+use Rattle.std.proofs.Common.{refl, ◌∙◌, true, false}
 use Rattle.rx_lex.specs.Letters.{letters_at}
 use Rattle.rx_lex.specs.Directives.{has_lone_return}
 use Rattle.rx_lex.proofs.AnywhereLemmas.{anywhere_is}

@@ -1,4 +1,4 @@
-use Rattle.std.proofs.Common.{◌≡◌, ◌<◌, ◌≤◌, ◌+◌, ◌∙◌, length, arith, get_or, sym}
+use Rattle.std.proofs.Common.{◌∙◌, arith}
 use Rattle.rx_lex.specs.Letters.{letters_at, letter_before}
 use Rattle.rx_lex.proofs.LetterLemmas.{begins_next, begins_not, rest_next}
 use Rattle.rx_lex.proofs.letters.begins.Goals as goal

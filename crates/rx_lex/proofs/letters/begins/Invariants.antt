@@ -1,4 +1,4 @@
-use Rattle.std.proofs.Common.{length, drop, ◌≡◌, ◌≤◌, ◌+◌, ℕ}
+use Rattle.std.proofs.Common.{length, drop, ◌≡◌, ◌≤◌, ◌+◌}
 use Rattle.rx_lex.specs.Letters.{letters_at, begins}
 use Rattle.rx_lex.proofs.letters.begins.Given as goal
 

@@ -1,4 +1,4 @@
-use Rattle.std.proofs.Common.{rules, ◌≡◌, ◌<◌, ◌≤◌, ◌+◌, ◌∙◌, ap, sym, arith, get_or}
+use Rattle.std.proofs.Common.{◌≡◌, ◌<◌, ◌+◌, ◌∙◌, ap, sym, arith}
 use Rattle.rx_lex.specs.Letters.{letters_at}
 use Rattle.rx_lex.proofs.LetterLemmas.{letters_splice}
 use Rattle.rx_lex.proofs.letters.slow_letter.Goals as goal

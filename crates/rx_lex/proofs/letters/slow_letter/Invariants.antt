@@ -1,4 +1,4 @@
-use Rattle.std.proofs.Common.{length, ◌-◌, ◌≡◌, ◌<◌, ◌≤◌, ◌+◌, drop, ℕ}
+use Rattle.std.proofs.Common.{length, ◌-◌, ◌≡◌, ◌≤◌}
 use Rattle.rx_lex.specs.Letters.{letters_at}
 use Rattle.rx_lex.proofs.letters.slow_letter.Given as goal
 

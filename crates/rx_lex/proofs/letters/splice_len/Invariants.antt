@@ -1,4 +1,4 @@
-use Rattle.std.proofs.Common.{length, ◌-◌, ◌≡◌, ◌<◌, ◌≤◌, ◌+◌, drop, ℕ}
+use Rattle.std.proofs.Common.{length, ◌-◌, ◌≡◌, ◌≤◌, drop}
 use Rattle.rx_lex.specs.Letters.{splice_rest}
 use Rattle.rx_lex.proofs.LetterLemmas.{added}
 use Rattle.rx_lex.proofs.letters.splice_len.Given as goal

@@ -1,5 +1,4 @@
 use Rattle.memchr.specs.Find.{is_byte3}
-use Rattle.rx_lex.specs.Letters.{Without}
 use Rattle.rx_lex.proofs.LetterLemmas.{without_any, without_found}
 use Rattle.rx_lex.proofs.quiet.next_byte.Goals as goal
 

@@ -17,7 +17,7 @@ returns-in-Some c =
       skips = record {
         on = omega (arith, near.on);
         within = omega (arith, near.before, room);
-        skips = inr (c.if-line.false, c.start.ensures, run_of text at (quiet_end ahead) end (quiet_ahead text at ahead known room) near);
+        skips = inr (c.if-line.false, c.start.ensures, run_of text at (quiet_end ahead) end (quiet_ahead text at ahead known c.look_ahead-ahead.ensures.on room) near);
       };
       known = ahead_later text at (end + 1) ahead known (omega (arith, near.on));
     }

@@ -1,4 +1,4 @@
-use Rattle.std.proofs.Common.{[], ◌∷◌, ◌++◌, ◌∙◌, ◌≡◌, ◌+◌, length, List, ap, arith, length-append}
+use Rattle.std.proofs.Common.{[], ◌∷◌, ◌++◌, ◌∙◌, ◌≡◌, arith, length-append}
 use Rattle.rx_lex.specs.Letters.{Letter, letters_at, letter_before}
 use Rattle.rx_lex.specs.Pieces.{behind_text}
 use Rattle.rx_lex.proofs.RawLemmas.{begins_count, close_found, close_not, close_passed, letter_count}

@@ -1,4 +1,4 @@
-use Rattle.std.proofs.Common.{false, ◌||◌, ◌≡◌, List, [], map, ap, subst, sym, arith}
+use Rattle.std.proofs.Common.{false, ◌||◌, List, [], map, ap, subst, sym, arith}
 use Rattle.rx_lex.specs.Letters.{letters, letters_from}
 use Rattle.rx_lex.specs.Directives.{Name, is_hard_anywhere}
 use Rattle.rx_lex.specs.Found.{name_view}

@@ -1,4 +1,4 @@
-use Rattle.std.proofs.Common.{length, ◌-◌, ◌≡◌, ◌≤◌, ℕ, map, []}
+use Rattle.std.proofs.Common.{length, ◌-◌, ◌≤◌, map, []}
 use Rattle.rx_lex.specs.Angled.{IsBarren}
 use Rattle.rx_lex.specs.Quiet.{IsAhead}
 use Rattle.rx_lex.specs.Letters.{letters}
