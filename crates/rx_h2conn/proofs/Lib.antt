@@ -1,0 +1,12 @@
+pub mod ListLemmas
+pub mod SettingsLemmas
+pub mod SoundLemmas
+pub mod TookLemmas
+pub mod FedLemmas
+pub mod PieceLemmas
+pub mod FrameLemmas
+pub mod ConnLemmas
+pub mod HistoryLemmas
+pub mod EmittedLemmas
+pub mod PartLemmas
+pub mod StartLemmas

@@ -1,0 +1,153 @@
+//! Bytes of a server, and what a connection makes of them.
+
+use super::*;
+use std::alloc::{AllocError, Global};
+use std::test::Fail;
+
+/// A connection that has sent its first output and opened the stream 1.
+fn with_stream(alloc: Global) -> Result<Conn, Fail> {
+    let mut conn = Conn::new(alloc)?;
+    let _id = conn.open_stream(&[], true)?;
+    let _sent = conn.take_output()?;
+    Ok(conn)
+}
+
+/// The preface, the settings, and a stream's HEADERS.
+#[test]
+fn starts(rt: HostRuntime) -> Result<(), Fail> {
+    let mut conn = Conn::new(rt.alloc())?;
+    let first = conn.take_output()?;
+    let want = b"PRI * HTTP/2.0\r\n\r\nSM\r\n\r\n\
+        \0\0\x12\x04\0\0\0\0\0\0\x02\0\0\0\0\0\x04\0\x10\0\0\0\x06\0\x01\0\0";
+    assert_eq!(rt; first.as_slice(), want.as_slice());
+    assert_eq!(rt; conn.open_stream(&[], true), Ok(1));
+    let second = conn.take_output()?;
+    assert_eq!(rt; second.as_slice(), b"\0\0\0\x01\x05\0\0\0\x01".as_slice());
+    Ok(())
+}
+
+/// What the server breaks, by the bytes that it sent.
+#[test]
+fn refuses(rt: HostRuntime) -> Result<(), Fail> {
+    let rows: [(&[u8], Result<(), ConnFault>); 13] = [
+        (b"\0\x40\x01\0\0\0\0\0\x01", Err(ConnFault::Protocol(6))),
+        (b"\0\0\x01\0\x08\0\0\0\x01\x01", Err(ConnFault::Protocol(1))),
+        (
+            b"\0\0\x04\x08\0\0\0\0\0\x7f\xff\xff\xff",
+            Err(ConnFault::Protocol(3)),
+        ),
+        (
+            b"\0\0\x04\x08\0\0\0\0\0\0\0\0\0",
+            Err(ConnFault::Protocol(1)),
+        ),
+        (
+            b"\0\0\x01\x01\0\0\0\0\x01\x88\0\0\x08\x06\0\0\0\0\0\0\0\0\0\0\0\0\0",
+            Err(ConnFault::Protocol(1)),
+        ),
+        (
+            b"\0\0\x04\x05\x04\0\0\0\x01\0\0\0\x02",
+            Err(ConnFault::Protocol(1)),
+        ),
+        (
+            b"\0\0\x06\x04\0\0\0\0\0\0\x04\x80\0\0\0",
+            Err(ConnFault::Protocol(3)),
+        ),
+        (
+            b"\0\0\x01\x01\x05\0\0\0\x03\x88",
+            Err(ConnFault::Protocol(1)),
+        ),
+        (
+            b"\0\0\x01\x01\x05\0\0\0\x01\x80",
+            Err(ConnFault::Protocol(9)),
+        ),
+        (b"\0\0\0\x09\x04\0\0\0\x01", Err(ConnFault::Protocol(1))),
+        (
+            b"\0\0\x06\x04\0\0\0\0\0\0\x05\0\0\x3f\xff",
+            Err(ConnFault::Protocol(1)),
+        ),
+        (b"\0\0\x06\x04\0\0\0\0\0\0\x01\0\0\0\0", Ok(())),
+        (b"\0\0\x05\x02\0\0\0\0\x09\0\0\0\0\0", Ok(())),
+    ];
+    for (bytes, want) in rows {
+        let mut conn = with_stream(rt.alloc())?;
+        assert_eq!(rt; conn.feed(bytes), want, "{bytes:?}");
+        assert_eq!(rt; conn.feed(b""), want, "{bytes:?}");
+    }
+    Ok(())
+}
+
+/// A header block in 1,025 CONTINUATION frames, and DATA past the window of the connection.
+#[test]
+fn floods(rt: HostRuntime) -> Result<(), Fail> {
+    let mut conn = with_stream(rt.alloc())?;
+    conn.feed(b"\0\0\x01\x01\0\0\0\0\x01\x88")?;
+    for _ in 0..1024 {
+        conn.feed(b"\0\0\0\x09\0\0\0\0\x01")?;
+    }
+    assert_eq!(rt;
+        conn.feed(b"\0\0\0\x09\0\0\0\0\x01"),
+        Err(ConnFault::Protocol(11))
+    );
+    let mut second = with_stream(rt.alloc())?;
+    let zeros = [0; 16384];
+    for _ in 0..3 {
+        second.feed(b"\0\x40\0\0\0\0\0\0\x01")?;
+        second.feed(&zeros)?;
+    }
+    second.feed(b"\0\x40\0\0\0\0\0\0\x01")?;
+    assert_eq!(rt; second.feed(&zeros), Err(ConnFault::Protocol(3)));
+    Ok(())
+}
+
+/// An answer of HEADERS and DATA, byte by byte, its credit, and a GOAWAY.
+#[test]
+fn tells(rt: HostRuntime) -> Result<(), Fail> {
+    let mut conn = with_stream(rt.alloc())?;
+    let answer =
+        b"\0\0\x01\x01\x04\0\0\0\x01\x88\0\0\x04\0\x09\0\0\0\x01\x01hi\0\0\0\x08\x07\0\0\0\0\0\0\0\0\x01\0\0\0\0";
+    for byte in answer {
+        conn.feed(&[*byte])?;
+    }
+    let Some(ConnEvent::Headers { stream, list, last }) = conn.next_event() else {
+        return Err(Fail::from(AllocError));
+    };
+    assert_eq!(rt; (stream, list.len(), last), (1, 1, false));
+    let Some(
+        ConnEvent::Bytes {
+            stream,
+            bytes,
+            last,
+        },
+    ) = conn.next_event()
+    else {
+        return Err(Fail::from(AllocError));
+    };
+    assert_eq!(rt;
+        (stream, bytes.as_slice(), last),
+        (1, b"hi".as_slice(), true)
+    );
+    let Some(ConnEvent::Gone { last }) = conn.next_event() else {
+        return Err(Fail::from(AllocError));
+    };
+    assert_eq!(rt; last, 1);
+    assert_eq!(rt; conn.next_event().is_none(), true);
+    let credit = conn.take_output()?;
+    let want = b"\0\0\x04\x08\0\0\0\0\0\0\0\0\x04\0\0\x04\x08\0\0\0\0\x01\0\0\0\x04";
+    assert_eq!(rt; credit.as_slice(), want.as_slice());
+    assert_eq!(rt; conn.open_stream(&[], true), Err(ConnFault::GoneAway(1)));
+    Ok(())
+}
+
+/// A smaller table that the server asks for is told with the next header block.
+#[test]
+fn tells_smaller_table(rt: HostRuntime) -> Result<(), Fail> {
+    let mut conn = with_stream(rt.alloc())?;
+    conn.feed(b"\0\0\x06\x04\0\0\0\0\0\0\x01\0\0\0\0")?;
+    assert_eq!(rt; conn.open_stream(&[], false), Ok(3));
+    let out = conn.take_output()?;
+    assert_eq!(rt;
+        out.as_slice(),
+        b"\0\0\0\x04\x01\0\0\0\0\0\0\x01\x01\x04\0\0\0\x03\x20".as_slice()
+    );
+    Ok(())
+}
