@@ -1,18 +1,16 @@
 -- The connection after the client's calls.
-use Rattle.std.proofs.Common.{◌≡◌, ℕ, ◌+◌, ◌-◌, ◌*◌, ◌/◌, ◌%◌, ◌^◌, ◌<◌, ◌≤◌, zero, suc, Bool, true, false, cond, not, ◌&&◌, ◌||◌, List, [], ◌∷◌, ◌++◌, length, get_or, set, map, refl, sym, ap, subst, ◌∙◌, nat_lt, nat_eq, arith, length-append, Option, None, Some, Result, Ok, Err, OnOk, OnErr}
-use Rattle.std.proofs.lemmas.Bool.{ltb-true, ltb-false}
-use Rattle.std.proofs.lemmas.Bool.Decides.{nat_tests}
+use Rattle.std.proofs.Common.{◌≡◌, ℕ, ◌+◌, ◌/◌, ◌^◌, ◌<◌, ◌≤◌, zero, suc, Bool, true, false, ◌||◌, List, [], ◌∷◌, ◌++◌, length, get_or, set, map, refl, sym, subst, ◌∙◌, nat_lt, arith, length-append, Option, None, Some, Result, Ok, Err, OnOk, OnErr}
+use Rattle.std.proofs.lemmas.Bool.{ltb-true}
 use Rattle.rx_hpack.specs.Header.{Field}
 use Rattle.rx_h2conn.specs.declared.fault.ConnFault.{ConnFault}
 use Rattle.rx_h2conn.specs.declared.stream.Stream.{Stream}
-use Rattle.rx_h2conn.specs.Session.{Session, Reading}
+use Rattle.rx_h2conn.specs.Session.{Session}
 use Rattle.rx_h2conn.specs.Streams.{fresh, is_open, stream_at}
 use Rattle.rx_h2conn.specs.Window.{spent}
-use Rattle.rx_h2conn.specs.Sound.{IsSoundBy, IsSound, IsWithin, used, waiting}
-use Rattle.rx_h2conn.specs.Output.{AnswersAt, allowed, ends, charged, sent, reset, told, emptied}
-use Rattle.rx_h2conn.specs.Open.{refused_by, refusal, opened, next_id}
-use Rattle.rx_h2conn.specs.Reader.{IsReady, IsConn}
-use Rattle.rx_h2conn.proofs.ListLemmas.{and_true}
+use Rattle.rx_h2conn.specs.Sound.{IsSoundBy, IsSound, used}
+use Rattle.rx_h2conn.specs.Output.{AnswersAt, ends, charged, sent, reset, told, emptied}
+use Rattle.rx_h2conn.specs.Open.{refused_by, refusal, opened}
+use Rattle.rx_h2conn.specs.Reader.{IsConn}
 use Rattle.rx_h2conn.proofs.SoundLemmas.{open_at, sound_left, sound_set}
 use Rattle.rx_h2conn.proofs.PieceLemmas.{within}
 

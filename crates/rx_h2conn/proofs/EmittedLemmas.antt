@@ -1,5 +1,5 @@
 -- The output is the frames of the calls.
-use Rattle.std.proofs.Common.{◌≡◌, ℕ, ◌+◌, ◌/◌, Bool, true, false, cond, not, ◌&&◌, List, [], ◌∷◌, ◌++◌, refl, sym, ap, subst, ◌∙◌, Option, None, Some, append_assoc, append-nil}
+use Rattle.std.proofs.Common.{◌≡◌, ℕ, Bool, not, ◌&&◌, List, [], ◌∷◌, ◌++◌, refl, sym, ap, ◌∙◌, Option, None, Some, append_assoc, append-nil}
 use Rattle.rx_hpack.specs.Header.{Field}
 use Rattle.rx_h2frame.specs.Write.{Out, out_bytes}
 use Rattle.rx_h2conn.specs.declared.fault.ConnFault.{ConnFault}
@@ -7,9 +7,9 @@ use Rattle.rx_h2conn.specs.Session.{Session, Reading, Queued}
 use Rattle.rx_h2conn.specs.Streams.{is_open, stream_at}
 use Rattle.rx_h2conn.specs.Data.{owe}
 use Rattle.rx_h2conn.specs.Steps.{handed, unless_failed, broken}
-use Rattle.rx_h2conn.specs.Emitted.{bytes_of, outs_unless, fed_outs}
+use Rattle.rx_h2conn.specs.Emitted.{bytes_of, outs_unless}
 use Rattle.rx_h2conn.specs.Open.{refusal, opened, header_frames}
-use Rattle.rx_h2conn.specs.Output.{sent, send_frames, reset, reset_frame, output, all_credits}
+use Rattle.rx_h2conn.specs.Output.{sent, send_frames, reset, reset_frame, output}
 use Rattle.rx_h2conn.specs.History.{Call, Feeds, Starves, Hands, Takes, Opens, Sends, Resets, after, run, unless, emitted, all_emitted, given, all_given}
 use Rattle.rx_h2conn.proofs.ListLemmas.{either}
 use Rattle.rx_h2conn.proofs.TookLemmas.{bytes_of-append}

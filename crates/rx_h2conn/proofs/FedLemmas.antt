@@ -1,16 +1,15 @@
 -- Bytes that are fed in pieces are fed as one.
-use Rattle.std.proofs.Common.{◌≡◌, ℕ, ◌+◌, ◌-◌, ◌<◌, ◌≤◌, ◌⊎◌, List, [], ◌∷◌, ◌++◌, length, refl, sym, ap, ◌∙◌, inl, inr, Option, None, Some, Result, Ok, Err, arith, append_assoc}
+use Rattle.std.proofs.Common.{◌≡◌, ℕ, ◌-◌, ◌≤◌, List, [], ◌∷◌, ◌++◌, length, refl, sym, ap, ◌∙◌, inl, inr, Option, None, Some, Result, Ok, Err, arith, append_assoc}
 use Rattle.rx_h2frame.specs.declared.frame.FrameFault.{FrameFault}
 use Rattle.rx_h2frame.specs.declared.frame.FrameFault.TheVariants.{BadPadding}
 use Rattle.rx_h2frame.specs.Frame.{Seen, Complete, Lacks, next}
 use Rattle.rx_h2frame.specs.Write.{Out}
 use Rattle.rx_h2frame.proofs.NextLemmas.{next_refused, next_lacks}
 use Rattle.rx_h2conn.specs.declared.fault.ConnFault.{ConnFault}
-use Rattle.rx_h2conn.specs.Session.{Session, Reading}
+use Rattle.rx_h2conn.specs.Session.{Reading}
 use Rattle.rx_h2conn.specs.Streams.{failed}
-use Rattle.rx_h2conn.specs.Steps.{code_of, took, judged, settled, more, unless_failed, byte, fed}
+use Rattle.rx_h2conn.specs.Steps.{code_of, judged, settled, more, unless_failed, byte, fed}
 use Rattle.rx_h2conn.specs.Sound.{IsSound}
-use Rattle.rx_h2conn.specs.State.{Keeps}
 use Rattle.rx_h2conn.specs.Emitted.{judged_outs, settled_outs, outs_unless, byte_outs, fed_outs}
 use Rattle.rx_h2conn.proofs.SoundLemmas.{sound_failed, sound_took}
 use Rattle.rx_h2conn.proofs.TookLemmas.{Adds, adds_none, adds_both, adds_took, quiet_failed}

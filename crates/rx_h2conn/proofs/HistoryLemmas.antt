@@ -2,7 +2,7 @@
 use Rattle.std.proofs.Common.{◌≡◌, ℕ, List, [], ◌∷◌, ◌++◌, refl, sym, ap, ◌∙◌}
 use Rattle.rx_h2conn.specs.Session.{Reading}
 use Rattle.rx_h2conn.specs.Steps.{fed, byte}
-use Rattle.rx_h2conn.specs.History.{Call, Feeds, Starves, Hands, Takes, Opens, Sends, Resets, Told, after, tells, run, answers, single, singles, bytewise, SameRuns}
+use Rattle.rx_h2conn.specs.History.{Call, Feeds, Starves, Hands, Takes, Opens, Sends, Resets, Told, after, tells, run, answers, single, bytewise, SameRuns}
 
 pub run_single : (r : Reading) (piece : List ℕ) (cs : List Call) → run r (single piece cs) ≡ run (fed r piece) cs
 run_single r [] cs = refl

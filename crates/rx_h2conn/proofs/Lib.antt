@@ -5,7 +5,9 @@ pub mod TookLemmas
 pub mod FedLemmas
 pub mod PieceLemmas
 pub mod FrameLemmas
+pub mod DueLemmas
 pub mod ConnLemmas
+pub mod HeldLemmas
 pub mod HistoryLemmas
 pub mod EmittedLemmas
 pub mod PartLemmas

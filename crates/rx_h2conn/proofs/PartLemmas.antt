@@ -1,5 +1,5 @@
 -- The frames of a stream are those that the calls on it gave.
-use Rattle.std.proofs.Common.{◌≡◌, ℕ, ◌+◌, ◌<◌, ◌≤◌, Bool, true, false, cond, not, ◌&&◌, ◌||◌, zero, suc, List, [], ◌∷◌, ◌++◌, length, take, drop, refl, sym, ap, subst, ◌∙◌, Option, None, Some, Result, Ok, Err, nat_lt, nat_eq, arith, append_assoc, append-nil}
+use Rattle.std.proofs.Common.{◌≡◌, ℕ, ◌+◌, Bool, true, false, cond, not, ◌&&◌, ◌||◌, zero, suc, List, [], ◌∷◌, ◌++◌, length, take, drop, refl, sym, ap, ◌∙◌, Option, None, Some, Result, Ok, Err, nat_lt, nat_eq, append_assoc}
 use Rattle.std.proofs.lemmas.Bool.{ltb-true, ltb-false}
 use Rattle.rx_h2frame.specs.declared.frame.FrameFault.{FrameFault}
 use Rattle.rx_h2frame.specs.declared.kind.Kind.{Kind}
@@ -14,7 +14,7 @@ use Rattle.rx_h2conn.specs.Streams.{stream_at}
 use Rattle.rx_h2conn.specs.Steps.{took, more, byte}
 use Rattle.rx_h2conn.specs.Emitted.{has_fault, ack_outs, took_outs, judged_outs, settled_outs, outs_unless, byte_outs, fed_outs}
 use Rattle.rx_h2conn.specs.Open.{refusal, next_id, header_frames, header_block}
-use Rattle.rx_h2conn.specs.Output.{frames_of, end_stream, data_frames, allowed, ends, send_frames, reset_frame, credit_frames, stream_credits, all_credits}
+use Rattle.rx_h2conn.specs.Output.{frames_of, end_stream, data_frames, allowed, ends, send_frames, reset_frame, credit_frames, stream_credits}
 use Rattle.rx_h2conn.specs.History.{Call, Feeds, Starves, Hands, Takes, Opens, Sends, Resets, after, emitted, all_emitted}
 use Rattle.rx_h2conn.specs.Parts.{carries_stream, part_of, part_by, all_parts}
 use Rattle.rx_h2conn.proofs.ListLemmas.{either}

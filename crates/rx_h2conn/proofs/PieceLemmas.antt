@@ -6,12 +6,11 @@ use Rattle.std.proofs.lemmas.Bool.Decides.{nat_tests}
 use Rattle.rx_h2frame.specs.Frame.{Lacks, next}
 use Rattle.rx_h2conn.specs.declared.fault.ConnFault.{ConnFault}
 use Rattle.rx_h2conn.specs.declared.fault.ConnFault.TheVariants.{Protocol, GoneAway, StreamsSpent, NoMemory}
-use Rattle.rx_h2conn.specs.declared.stream.Stream.{Stream}
 use Rattle.rx_h2conn.specs.Session.{Session, Reading, Queued}
 use Rattle.rx_h2conn.specs.Streams.{fresh, is_open, stream_at}
 use Rattle.rx_h2conn.specs.State.{Does, Keeps}
 use Rattle.rx_h2conn.specs.Reader.{Reads, IsReady, IsConn}
-use Rattle.rx_h2conn.specs.Sound.{credits, waiting, IsSoundBy, IsSound, used, IsWithin}
+use Rattle.rx_h2conn.specs.Sound.{credits, waiting, IsSound, used, IsWithin}
 use Rattle.rx_h2conn.specs.Steps.{settled, more, fed, broken, handed, after_event}
 use Rattle.rx_h2conn.specs.Data.{owe}
 use Rattle.rx_h2conn.specs.Emitted.{settled_outs}

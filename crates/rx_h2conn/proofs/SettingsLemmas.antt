@@ -1,5 +1,5 @@
 -- The loop over the entries of a SETTINGS frame.
-use Rattle.std.proofs.Common.{◌≡◌, ℕ, ◌+◌, ◌-◌, ◌*◌, ◌%◌, ◌<◌, ◌≤◌, List, [], ◌∷◌, length, get_or, take, drop, refl, sym, ap, subst, ◌∙◌, arith}
+use Rattle.std.proofs.Common.{◌≡◌, ℕ, ◌+◌, ◌*◌, ◌%◌, ◌<◌, ◌≤◌, List, [], ◌∷◌, length, get_or, drop, refl, sym, ap, arith}
 use Rattle.rx_h2conn.specs.declared.settings.Asked.{Asked}
 use Rattle.rx_h2conn.specs.Streams.{number}
 use Rattle.rx_h2conn.specs.Settings.{Setting, settings_of, asks, asked}

@@ -1,8 +1,7 @@
 -- Each step keeps the windows sound.
-use Rattle.std.proofs.Common.{◌≡◌, ℕ, ◌+◌, ◌-◌, ◌/◌, ◌%◌, ◌<◌, ◌≤◌, Bool, true, false, cond, not, ◌&&◌, ◌||◌, List, [], ◌∷◌, ◌++◌, length, get_or, set, refl, sym, ap, subst, ◌∙◌, nat_lt, nat_eq, arith, length-set, Option, None, Some, Result, Ok, Err}
+use Rattle.std.proofs.Common.{◌≡◌, ℕ, ◌+◌, ◌-◌, ◌/◌, ◌<◌, ◌≤◌, Bool, true, false, cond, not, ◌&&◌, ◌||◌, List, [], ◌∷◌, ◌++◌, length, get_or, set, refl, nat_lt, nat_eq, arith, length-set, Option, None, Some, Result, Ok, Err}
 use Rattle.std.proofs.lemmas.Bool.{ltb-true, ltb-false}
 use Rattle.std.proofs.lemmas.Bool.Decides.{nat_tests}
-use Rattle.std.specs.List.{list_any}
 use Rattle.rx_h2frame.specs.declared.kind.Kind.{Kind}
 use Rattle.rx_h2frame.specs.declared.kind.Kind.TheVariants.{Data, Headers, Priority, ResetStream, Settings, PushPromise, Ping, GoAway, WindowUpdate, Continuation, Unknown}
 use Rattle.rx_h2frame.specs.Flags.{is_set}
@@ -15,16 +14,15 @@ use Rattle.rx_hpack.specs.Header.{Field}
 use Rattle.rx_hpack.specs.Decoder.{State, Ready, Refused, Progress}
 use Rattle.rx_h2conn.specs.Headers.{told_headers, headers_of, told_block, ended, on_headers, continued, continued_by, on_continuation}
 use Rattle.rx_h2conn.specs.Session.{Session, Queued, Block, Headers as HeadersEvent}
-use Rattle.rx_h2conn.specs.Streams.{failed, passed, is_open, fresh, stream_at, is_dropped, is_interrupted, number_31}
-use Rattle.rx_h2conn.specs.Data.{passes_window, dropped_data, carried, data_events, heard, taken_data, on_data, owing, owe}
+use Rattle.rx_h2conn.specs.Streams.{failed, passed, is_open, fresh, stream_at, is_dropped, is_interrupted}
+use Rattle.rx_h2conn.specs.Data.{passes_window, carried, data_events, heard, taken_data, on_data, owing, owe}
 use Rattle.rx_h2conn.specs.Updates.{overflows, on_connection_update, on_stream_update, on_window_update}
-use Rattle.rx_h2conn.specs.Window.{granted}
 use Rattle.rx_h2conn.specs.Ping.{is_flooded, acknowledged, ping_ack, on_ping}
-use Rattle.rx_h2conn.specs.Settings.{widens, asked_update, settings_ack, on_entries, on_settings, asked, blank_asked, settings_of}
+use Rattle.rx_h2conn.specs.Settings.{widens, on_entries, on_settings}
 use Rattle.rx_h2conn.specs.Ends.{reset_events, on_reset, on_go_away}
 use Rattle.rx_h2conn.specs.Steps.{took_by, took, handed}
-use Rattle.rx_h2conn.specs.Sound.{credits, waiting, IsSoundBy, IsSound, used, IsWithin}
-use Rattle.rx_h2conn.proofs.ListLemmas.{each_set, get_or_within, or_false, and_true, not_true, not_false, either}
+use Rattle.rx_h2conn.specs.Sound.{credits, waiting, IsSoundBy, IsSound}
+use Rattle.rx_h2conn.proofs.ListLemmas.{each_set, get_or_within, or_false, and_true, not_false, either}
 
 pub credits-append : (qs ps : List Queued) → credits (qs ++ ps) ≡ credits qs + credits ps
 credits-append [] ps = omega arith

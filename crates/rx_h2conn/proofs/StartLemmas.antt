@@ -1,10 +1,10 @@
 -- What holds of a new connection, and of every run from there.
-use Rattle.std.proofs.Common.{◌≡◌, ℕ, ◌+◌, ◌≤◌, List, ◌++◌, Result, Ok, Err, IfOk, refl, arith}
+use Rattle.std.proofs.Common.{◌≡◌, ℕ, List, ◌++◌, Result, Ok, Err, IfOk, refl, arith}
 use Rattle.rx_h2conn.specs.Session.{Reading}
 use Rattle.rx_h2conn.specs.Emitted.{bytes_of}
 use Rattle.rx_h2conn.specs.Conn.{started}
 use Rattle.rx_h2conn.specs.Sound.{IsSound}
-use Rattle.rx_h2conn.specs.Reader.{IsReady, IsConn}
+use Rattle.rx_h2conn.specs.Reader.{IsConn}
 use Rattle.rx_h2conn.specs.History.{Call, run, bytewise, SameRuns, all_given, all_emitted}
 use Rattle.rx_h2conn.specs.Parts.{part_of, all_parts}
 use Rattle.rx_h2conn.proofs.HistoryLemmas.{any_runs}

@@ -1,6 +1,5 @@
 -- What a frame adds to the events and to the output.
 use Rattle.std.proofs.Common.{◌≡◌, ℕ, ◌+◌, Bool, true, false, cond, not, ◌&&◌, ◌||◌, List, [], ◌∷◌, ◌++◌, refl, sym, ap, subst, ◌∙◌, nat_lt, nat_eq, append-nil, append_assoc, length, Option, None, Some, Result, Ok, Err}
-use Rattle.std.specs.List.{list_any}
 use Rattle.rx_h2frame.specs.declared.kind.Kind.{Kind}
 use Rattle.rx_h2frame.specs.declared.kind.Kind.TheVariants.{Data, Headers, Priority, ResetStream, Settings, PushPromise, Ping, GoAway, WindowUpdate, Continuation, Unknown}
 use Rattle.rx_h2frame.specs.Flags.{is_set}
@@ -11,14 +10,14 @@ use Rattle.rx_h2conn.specs.declared.settings.Asked.{Asked}
 use Rattle.rx_hpack.specs.declared.fault.HpackFault.{HpackFault}
 use Rattle.rx_hpack.specs.declared.fault.HpackFault.TheVariants.{BadIndex, BadInteger, BadHuffman, SizeUpdate, ListTooLarge, NoMemory}
 use Rattle.rx_hpack.specs.Header.{Field}
-use Rattle.rx_hpack.specs.Decoder.{State, Ready, Refused, Progress}
+use Rattle.rx_hpack.specs.Decoder.{Ready, Progress}
 use Rattle.rx_h2conn.specs.Headers.{told_headers, headers_of, told_block, ended, on_headers, continued, continued_by, on_continuation}
 use Rattle.rx_h2conn.specs.Session.{Session, Queued, Block}
-use Rattle.rx_h2conn.specs.Streams.{failed, passed, is_open, stream_at, is_dropped, is_interrupted, number_31}
-use Rattle.rx_h2conn.specs.Data.{passes_window, dropped_data, carried, data_events, taken_data, on_data}
+use Rattle.rx_h2conn.specs.Streams.{failed, passed, is_open, stream_at, is_dropped, is_interrupted}
+use Rattle.rx_h2conn.specs.Data.{passes_window, carried, data_events, taken_data, on_data}
 use Rattle.rx_h2conn.specs.Updates.{overflows, on_connection_update, on_stream_update, on_window_update}
 use Rattle.rx_h2conn.specs.Ping.{is_flooded, acknowledged, ping_ack, on_ping}
-use Rattle.rx_h2conn.specs.Settings.{widens, asked_update, settings_ack, on_entries, on_settings, asked, blank_asked, settings_of}
+use Rattle.rx_h2conn.specs.Settings.{widens, settings_ack, on_entries, on_settings, asked, blank_asked, settings_of}
 use Rattle.rx_h2conn.specs.Ends.{reset_events, on_reset, on_go_away}
 use Rattle.rx_h2conn.specs.Steps.{took_by, took}
 use Rattle.rx_h2conn.specs.State.{Extends, Keeps}

@@ -3,7 +3,7 @@ use Rattle.std.specs.Prelude.{ℕ, List, [], ◌∷◌, ◌++◌, None}
 use Rattle.rx_h2frame.specs.declared.kind.Kind.TheVariants.{Settings}
 use Rattle.rx_h2frame.specs.Write.{Out, out_bytes}
 use Rattle.rx_h2conn.specs.declared.settings.SizeUpdate.TheVariants.{NotAsked}
-use Rattle.rx_h2conn.specs.Session.{Session, Reading}
+use Rattle.rx_h2conn.specs.Session.{Reading}
 use Rattle.rx_h2conn.specs.Steps.{blank_decoder}
 
 -- PRI * HTTP/2.0, two line ends, SM, two line ends (RFC 9113 3.4)

@@ -2,7 +2,7 @@
 use Rattle.std.specs.Prelude.{ℕ, Bool, true, false, ◌||◌, List, [], ◌∷◌, ◌++◌, if◌then◌else◌, Option, None, Some, Result, Ok, Err}
 use Rattle.rx_h2frame.specs.declared.frame.FrameFault.{FrameFault}
 use Rattle.rx_h2frame.specs.declared.kind.Kind.{Kind}
-use Rattle.rx_h2frame.specs.declared.kind.Kind.TheVariants.{Data, Headers, Priority, ResetStream, Settings, PushPromise, Ping, GoAway, WindowUpdate, Continuation, Unknown}
+use Rattle.rx_h2frame.specs.declared.kind.Kind.TheVariants.{Settings, Ping}
 use Rattle.rx_h2frame.specs.Flags.{is_set}
 use Rattle.rx_h2frame.specs.Frame.{Whole, Seen, Complete, Lacks, next}
 use Rattle.rx_h2frame.specs.Write.{Out, out_bytes}

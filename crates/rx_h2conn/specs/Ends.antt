@@ -1,7 +1,6 @@
 -- The ends of streams and of the connection that the server tells (RFC 9113 6.4, 6.8).
 use Rattle.std.specs.Prelude.{ℕ, ◌/◌, Bool, true, ◌||◌, not, List, [], ◌∷◌, ◌++◌, slice_set, if◌then◌else◌, Option, None, Some}
 use Rattle.rx_h2frame.specs.Frame.{Whole}
-use Rattle.rx_h2conn.specs.declared.stream.Stream.{Stream}
 use Rattle.rx_h2conn.specs.Session.{Session, Queued, Reset, Gone}
 use Rattle.rx_h2conn.specs.Streams.{failed, is_open, stream_at, is_interrupted, number, number_31}
 

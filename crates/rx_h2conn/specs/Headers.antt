@@ -6,7 +6,6 @@ use Rattle.rx_hpack.specs.Header.{Field}
 use Rattle.rx_hpack.specs.Decoder.{State, Ready, Refused, Progress, block_of}
 use Rattle.rx_h2frame.specs.Flags.{is_set}
 use Rattle.rx_h2frame.specs.Frame.{Whole}
-use Rattle.rx_h2conn.specs.declared.stream.Stream.{Stream}
 use Rattle.rx_h2conn.specs.Session.{Session, Block, Headers}
 use Rattle.rx_h2conn.specs.Streams.{failed, is_open, stream_at, is_dropped, is_interrupted}
 

@@ -14,6 +14,7 @@ pub mod Sound
 pub mod Reader
 pub mod Emitted
 pub mod Output
+pub mod Due
 pub mod Open
 pub mod Conn
 pub mod History

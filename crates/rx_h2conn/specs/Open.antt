@@ -1,5 +1,5 @@
 -- Streams that the client opens (RFC 9113 5.1.1, 8.1).
-use Rattle.std.specs.Prelude.{ℕ, ◌+◌, ◌*◌, Bool, true, false, not, List, [], ◌∷◌, ◌++◌, length, nat_lt, Option, None, Some}
+use Rattle.std.specs.Prelude.{ℕ, ◌+◌, ◌*◌, Bool, true, false, List, [], ◌∷◌, ◌++◌, length, nat_lt, Option, None, Some}
 use Rattle.rx_hpack.specs.Header.{Field}
 use Rattle.rx_hpack.specs.Encoder.{block_bytes}
 use Rattle.rx_h2frame.specs.declared.kind.Kind.TheVariants.{Headers, Continuation}

@@ -1,5 +1,5 @@
 -- The frames that the client sends.
-use Rattle.std.specs.Prelude.{◌≡◌, ℕ, ◌+◌, ◌-◌, ◌*◌, ◌/◌, Bool, true, false, not, ◌&&◌, ◌||◌, zero, suc, List, [], ◌∷◌, ◌++◌, length, take, drop, slice_set, if◌then◌else◌, nat_lt, ◌==◌, min, map, Option, None, Some, Result, Ok, Err}
+use Rattle.std.specs.Prelude.{◌≡◌, ℕ, ◌+◌, ◌-◌, ◌/◌, Bool, true, not, ◌&&◌, ◌||◌, zero, suc, List, [], ◌∷◌, ◌++◌, length, take, drop, slice_set, if◌then◌else◌, nat_lt, ◌==◌, min, map, Option, None, Some, Result, Ok, Err}
 use Rattle.rx_h2frame.specs.declared.kind.Kind.{Kind}
 use Rattle.rx_h2frame.specs.declared.kind.Kind.TheVariants.{Data, ResetStream, WindowUpdate}
 use Rattle.rx_h2frame.specs.Write.{Out, out_bytes, four}

@@ -3,7 +3,7 @@ use Rattle.std.specs.Prelude.{ℕ, Bool, true, false, ◌&&◌, List, [], ◌∷
 use Rattle.rx_h2frame.specs.declared.kind.Kind.{Kind}
 use Rattle.rx_h2frame.specs.declared.kind.Kind.TheVariants.{Data, Headers, ResetStream, Continuation}
 use Rattle.rx_h2frame.specs.Write.{Out}
-use Rattle.rx_h2conn.specs.Session.{Session, Reading}
+use Rattle.rx_h2conn.specs.Session.{Reading}
 use Rattle.rx_h2conn.specs.Emitted.{outs_unless}
 use Rattle.rx_h2conn.specs.Open.{refusal, next_id, header_frames}
 use Rattle.rx_h2conn.specs.Output.{send_frames, reset_frame}

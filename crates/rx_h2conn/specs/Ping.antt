@@ -1,5 +1,5 @@
 -- PING (RFC 9113 6.7).
-use Rattle.std.specs.Prelude.{ℕ, ◌+◌, Bool, ◌&&◌, not, List, ◌++◌, if◌then◌else◌, nat_lt}
+use Rattle.std.specs.Prelude.{◌+◌, Bool, ◌&&◌, not, ◌++◌, if◌then◌else◌, nat_lt}
 use Rattle.rx_h2frame.specs.declared.kind.Kind.TheVariants.{Ping}
 use Rattle.rx_h2frame.specs.Flags.{is_set}
 use Rattle.rx_h2frame.specs.Frame.{Whole}

@@ -1,10 +1,10 @@
 -- The machine of a connection with its bytes.
-use Rattle.std.specs.Prelude.{◌≡◌, ◌≤◌, ℕ, None, Some, Result, Ok, Err}
+use Rattle.std.specs.Prelude.{◌≡◌, ℕ, None, Some, Result, Ok, Err}
 use Rattle.rx_h2frame.specs.Frame.{Lacks, next}
 use Rattle.rx_h2conn.specs.declared.reader.Reader.{Reader}
 use Rattle.rx_h2conn.specs.declared.fault.ConnFault.{ConnFault}
 use Rattle.rx_h2conn.specs.declared.fault.ConnFault.TheVariants.{NoMemory}
-use Rattle.rx_h2conn.specs.Session.{Session, Reading}
+use Rattle.rx_h2conn.specs.Session.{Reading}
 use Rattle.rx_h2conn.specs.State.{state_of, Keeps}
 use Rattle.rx_h2conn.specs.Sound.{IsSound, IsWithin}
 

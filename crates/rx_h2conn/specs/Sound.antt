@@ -1,5 +1,5 @@
 -- What holds of each connection: the credit that is told, owed or waiting makes the windows that the client gave.
-use Rattle.std.specs.Prelude.{◌≡◌, ◌≤◌, ◌<◌, ℕ, ◌+◌, ◌/◌, ◌==◌, if◌then◌else◌, slice_index_or, length, List, [], ◌∷◌, None}
+use Rattle.std.specs.Prelude.{◌≤◌, ℕ, ◌+◌, ◌/◌, ◌==◌, if◌then◌else◌, slice_index_or, length, List, [], ◌∷◌}
 use Rattle.rx_h2conn.specs.declared.stream.Stream.{Stream}
 use Rattle.rx_h2conn.specs.Session.{Session, Queued}
 use Rattle.rx_h2conn.specs.Streams.{fresh}

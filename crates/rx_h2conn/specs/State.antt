@@ -1,14 +1,14 @@
 -- The parts of a connection as one value, and what a step answers.
-use Rattle.std.specs.Prelude.{◌≡◌, ℕ, List, ◌++◌, Option, None, Some, Result, Ok, Err}
+use Rattle.std.specs.Prelude.{◌≡◌, List, ◌++◌, None, Some, Result, Ok, Err}
 use Rattle.rx_h2conn.specs.declared.machine.Machine.{Machine}
 use Rattle.rx_h2conn.specs.declared.fault.ConnFault.{ConnFault}
 use Rattle.rx_h2conn.specs.declared.fault.ConnFault.TheVariants.{NoMemory}
-use Rattle.rx_h2conn.specs.Session.{Session, Reading, Queued}
+use Rattle.rx_h2conn.specs.Session.{Session}
 
 abbrev pub state_of : Machine → Session
 state_of m = record {
   fault = m.fault;
-  streams = m.streams.items;
+  streams = m.streams;
   send = m.send;
   initial = m.initial;
   receive = m.receive;

@@ -1,12 +1,12 @@
 -- What a connection does with each frame and each byte.
-use Rattle.std.specs.Prelude.{◌≡◌, ℕ, ◌+◌, List, [], ◌∷◌, ◌++◌, if◌then◌else◌, Option, None, Some, Result, Ok, Err}
+use Rattle.std.specs.Prelude.{◌≡◌, ℕ, List, [], ◌∷◌, ◌++◌, Option, None, Some, Result, Ok, Err}
 use Rattle.rx_h2frame.specs.declared.frame.FrameFault.{FrameFault}
 use Rattle.rx_h2frame.specs.declared.frame.FrameFault.TheVariants.{FrameSize, BadPadding, BadStreamId}
 use Rattle.rx_h2frame.specs.declared.kind.Kind.{Kind}
 use Rattle.rx_h2frame.specs.declared.kind.Kind.TheVariants.{Data, Headers, Priority, ResetStream, Settings, PushPromise, Ping, GoAway, WindowUpdate, Continuation, Unknown}
 use Rattle.rx_h2frame.specs.Frame.{Whole, Seen, Complete, Lacks, next}
 use Rattle.rx_h2conn.specs.declared.fault.ConnFault.{ConnFault}
-use Rattle.rx_h2conn.specs.declared.fault.ConnFault.TheVariants.{Protocol, NoMemory}
+use Rattle.rx_h2conn.specs.declared.fault.ConnFault.TheVariants.{NoMemory}
 use Rattle.rx_h2conn.specs.declared.settings.SizeUpdate.TheVariants.{NotAsked}
 use Rattle.rx_h2conn.specs.Session.{Session, Reading, Queued, Event}
 use Rattle.rx_h2conn.specs.Streams.{failed, passed}

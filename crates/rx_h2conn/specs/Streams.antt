@@ -1,6 +1,5 @@
 -- The streams of a connection (RFC 9113 5.1).
-use Rattle.std.specs.Prelude.{ℕ, ◌+◌, ◌*◌, ◌/◌, ◌%◌, Bool, true, false, ◌&&◌, ◌||◌, not, List, length, slice_index, slice_index_or, slice_set, if◌then◌else◌, nat_lt, ◌==◌, Option, None, Some}
-use Rattle.rx_h2conn.specs.declared.fault.ConnFault.{ConnFault}
+use Rattle.std.specs.Prelude.{◌≡◌, ℕ, ◌+◌, ◌*◌, ◌/◌, ◌%◌, Bool, true, false, ◌&&◌, ◌||◌, List, length, slice_index, slice_index_or, if◌then◌else◌, nat_lt, ◌==◌, Option, None, Some}
 use Rattle.rx_h2conn.specs.declared.fault.ConnFault.TheVariants.{Protocol}
 use Rattle.rx_h2conn.specs.declared.stream.Stream.{Stream}
 use Rattle.rx_h2conn.specs.Session.{Session, Block}
@@ -15,6 +14,12 @@ fresh = record { send = record { ahead = 0; behind = 0 }; receive = 1048576; owe
 
 abbrev pub stream_at : Session → ℕ → Stream
 stream_at s id = slice_index_or s.streams (id / 2) fresh
+
+-- a stream that `open_stream` gave and `reset` didn't give up; ended tells whether this side of it has ended
+pub record IsHeld (s : Session) (id : ℕ) (ended : Bool) : Type 0 where
+  pub opened : is_open s id ≡ true
+  pub kept : (stream_at s id).client_reset ≡ false
+  pub done : (stream_at s id).client_done ≡ ended
 
 -- what the server sends on it is dropped
 abbrev pub is_dropped : Stream → Bool

@@ -1,6 +1,6 @@
 //! A connection as its user sees it.
 
-ghost use Rattle.std.specs.Prelude.{◌≡◌, ◌≤◌, ◌++◌, true, false, List, ℕ, length, IfOk, OnOk, OnErr};
+ghost use Rattle.std.specs.Prelude.{◌≡◌, ◌++◌, ◌&&◌, ◌==◌, true, false, List, ℕ, length, None, IfOk, OnOk, OnErr};
 ghost use Rattle.std.specs.List.{All};
 ghost use Rattle.rx_hpack.specs.Header.{views};
 ghost use Rattle.rx_hpack.specs.Encoder.{IsWritable};
@@ -12,13 +12,14 @@ ghost use Rattle.rx_h2conn.specs.Open.{refusal, next_id, opened};
 ghost use Rattle.rx_h2conn.specs.Output.{AnswersAt, allowed, sent, reset, output, emptied};
 ghost use Rattle.rx_h2conn.specs.Parts.{part_of, all_parts};
 ghost use Rattle.rx_h2conn.specs.Steps.{Feeds, first, after_event};
-ghost use Rattle.rx_h2conn.specs.Streams.{is_open, stream_at};
+ghost use Rattle.rx_h2conn.specs.Streams.{is_open, stream_at, IsHeld};
 
 use crate::event::ConnEvent;
 use crate::fault::ConnFault;
 use crate::machine::Machine;
 use crate::reader::{HEADER_SIZE, Reader};
 use crate::settings::SizeUpdate;
+use crate::streams::Streams;
 use rx_h2frame::{FrameOut, Kind, write_frame};
 use rx_hpack::{Decoder, Header};
 use std::alloc::{AllocError, Global};
@@ -80,7 +81,7 @@ fn start(alloc: Global) -> Result<Conn, AllocError>
     let machine = Machine {
         alloc,
         fault: None,
-        streams: Vec::new(alloc),
+        streams: Streams::new(alloc),
         send: FIRST_WINDOW,
         initial: FIRST_WINDOW,
         receive: FIRST_WINDOW,
@@ -126,6 +127,7 @@ impl Conn {
         requires { All IsWritable headers.now }
         ensures answers { AnswersAt (refusal self.old.state) self.old.state (opened self.old.state (views headers.now) last) (next_id self.old.state) self.new.state result }
         ensures rest { self.new.rest ≡ self.old.rest }
+        ensures held { IfOk result (λ id. IsHeld self.new.state id last) }
     {
         self.reader.open_stream(headers, last)
     }
@@ -136,11 +138,10 @@ impl Conn {
     ///
     /// Errors: the connection's fault; `NoMemory`, and then nothing has changed.
     pub fn send(&mut self, stream: u32, piece: &[u8], last: bool) -> Result<usize, ConnFault>
-        requires opened { is_open self.old.state stream ≡ true }
-        requires going { (stream_at self.old.state stream).client_done ≡ false }
-        requires kept { (stream_at self.old.state stream).client_reset ≡ false }
+        requires { self.old.state.fault ≡ None → IsHeld self.old.state stream false }
         ensures answers { AnswersAt self.old.state.fault self.old.state (sent self.old.state stream piece.now last) (allowed self.old.state stream (length piece.now)) self.new.state result }
         ensures rest { self.new.rest ≡ self.old.rest }
+        ensures held { IfOk result (λ n. IsHeld self.new.state stream (last && (n == length piece.now))) }
     {
         self.reader.send(stream, piece, last)
     }
@@ -150,8 +151,8 @@ impl Conn {
     ///
     /// Errors: the connection's fault; `NoMemory`, and then nothing has changed.
     pub fn reset(&mut self, stream: u32, code: u32) -> Result<(), ConnFault>
-        requires opened { is_open self.old.state stream ≡ true }
-        requires kept { (stream_at self.old.state stream).client_reset ≡ false }
+        requires opened { self.old.state.fault ≡ None → is_open self.old.state stream ≡ true }
+        requires kept { self.old.state.fault ≡ None → (stream_at self.old.state stream).client_reset ≡ false }
         ensures answers { AnswersAt self.old.state.fault self.old.state (reset self.old.state stream code) tt self.new.state result }
         ensures rest { self.new.rest ≡ self.old.rest }
     {

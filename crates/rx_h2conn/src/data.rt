@@ -90,16 +90,16 @@ impl Machine {
         let size = f.size as u32;
         let credit = carried(f);
         self.tell_data(f, credit, last)?;
-        let at = (f.stream / 2) as usize;
-        let stream = self.streams[at];
         self.receive -= size;
         self.owed += size - credit;
-        self.streams[at] = Stream {
+        let stream = self.stream_at(f.stream);
+        let heard = Stream {
             receive: stream.receive - size,
             owed: stream.owed + (size - credit),
             server_done: stream.server_done || last,
             ..stream
         };
+        self.set_stream(f.stream, heard);
         Ok(())
     }
 
@@ -135,13 +135,13 @@ impl Machine {
         if !self.is_open(id) {
             return;
         }
-        let at = (id / 2) as usize;
-        let stream = self.streams[at];
+        let stream = self.stream_at(id);
         if !stream.client_reset {
-            self.streams[at] = Stream {
+            let owing = Stream {
                 owed: stream.owed + credit,
                 ..stream
             };
+            self.set_stream(id, owing);
         }
     }
 }

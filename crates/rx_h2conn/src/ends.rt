@@ -21,8 +21,7 @@ impl Machine {
         if self.is_interrupted() || !self.is_open(f.stream) {
             return self.fail(PROTOCOL_ERROR);
         }
-        let at = (f.stream / 2) as usize;
-        let stream = self.streams[at];
+        let stream = self.stream_at(f.stream);
         if stream.client_reset {
             return Ok(());
         }
@@ -37,11 +36,12 @@ impl Machine {
                 credit: 0,
             })?;
         }
-        self.streams[at] = Stream {
+        let ended = Stream {
             server_done: true,
             server_reset: true,
             ..stream
         };
+        self.set_stream(f.stream, ended);
         Ok(())
     }
 

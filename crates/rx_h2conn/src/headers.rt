@@ -51,8 +51,7 @@ impl Machine {
         if !self.is_open(id) {
             return self.fail(PROTOCOL_ERROR);
         }
-        let at = (id / 2) as usize;
-        let stream = self.streams[at];
+        let stream = self.stream_at(id);
         if stream.is_dropped() {
             return Ok(());
         }
@@ -66,10 +65,11 @@ impl Machine {
             stream: id,
             credit: 0,
         })?;
-        self.streams[at] = Stream {
+        let heard = Stream {
             server_done: stream.server_done || last,
             ..stream
         };
+        self.set_stream(id, heard);
         Ok(())
     }
 

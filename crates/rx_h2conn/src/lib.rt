@@ -14,6 +14,7 @@ mod ping;
 mod reader;
 mod settings;
 mod stream;
+mod streams;
 #[cfg(test)]
 mod tests;
 mod updates;

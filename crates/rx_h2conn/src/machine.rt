@@ -1,7 +1,7 @@
 //! The state of a connection, and the step from one whole frame to the next.
 //! What each kind of frame does stands in a file of its own.
 
-ghost use Rattle.std.specs.Prelude.{◌≡◌, ◌+◌, ◌<◌, ◌≤◌, ◌^◌, length, true, None};
+ghost use Rattle.std.specs.Prelude.{◌≡◌, ◌+◌, ◌<◌, ◌≤◌, ◌^◌, ◌/◌, length, slice_set, true, None};
 ghost use Rattle.rx_h2conn.specs.State.{state_of, Does};
 ghost use Rattle.rx_h2conn.specs.Streams.{failed, number, number_31, is_open, is_interrupted, is_dropped, stream_at, passed};
 ghost use Rattle.rx_h2conn.specs.Steps.{took};
@@ -14,6 +14,7 @@ use crate::fault::ConnFault;
 use crate::headers::Sequence;
 use crate::settings::SizeUpdate;
 use crate::stream::Stream;
+use crate::streams::Streams;
 use rx_h2frame::{Frame, Kind};
 use rx_hpack::Decoder;
 use std::alloc::Global;
@@ -35,8 +36,7 @@ pub const ENHANCE_YOUR_CALM: u32 = 11;
 pub struct Machine {
     pub alloc: Global,
     pub fault: Option<ConnFault>,
-    /// The one at k is the stream 2k + 1.
-    pub streams: Vec<Stream>,
+    pub streams: Streams,
     /// What may still be sent on the connection.
     pub send: u32,
     /// The window of a new stream, by the server's SETTINGS_INITIAL_WINDOW_SIZE.
@@ -102,7 +102,14 @@ impl Machine {
         requires { is_open (state_of self.now) id ≡ true }
         ensures { result ≡ stream_at (state_of self.now) id }
     {
-        self.streams[(id / 2) as usize]
+        self.streams.get((id / 2) as usize)
+    }
+
+    pub fn set_stream(&mut self, id: u32, stream: Stream)
+        requires { is_open (state_of self.old) id ≡ true }
+        ensures { state_of self.new ≡ record (state_of self.old) { streams = slice_set (state_of self.old).streams (id / 2) stream } }
+    {
+        self.streams.set((id / 2) as usize, stream);
     }
 
     /// A frame that changes nothing, but may not come into a header block.

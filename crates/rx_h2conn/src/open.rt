@@ -73,7 +73,7 @@ impl Machine {
     #[tactic(auto, unfolding(crate::specs::Open::opened))]
     fn add_stream(&mut self, headers: &[Header], last: bool) -> Result<u32, AllocError>
         requires writable { All IsWritable headers.now }
-        requires room { length self.old.streams.items < 1073741824 }
+        requires room { length (state_of self.old).streams < 1073741824 }
         ensures ok { OnOk result (state_of self.new ≡ opened (state_of self.old) (views headers.now) last) }
         ensures id { IfOk result (λ id. id ≡ next_id (state_of self.old)) }
         ensures err { OnErr result (state_of self.new ≡ state_of self.old) }

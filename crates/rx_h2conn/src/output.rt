@@ -15,6 +15,7 @@ ghost use Rattle.rx_h2conn.specs.Sound.{IsWithin};
 use crate::fault::ConnFault;
 use crate::machine::Machine;
 use crate::stream::Stream;
+use crate::streams::Streams;
 use rx_h2frame::{END_STREAM, FrameOut, Kind, write_frame};
 use std::alloc::AllocError;
 use std::mem;
@@ -131,12 +132,13 @@ fn put_reset(id: u32, code: u32, out: &mut Vec<u8>) -> Result<(), AllocError>
     write_frame(&frame, out)
 }
 
-fn write_credits(streams: &[Stream], out: &mut Vec<u8>) -> Result<(), AllocError>
-    requires { length streams.now ≤ 1073741824 }
-    ensures ok { OnOk result (out.new.items ≡ out.old.items ++ bytes_of (stream_credits 1 streams.now)) }
+/// Writes the credit of streams behind so many others.
+fn write_credits(before: usize, streams: &[Stream], out: &mut Vec<u8>) -> Result<(), AllocError>
+    requires { before + length streams.now ≤ 1073741824 }
+    ensures ok { OnOk result (out.new.items ≡ out.old.items ++ bytes_of (stream_credits (before * 2 + 1) streams.now)) }
     ensures front { (more : List ℕ) × (out.new.items ≡ out.old.items ++ more) }
 {
-    let mut id = 1;
+    let mut id = before as u32 * 2 + 1;
     for stream in streams {
         write_credit(id, stream.owed, out)?;
         id += 2;
@@ -144,39 +146,16 @@ fn write_credits(streams: &[Stream], out: &mut Vec<u8>) -> Result<(), AllocError
     Ok(())
 }
 
-impl Stream {
-    /// The stream once its credit was told.
-    fn told(self) -> Stream
-        requires { self.receive + self.owed ≤ 1048576 }
-        ensures { result ≡ told self }
-    {
-        Stream {
-            receive: self.receive + self.owed,
-            owed: 0,
-            ..self
-        }
-    }
-}
-
-#[tactic(auto, using(std::proofs::lemmas::List::Edits::map_over_more))]
-fn tell(streams: &mut [Stream])
-    requires { All (λ t. t.receive + t.owed ≤ 1048576) streams.old }
-    ensures { streams.new ≡ map told streams.old }
-{
-    for stream in streams.iter_mut() {
-        *stream = stream.told();
-    }
-}
-
 /// Writes all credit that is due, or nothing.
-fn put_credits(owed: u32, streams: &[Stream], out: &mut Vec<u8>) -> Result<(), AllocError>
+fn put_credits(owed: u32, streams: &Streams, out: &mut Vec<u8>) -> Result<(), AllocError>
     requires { length streams.now ≤ 1073741824 }
     ensures ok { OnOk result (out.new.items ≡ out.old.items ++ bytes_of (credit_frames 0 owed ++ stream_credits 1 streams.now)) }
     ensures err { OnErr result (out.new.items ≡ out.old.items) }
 {
     let kept = out.len();
+    let (before, due) = streams.due();
     write_credit(0, owed, out)?;
-    if write_credits(streams, out).is_err() {
+    if write_credits(before, due, out).is_err() {
         out.truncate(kept);
         return Err(AllocError);
     }
@@ -195,7 +174,7 @@ impl Machine {
         self.receive += self.owed;
         self.owed = 0;
         self.acks = 0;
-        tell(&mut self.streams);
+        self.streams.tell();
         let empty = Vec::new(self.alloc);
         Ok(mem::replace(&mut self.queued, empty))
     }
@@ -266,21 +245,21 @@ impl Machine {
         let ends = self.ends(id, piece.len(), last);
         let charged = self.charged(id, piece.len());
         self.put_data(id, piece, last)?;
-        let at = (id / 2) as usize;
-        let stream = self.streams[at];
-        self.streams[at] = Stream {
+        let stream = self.stream_at(id);
+        let sending = Stream {
             send: stream.send.spent(self.initial, charged),
             client_done: stream.client_done || ends,
             ..stream
         };
+        self.set_stream(id, sending);
         self.send -= charged;
         Ok(count as usize)
     }
 
     /// Takes as many bytes as both windows allow.
     pub fn send(&mut self, id: u32, piece: &[u8], last: bool) -> Result<usize, ConnFault>
-        requires open { is_open (state_of self.old) id ≡ true }
-        requires id { id < 2 ^ 31 }
+        requires open { self.old.fault ≡ None → is_open (state_of self.old) id ≡ true }
+        requires id { self.old.fault ≡ None → id < 2 ^ 31 }
         ensures { AnswersAt self.old.fault (state_of self.old) (sent (state_of self.old) id piece.now last) (allowed (state_of self.old) id (length piece.now)) (state_of self.new) result }
     {
         if let Some(fault) = self.fault {
@@ -301,19 +280,18 @@ impl Machine {
         ensures err { OnErr result (state_of self.new ≡ state_of self.old) }
     {
         put_reset(id, code, &mut self.queued)?;
-        let at = (id / 2) as usize;
-        let stream = self.streams[at];
-        self.streams[at] = Stream {
+        let given_up = Stream {
             client_reset: true,
-            ..stream
+            ..self.stream_at(id)
         };
+        self.set_stream(id, given_up);
         Ok(())
     }
 
     /// Gives a stream up.
     pub fn reset(&mut self, id: u32, code: u32) -> Result<(), ConnFault>
-        requires open { is_open (state_of self.old) id ≡ true }
-        requires id { id < 2 ^ 31 }
+        requires open { self.old.fault ≡ None → is_open (state_of self.old) id ≡ true }
+        requires id { self.old.fault ≡ None → id < 2 ^ 31 }
         ensures { AnswersAt self.old.fault (state_of self.old) (reset (state_of self.old) id code) tt (state_of self.new) result }
     {
         if let Some(fault) = self.fault {

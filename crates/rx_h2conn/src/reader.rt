@@ -2,7 +2,7 @@
 //!
 //! A byte of DATA is copied twice, into the rest and from there into its event.
 
-ghost use Rattle.std.specs.Prelude.{◌≡◌, ◌+◌, ◌<◌, ◌≤◌, true, length, take, Ok, OnOk, OnErr, IfOk};
+ghost use Rattle.std.specs.Prelude.{◌≡◌, ◌+◌, ◌<◌, ◌≤◌, true, length, take, None, Ok, OnOk, OnErr, IfOk};
 ghost use Rattle.std.specs.List.{All};
 ghost use Rattle.rx_hpack.specs.Header.{views};
 ghost use Rattle.rx_hpack.specs.Encoder.{IsWritable};
@@ -174,7 +174,7 @@ impl Reader {
     /// Takes as many bytes as both windows allow.
     pub fn send(&mut self, id: u32, piece: &[u8], last: bool) -> Result<usize, ConnFault>
         requires conn { IsConn (reading_of self.old) self.old.lacking }
-        requires opened { is_open (state_of self.old.machine) id ≡ true }
+        requires opened { self.old.machine.fault ≡ None → is_open (state_of self.old.machine) id ≡ true }
         ensures answers { AnswersAt self.old.machine.fault (state_of self.old.machine) (sent (state_of self.old.machine) id piece.now last) (allowed (state_of self.old.machine) id (length piece.now)) (state_of self.new.machine) result }
         ensures rest { self.new.rest.items ≡ self.old.rest.items }
         ensures conn { IsConn (reading_of self.new) self.new.lacking }
@@ -185,7 +185,7 @@ impl Reader {
     /// Gives a stream up.
     pub fn reset(&mut self, id: u32, code: u32) -> Result<(), ConnFault>
         requires conn { IsConn (reading_of self.old) self.old.lacking }
-        requires opened { is_open (state_of self.old.machine) id ≡ true }
+        requires opened { self.old.machine.fault ≡ None → is_open (state_of self.old.machine) id ≡ true }
         ensures answers { AnswersAt self.old.machine.fault (state_of self.old.machine) (reset (state_of self.old.machine) id code) tt (state_of self.new.machine) result }
         ensures rest { self.new.rest.items ≡ self.old.rest.items }
         ensures conn { IsConn (reading_of self.new) self.new.lacking }

@@ -134,7 +134,8 @@ impl Machine {
         ensures { result ≡ widens (state_of self.now) all }
     {
         let widest = all.widest;
-        LARGEST_WINDOW < widest || self.initial < widest && any_overflows(&self.streams, widest)
+        LARGEST_WINDOW < widest
+            || self.initial < widest && any_overflows(self.streams.as_slice(), widest)
     }
 
     #[tactic(auto, unfolding(crate::specs::Settings::on_entries))]

@@ -44,8 +44,7 @@ impl Machine {
         if !self.is_open(id) {
             return self.fail(PROTOCOL_ERROR);
         }
-        let at = (id / 2) as usize;
-        let stream = self.streams[at];
+        let stream = self.stream_at(id);
         if stream.overflows(self.initial, size) {
             return self.fail(FLOW_CONTROL_ERROR);
         }
@@ -58,10 +57,11 @@ impl Machine {
         if size == 0 {
             return self.fail(PROTOCOL_ERROR);
         }
-        self.streams[at] = Stream {
+        let widened = Stream {
             send: stream.send.granted(size),
             ..stream
         };
+        self.set_stream(id, widened);
         Ok(())
     }
 

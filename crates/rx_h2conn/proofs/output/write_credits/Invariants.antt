@@ -5,7 +5,7 @@ use Rattle.rx_h2conn.proofs.output.write_credits.Given as goal
 
 abbrev pub invariant-loop-stream : goal.invariant-loop-stream
 invariant-loop-stream l = record {
-  id : l.id ≡ 2 * l.stream-index + 1;
-  whole : l.out.items ++ bytes_of (stream_credits l.id (drop l.stream-index l.streams)) ≡ l.fn.out.items ++ bytes_of (stream_credits 1 l.streams);
+  id : l.id ≡ (l.before + l.stream-index) * 2 + 1;
+  whole : l.out.items ++ bytes_of (stream_credits l.id (drop l.stream-index l.streams)) ≡ l.fn.out.items ++ bytes_of (stream_credits (l.before * 2 + 1) l.streams);
   front : (more : List ℕ) × (l.out.items ≡ l.fn.out.items ++ more);
 }

@@ -1,5 +1,5 @@
 use Rattle.std.proofs.Common.{rules, ◌≡◌, None}
-use Rattle.rx_h2conn.specs.Reader.{reading_of, Reads}
+use Rattle.rx_h2conn.specs.Reader.{reading_of}
 use Rattle.rx_h2conn.proofs.PieceLemmas.{conn_after}
 use Rattle.rx_h2conn.proofs.reader.Reader.feed.Goals as goal
 

@@ -1,6 +1,4 @@
-use Rattle.std.proofs.Common.{◌≡◌, ◌∙◌, sym, subst, ℕ, ap}
-use Rattle.rx_h2conn.specs.Session.{Reading}
-use Rattle.rx_h2conn.specs.Reader.{reading_of, IsConn}
+use Rattle.rx_h2conn.specs.Reader.{reading_of}
 use Rattle.rx_h2conn.proofs.PieceLemmas.{conn_handed}
 use Rattle.rx_h2conn.proofs.reader.Reader.next_event.Goals as goal
 

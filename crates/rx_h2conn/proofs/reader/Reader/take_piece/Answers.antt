@@ -1,8 +1,7 @@
-use Rattle.std.proofs.Common.{◌≡◌, ◌+◌, ◌<◌, ◌≤◌, length, OnOk, ℕ, sym, ◌∙◌, ap}
 use Rattle.std.proofs.lemmas.Result.{err_from_is_err_and}
 use Rattle.rx_h2frame.proofs.NextLemmas.{next_some}
 use Rattle.rx_h2conn.specs.Reader.{reading_of}
-use Rattle.rx_h2conn.proofs.PieceLemmas.{feeding_goes_on, feeding_fails, IsCut, cut}
+use Rattle.rx_h2conn.proofs.PieceLemmas.{feeding_goes_on, feeding_fails, cut}
 use Rattle.rx_h2conn.proofs.reader.Reader.take_piece.Goals as goal
 
 pub take_front-requires-clause-some : goal.take_front-requires-clause-some

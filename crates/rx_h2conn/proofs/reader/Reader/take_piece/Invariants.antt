@@ -1,4 +1,4 @@
-use Rattle.std.proofs.Common.{ℕ, length}
+use Rattle.std.proofs.Common.{length}
 use Rattle.rx_h2conn.specs.Reader.{reading_of}
 use Rattle.rx_h2conn.proofs.PieceLemmas.{IsFeeding}
 use Rattle.rx_h2conn.proofs.reader.Reader.take_piece.Given as goal
