@@ -8,6 +8,7 @@ pub mod FrameLemmas
 pub mod DueLemmas
 pub mod ConnLemmas
 pub mod HeldLemmas
+pub mod KeptLemmas
 pub mod HistoryLemmas
 pub mod EmittedLemmas
 pub mod PartLemmas

@@ -21,6 +21,10 @@ pub record IsHeld (s : Session) (id : ℕ) (ended : Bool) : Type 0 where
   pub kept : (stream_at s id).client_reset ≡ false
   pub done : (stream_at s id).client_done ≡ ended
 
+-- each stream that was held is held
+abbrev pub KeepsHeld : Session → Session → Type 0
+KeepsHeld old new = (id : ℕ) (ended : Bool) → IsHeld old id ended → IsHeld new id ended
+
 -- what the server sends on it is dropped
 abbrev pub is_dropped : Stream → Bool
 is_dropped t = t.client_reset || t.server_done

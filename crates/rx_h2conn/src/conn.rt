@@ -12,7 +12,7 @@ ghost use Rattle.rx_h2conn.specs.Open.{refusal, next_id, opened};
 ghost use Rattle.rx_h2conn.specs.Output.{AnswersAt, allowed, sent, reset, output, emptied};
 ghost use Rattle.rx_h2conn.specs.Parts.{part_of, all_parts};
 ghost use Rattle.rx_h2conn.specs.Steps.{Feeds, first, after_event};
-ghost use Rattle.rx_h2conn.specs.Streams.{is_open, stream_at, IsHeld};
+ghost use Rattle.rx_h2conn.specs.Streams.{is_open, stream_at, IsHeld, KeepsHeld};
 
 use crate::event::ConnEvent;
 use crate::fault::ConnFault;
@@ -164,7 +164,8 @@ impl Conn {
     /// Errors: `Protocol` with the code of the rule that the server broke, where several are broken by one frame the first
     /// of 6, 3, 9, 11 and 1; `NoMemory`, and then none of the piece counts.
     pub fn feed(&mut self, piece: &[u8]) -> Result<(), ConnFault>
-        ensures { Feeds self.old piece.now self.new result }
+        ensures feeds { Feeds self.old piece.now self.new result }
+        ensures held { OnOk result (KeepsHeld self.old.state self.new.state) }
     {
         self.reader.feed(piece)
     }
@@ -173,6 +174,7 @@ impl Conn {
     pub fn next_event(&mut self) -> Option<ConnEvent>
         ensures event { Hands (first self.old.state.events) result }
         ensures after { self.new ≡ after_event self.old }
+        ensures held { KeepsHeld self.old.state self.new.state }
     {
         self.reader.next_event()
     }
@@ -184,6 +186,7 @@ impl Conn {
         ensures after { OnOk result (self.new.state ≡ emptied self.old.state) }
         ensures err { OnErr result (self.new.state ≡ self.old.state) }
         ensures rest { self.new.rest ≡ self.old.rest }
+        ensures held { KeepsHeld self.old.state self.new.state }
     {
         self.reader.take_output()
     }
