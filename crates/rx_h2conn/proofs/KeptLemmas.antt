@@ -1,6 +1,5 @@
 -- What the server sends, events and output leave the streams to the client.
-use Rattle.std.proofs.Common.{◌≡◌, ℕ, ◌+◌, ◌/◌, ◌<◌, zero, suc, Bool, true, false, not, ◌&&◌, ◌||◌, List, [], ◌∷◌, length, get_or, set, map, refl, sym, ◌∙◌, nat_lt, nat_eq, arith, length-set, Option, None, Some, Result, Ok, Err, OnOk, OnErr}
-use Rattle.std.specs.List.{list_any}
+use Rattle.std.proofs.Common.{◌≡◌, ℕ, ◌+◌, ◌/◌, ◌<◌, zero, suc, Bool, true, not, ◌&&◌, ◌||◌, List, [], ◌∷◌, length, get_or, set, map, refl, ◌∙◌, nat_lt, nat_eq, arith, length-set, Option, None, Some, Result, Ok, Err, OnOk, OnErr}
 use Rattle.rx_hpack.specs.declared.fault.HpackFault.{HpackFault}
 use Rattle.rx_hpack.specs.declared.fault.HpackFault.TheVariants.{BadIndex, BadInteger, BadHuffman, SizeUpdate, ListTooLarge, NoMemory}
 use Rattle.rx_hpack.specs.Header.{Field}
@@ -14,14 +13,14 @@ use Rattle.rx_h2conn.specs.declared.fault.ConnFault.{ConnFault}
 use Rattle.rx_h2conn.specs.declared.settings.Asked.{Asked}
 use Rattle.rx_h2conn.specs.declared.stream.Stream.{Stream}
 use Rattle.rx_h2conn.specs.Session.{Session, Reading, Queued, Block}
-use Rattle.rx_h2conn.specs.Streams.{failed, passed, fresh, is_open, stream_at, is_dropped, is_interrupted, IsHeld, KeepsHeld}
+use Rattle.rx_h2conn.specs.Streams.{failed, passed, fresh, is_open, stream_at, is_dropped, is_interrupted, KeepsHeld}
 use Rattle.rx_h2conn.specs.Data.{passes_window, taken_data, on_data, owe}
 use Rattle.rx_h2conn.specs.Headers.{told_headers, headers_of, told_block, ended, on_headers, continued, continued_by, on_continuation}
 use Rattle.rx_h2conn.specs.Updates.{overflows, on_connection_update, on_stream_update, on_window_update}
 use Rattle.rx_h2conn.specs.Ping.{is_flooded, on_ping}
 use Rattle.rx_h2conn.specs.Settings.{widens, on_entries, on_settings}
 use Rattle.rx_h2conn.specs.Ends.{on_reset, on_go_away}
-use Rattle.rx_h2conn.specs.Steps.{took_by, took, code_of, judged, settled, more, unless_failed, byte, fed, handed, FeedsAt}
+use Rattle.rx_h2conn.specs.Steps.{took_by, code_of, judged, settled, more, unless_failed, byte, fed, handed, FeedsAt}
 use Rattle.rx_h2conn.specs.Output.{told, emptied}
 use Rattle.rx_h2conn.proofs.ListLemmas.{either, or_false, and_true, not_false}
 use Rattle.rx_h2conn.proofs.SoundLemmas.{open_at}

@@ -11,5 +11,8 @@ pub mod HeldLemmas
 pub mod KeptLemmas
 pub mod HistoryLemmas
 pub mod EmittedLemmas
+pub mod ChosenLemmas
 pub mod PartLemmas
+pub mod CarriedLemmas
+pub mod GrantLemmas
 pub mod StartLemmas

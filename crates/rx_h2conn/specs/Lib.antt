@@ -19,3 +19,4 @@ pub mod Open
 pub mod Conn
 pub mod History
 pub mod Parts
+pub mod Carried

@@ -1,5 +1,6 @@
 -- What the output holds of one stream.
 use Rattle.std.specs.Prelude.{ℕ, Bool, true, false, ◌&&◌, List, [], ◌∷◌, ◌++◌, if◌then◌else◌, ◌==◌}
+use Rattle.std.specs.List.{filter}
 use Rattle.rx_h2frame.specs.declared.kind.Kind.{Kind}
 use Rattle.rx_h2frame.specs.declared.kind.Kind.TheVariants.{Data, Headers, ResetStream, Continuation}
 use Rattle.rx_h2frame.specs.Write.{Out}
@@ -17,10 +18,12 @@ carries_stream ResetStream = true
 carries_stream Continuation = true
 carries_stream _ = false
 
+abbrev pub is_part : ℕ → Out → Bool
+is_part id o = carries_stream o.kind && (o.stream == id)
+
 -- the frames that carry this stream, in their order
 abbrev pub part_of : ℕ → List Out → List Out
-part_of id [] = []
-part_of id (o ∷ os) = (if carries_stream o.kind && (o.stream == id) then o ∷ [] else []) ++ part_of id os
+part_of id os = filter (is_part id) os
 
 -- what a call gives to the stream: the header list with which it was opened, the bytes that `send` took with the end,
 -- and its reset

@@ -1,6 +1,6 @@
 //! A connection as its user sees it.
 
-ghost use Rattle.std.specs.Prelude.{◌≡◌, ◌++◌, ◌&&◌, ◌==◌, true, false, List, ℕ, length, None, IfOk, OnOk, OnErr};
+ghost use Rattle.std.specs.Prelude.{◌≡◌, ◌+◌, ◌≤◌, ◌++◌, ◌&&◌, ◌==◌, true, false, List, ℕ, length, None, IfOk, OnOk, OnErr};
 ghost use Rattle.std.specs.List.{All};
 ghost use Rattle.rx_hpack.specs.Header.{views};
 ghost use Rattle.rx_hpack.specs.Encoder.{IsWritable};
@@ -11,6 +11,7 @@ ghost use Rattle.rx_h2conn.specs.History.{Call, run, bytewise, SameRuns, all_giv
 ghost use Rattle.rx_h2conn.specs.Open.{refusal, next_id, opened};
 ghost use Rattle.rx_h2conn.specs.Output.{AnswersAt, allowed, sent, reset, output, emptied};
 ghost use Rattle.rx_h2conn.specs.Parts.{part_of, all_parts};
+ghost use Rattle.rx_h2conn.specs.Carried.{bytes_on, all_written, bytes_in, all_granted};
 ghost use Rattle.rx_h2conn.specs.Steps.{Feeds, first, after_event};
 ghost use Rattle.rx_h2conn.specs.Streams.{is_open, stream_at, IsHeld, KeepsHeld};
 
@@ -115,6 +116,12 @@ impl Conn {
 
         // Of these, the frames of a stream are its headers, then what `send` took with the end, and its reset.
         ensures streams { IfOk result (λ conn. (id : ℕ) (calls : List Call) → part_of id (all_emitted conn calls) ≡ all_parts conn id calls) }
+
+        // The bytes of a stream are those that `send` took and wrote, in their order.
+        ensures bytes { IfOk result (λ conn. (id : ℕ) (calls : List Call) → bytes_on id (all_emitted conn calls) ≡ all_written conn id calls) }
+
+        // Those of all streams never pass the window of the connection: what it is at first, and what the server allowed more.
+        ensures window { IfOk result (λ conn. (calls : List Call) → length (bytes_in (all_emitted conn calls)) ≤ conn.state.send + all_granted conn calls) }
     {
         start(alloc)
     }
