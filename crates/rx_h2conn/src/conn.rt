@@ -75,6 +75,7 @@ fn first_output(alloc: Global) -> Result<Vec<u8>, AllocError>
     Ok(out)
 }
 
+/// A connection with its first output.
 fn start(alloc: Global) -> Result<Conn, AllocError>
     ensures { IfOk result (λ conn. conn ≡ started) }
 {
@@ -166,7 +167,11 @@ impl Conn {
         self.reader.reset(stream, code)
     }
 
-    /// Takes the bytes that the server sent next, in whatever piece they came.
+    /// Takes the bytes that the server sent next, in whatever piece they came. A byte of DATA is copied twice.
+    ///
+    /// Of bytes of streams no more than 65,535 wait as events, since the credit for them is given when they are handed out.
+    /// Header lists have no window, and one may count 65,536 bytes: a user that takes all events before it feeds more keeps
+    /// no more of them than one piece brings.
     ///
     /// Errors: `Protocol` with the code of the rule that the server broke, where several are broken by one frame the first
     /// of 6, 3, 9, 11 and 1; `NoMemory`, and then none of the piece counts.

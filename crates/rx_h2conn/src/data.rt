@@ -77,6 +77,7 @@ impl Machine {
         Ok(())
     }
 
+    /// Takes bytes that are kept: both windows are charged with the whole payload.
     fn take_data(&mut self, f: &Frame) -> Result<(), ConnFault>
         requires open { is_open (state_of self.old) f.now.stream ≡ true }
         requires none { self.old.fault ≡ None }
@@ -103,6 +104,7 @@ impl Machine {
         Ok(())
     }
 
+    /// DATA (RFC 9113 6.1). Its whole payload, padding included, counts for the windows (RFC 9113 6.9.1).
     #[tactic(auto, unfolding(crate::specs::Data::on_data))]
     pub fn on_data(&mut self, f: &Frame) -> Result<(), ConnFault>
         requires none { self.old.fault ≡ None }

@@ -12,6 +12,13 @@ use crate::stream::Stream;
 use rx_h2frame::Frame;
 
 impl Machine {
+    /// RST_STREAM (RFC 9113 6.4).
+    ///
+    /// ```text
+    /// +---------------------------------------------------------------+
+    /// |                           code (32)                           |
+    /// +---------------------------------------------------------------+
+    /// ```
     #[tactic(auto, unfolding(crate::specs::Ends::on_reset))]
     pub fn on_reset(&mut self, f: &Frame) -> Result<(), ConnFault>
         requires none { self.old.fault ≡ None }
@@ -45,6 +52,17 @@ impl Machine {
         Ok(())
     }
 
+    /// GOAWAY (RFC 9113 6.8). The code and what follows it aren't looked at.
+    ///
+    /// ```text
+    /// +-+-------------------------------------------------------------+
+    /// |R|                       last stream (31)                      |
+    /// +-+-------------------------------------------------------------+
+    /// |                           code (32)                           |
+    /// +---------------------------------------------------------------+
+    /// |                        debug data (*)                         |
+    /// +---------------------------------------------------------------+
+    /// ```
     #[tactic(auto, unfolding(crate::specs::Ends::on_go_away))]
     pub fn on_go_away(&mut self, f: &Frame) -> Result<(), ConnFault>
         requires none { self.old.fault ≡ None }

@@ -87,6 +87,7 @@ impl Machine {
         }
     }
 
+    /// HEADERS: a whole header block, or the front of one.
     #[tactic(auto, unfolding(crate::specs::Headers::on_headers))]
     pub fn on_headers(&mut self, f: &Frame) -> Result<(), ConnFault>
         requires none { self.old.fault ≡ None }
@@ -112,6 +113,7 @@ impl Machine {
         Ok(())
     }
 
+    /// The next part of a header block, unless it is another stream's, or too much.
     #[tactic(auto, unfolding(crate::specs::Headers::continued))]
     fn go_on(&mut self, sequence: Sequence, f: &Frame) -> Result<(), ConnFault>
         requires none { self.old.fault ≡ None }
@@ -143,6 +145,7 @@ impl Machine {
         Ok(())
     }
 
+    /// CONTINUATION: the next part of a header block.
     #[tactic(auto, unfolding(crate::specs::Headers::on_continuation))]
     pub fn on_continuation(&mut self, f: &Frame) -> Result<(), ConnFault>
         requires none { self.old.fault ≡ None }

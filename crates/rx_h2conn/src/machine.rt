@@ -86,18 +86,21 @@ impl Machine {
         Err(ConnFault::Protocol(code))
     }
 
+    /// Whether the client opened a stream of this number.
     pub fn is_open(&self, id: u32) -> bool
         ensures { result ≡ is_open (state_of self.now) id }
     {
         id % 2 == 1 && ((id / 2) as usize) < self.streams.len()
     }
 
+    /// Whether a header block hasn't ended, so that only its CONTINUATION may come (RFC 9113 6.10).
     pub fn is_interrupted(&self) -> bool
         ensures { result ≡ is_interrupted (state_of self.now) }
     {
         self.sequence.is_some()
     }
 
+    /// The stream of a number that is open.
     pub fn stream_at(&self, id: u32) -> Stream
         requires { is_open (state_of self.now) id ≡ true }
         ensures { result ≡ stream_at (state_of self.now) id }
@@ -105,6 +108,7 @@ impl Machine {
         self.streams.get((id / 2) as usize)
     }
 
+    /// Writes the stream of a number that is open.
     pub fn set_stream(&mut self, id: u32, stream: Stream)
         requires { is_open (state_of self.old) id ≡ true }
         ensures { state_of self.new ≡ record (state_of self.old) { streams = slice_set (state_of self.old).streams (id / 2) stream } }

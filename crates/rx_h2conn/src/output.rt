@@ -36,6 +36,7 @@ pub struct Framing {
     pub stream: u32,
 }
 
+/// Writes the bytes in frames, of which a front is left where memory runs out.
 fn write_frames(framing: Framing, bytes: &[u8], out: &mut Vec<u8>) -> Result<(), AllocError>
     requires stream { framing.stream < 2 ^ 31 }
     requires flags { framing.flags + framing.ending < 256 }
@@ -95,12 +96,14 @@ fn four(number: u32) -> [u8; 4]
     ]
 }
 
+/// The flags of a frame that is a stream's last, or isn't.
 pub fn end_stream(last: bool) -> u8
     ensures { result ≡ end_stream last }
 {
     if last { END_STREAM } else { 0 }
 }
 
+/// Writes a WINDOW_UPDATE (RFC 9113 6.9), where there is any credit.
 fn write_credit(id: u32, size: u32, out: &mut Vec<u8>) -> Result<(), AllocError>
     requires { id < 2 ^ 31 }
     ensures ok { OnOk result (out.new.items ≡ out.old.items ++ bytes_of (credit_frames id size)) }
@@ -118,6 +121,7 @@ fn write_credit(id: u32, size: u32, out: &mut Vec<u8>) -> Result<(), AllocError>
     write_frame(&frame, out)
 }
 
+/// Writes a RST_STREAM (RFC 9113 6.4).
 fn put_reset(id: u32, code: u32, out: &mut Vec<u8>) -> Result<(), AllocError>
     requires { id < 2 ^ 31 }
     ensures ok { OnOk result (out.new.items ≡ out.old.items ++ out_bytes (reset_frame id code)) }
@@ -179,6 +183,7 @@ impl Machine {
         Ok(mem::replace(&mut self.queued, empty))
     }
 
+    /// How many of so many bytes both windows allow.
     fn allowed(&self, id: u32, size: usize) -> u32
         requires { is_open (state_of self.now) id ≡ true }
         ensures is { result ≡ allowed (state_of self.now) id size }
@@ -189,6 +194,7 @@ impl Machine {
         (size as u64).min((self.send as u64).min(room)) as u32
     }
 
+    /// Whether the stream ends with these bytes, which it does once all of them are taken.
     fn ends(&self, id: u32, size: usize, last: bool) -> bool
         requires { is_open (state_of self.now) id ≡ true }
         ensures { result ≡ ends (state_of self.now) id size last }
@@ -196,6 +202,7 @@ impl Machine {
         last && self.allowed(id, size) as usize == size
     }
 
+    /// How many bytes both windows are charged with: none for a stream that the server has reset.
     fn charged(&self, id: u32, size: usize) -> u32
         requires { is_open (state_of self.now) id ≡ true }
         ensures is { result ≡ charged (state_of self.now) id size }

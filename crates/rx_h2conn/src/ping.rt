@@ -14,6 +14,7 @@ use rx_h2frame::{ACK, Frame, FrameOut, Kind, is_set, write_frame};
 pub const MOST_ACKS: u32 = 1024;
 
 impl Machine {
+    /// PING: eight bytes of any kind, which the answer repeats.
     #[tactic(auto, unfolding(crate::specs::Ping::on_ping))]
     pub fn on_ping(&mut self, f: &Frame) -> Result<(), ConnFault>
         requires none { self.old.fault ≡ None }

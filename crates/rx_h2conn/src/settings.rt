@@ -138,6 +138,7 @@ impl Machine {
             || self.initial < widest && any_overflows(self.streams.as_slice(), widest)
     }
 
+    /// Does what the entries ask for together, and acknowledges them.
     #[tactic(auto, unfolding(crate::specs::Settings::on_entries))]
     fn on_entries(&mut self, all: Asked) -> Result<(), ConnFault>
         requires none { self.old.fault ≡ None }
@@ -165,6 +166,7 @@ impl Machine {
         Ok(())
     }
 
+    /// SETTINGS, or the acknowledgement of this side's.
     #[tactic(auto, unfolding(crate::specs::Settings::on_settings))]
     pub fn on_settings(&mut self, f: &Frame) -> Result<(), ConnFault>
         requires none { self.old.fault ≡ None }

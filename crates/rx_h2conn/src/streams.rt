@@ -60,6 +60,7 @@ fn tell(streams: &mut [Stream], first: usize)
 }
 
 impl Streams {
+    /// No stream.
     pub fn new(alloc: Global) -> Streams
         ensures { result ≡ [] }
     {
@@ -69,6 +70,7 @@ impl Streams {
         }
     }
 
+    /// How many were opened.
     pub fn len(&self) -> usize
         ensures { result ≡ length self.now }
     {
@@ -82,6 +84,7 @@ impl Streams {
         self.list[at]
     }
 
+    /// Writes the one at a place.
     pub fn set(&mut self, at: usize, stream: Stream)
         requires { at < length self.old }
         ensures { self.new ≡ slice_set self.old at stream }
@@ -93,6 +96,7 @@ impl Streams {
         self.first_due = self.first_due.min(at);
     }
 
+    /// Adds a stream, or changes nothing.
     pub fn push(&mut self, stream: Stream) -> Result<(), AllocError>
         ensures ok { OnOk result (self.new ≡ self.old ++ stream ∷ []) }
         ensures err { OnErr result (self.new ≡ self.old) }
@@ -101,6 +105,7 @@ impl Streams {
         Ok(())
     }
 
+    /// Forgets all.
     pub fn clear(&mut self)
         ensures { self.new ≡ [] }
     {
@@ -108,6 +113,7 @@ impl Streams {
         self.list.clear();
     }
 
+    /// All, in their order.
     pub fn as_slice(&self) -> &[Stream]
         ensures { result.now ≡ self.now }
     {

@@ -21,6 +21,7 @@ impl Stream {
 }
 
 impl Machine {
+    /// More may be sent on the connection.
     #[tactic(auto, unfolding(crate::specs::Updates::on_connection_update))]
     fn on_connection_update(&mut self, size: u32) -> Result<(), ConnFault>
         requires none { self.old.fault ≡ None }
@@ -36,6 +37,7 @@ impl Machine {
         Ok(())
     }
 
+    /// More may be sent on a stream.
     #[tactic(auto, unfolding(crate::specs::Updates::on_stream_update))]
     fn on_stream_update(&mut self, id: u32, size: u32) -> Result<(), ConnFault>
         requires none { self.old.fault ≡ None }
@@ -65,6 +67,13 @@ impl Machine {
         Ok(())
     }
 
+    /// WINDOW_UPDATE.
+    ///
+    /// ```text
+    /// +-+-------------------------------------------------------------+
+    /// |R|                        increment (31)                       |
+    /// +-+-------------------------------------------------------------+
+    /// ```
     #[tactic(auto, unfolding(crate::specs::Updates::on_window_update))]
     pub fn on_window_update(&mut self, f: &Frame) -> Result<(), ConnFault>
         requires none { self.old.fault ≡ None }
