@@ -1,0 +1,50 @@
+-- Streams in a list, and fronts of lists.
+use Rattle.std.proofs.Common.{◌≡◌, ℕ, ◌<◌, Bool, true, false, cond, zero, suc, List, [], ◌∷◌, ◌++◌, length, get_or, set, refl, sym, ap, ◌∙◌, arith, append_assoc, append-nil, not, ◌&&◌, ◌||◌}
+use Rattle.rx_h2conn.specs.declared.stream.Stream.{Stream}
+use Rattle.rx_h2conn.specs.State.{Extends}
+
+-- what holds at each place, where one of them is written
+pub each_set : (none : Stream) (P : ℕ → Stream → Type 0) (xs : List Stream) (i : ℕ) (t : Stream) → i < length xs → ((k : ℕ) → (k ≡ i → ⊥) → P k (get_or xs k none)) → P i t → (k : ℕ) → P k (get_or (set xs i t) k none)
+each_set none P [] i t small h p k = absurd (omega arith)
+each_set none P (x ∷ xs) zero t small h p zero = p
+each_set none P (x ∷ xs) zero t small h p (suc k) = h (suc k) (λ e. absurd (omega (arith, e)))
+each_set none P (x ∷ xs) (suc i) t small h p zero = h zero (λ e. absurd (omega (arith, e)))
+each_set none P (x ∷ xs) (suc i) t small h p (suc k) = each_set none (λ n. P (suc n)) xs i t (omega arith) (λ n other. h (suc n) (λ e. other (omega (arith, e)))) p k
+
+-- in range the default doesn't count
+pub get_or_within : (a b : Stream) (xs : List Stream) (k : ℕ) → k < length xs → get_or xs k a ≡ get_or xs k b
+get_or_within a b [] k small = absurd (omega arith)
+get_or_within a b (x ∷ xs) zero small = refl
+get_or_within a b (x ∷ xs) (suc k) small = get_or_within a b xs k (omega arith)
+
+pub or_false : (a b : Bool) → (a || b) ≡ false → (a ≡ false) × (b ≡ false)
+or_false true b h = cc
+or_false false true h = cc
+or_false false false h = (refl, refl)
+
+pub and_true : (a b : Bool) → (a && b) ≡ true → (a ≡ true) × (b ≡ true)
+and_true true true h = (refl, refl)
+and_true true false h = cc
+and_true false b h = cc
+
+pub not_true : (a : Bool) → not a ≡ true → a ≡ false
+not_true true h = cc
+not_true false h = refl
+
+pub not_false : (a : Bool) → not a ≡ false → a ≡ true
+not_false true h = refl
+not_false false h = cc
+
+-- what holds of both arms holds of the choice
+pub either : {A : Type 0} (P : A → Type 0) (b : Bool) (x y : A) → (b ≡ true → P x) → (b ≡ false → P y) → P (cond b x y)
+either P true x y p q = p refl
+either P false x y p q = q refl
+
+pub extends_same : {A : Type 0} (a : List A) → Extends a a
+extends_same a = ([], sym (append-nil a))
+
+pub extends_by : {A : Type 0} (a b more : List A) → b ≡ a ++ more → Extends a b
+extends_by a b more e = (more, e)
+
+pub extends_trans : {A : Type 0} (a b c : List A) → Extends a b → Extends b c → Extends a c
+extends_trans {A} a b c p q = (p.0 ++ q.0, q.1 ∙ (ap (λ (x : List A). x ++ q.0) p.1 ∙ append_assoc a p.0 q.0))

@@ -1,0 +1,17 @@
+use Rattle.rx_h2conn.proofs.StartLemmas.{started_cutting, started_output, started_streams, started_bytes, started_window}
+use Rattle.rx_h2conn.proofs.conn.Conn.new.Goals as goal
+
+pub returns-clause-any_cutting : goal.returns-clause-any_cutting
+returns-clause-any_cutting c = started_cutting c.start.result
+
+pub returns-clause-output : goal.returns-clause-output
+returns-clause-output c = started_output c.start.result
+
+pub returns-clause-streams : goal.returns-clause-streams
+returns-clause-streams c = started_streams c.start.result
+
+pub returns-clause-bytes : goal.returns-clause-bytes
+returns-clause-bytes c = started_bytes c.start.result
+
+pub returns-clause-window : goal.returns-clause-window
+returns-clause-window c = started_window c.start.result
