@@ -10,7 +10,7 @@ use Rattle.rx_world.specs.declared.sources.SourceEntry.{SourceEntry}
 use Rattle.rx_world.specs.Sources.{Adds, given_look, is_file}
 use Rattle.rx_digest_cache.specs.declared.cache_fault.CacheFault.{CacheFault}
 use Rattle.rx_digest_cache.specs.declared.cache_fault.CacheFault.TheVariants.{NoMemory, NotFile, SourceFault}
-use Rattle.rx_digest_cache.specs.Answers.{Gives, HasContent, IsAnswerOf}
+use Rattle.rx_world.specs.Answers.{Gives, HasContent, IsAnswerOf}
 use Rattle.rx_digest_cache.specs.Cache.{IsFound, IsRead, Refuses, RefusesRead}
 
 adds-join : (a b c : Option (List Given)) (xs ys : List Given) → Adds a b xs → Adds b c ys → Adds a c (xs ++ ys)

@@ -6,7 +6,7 @@ ghost use Rattle.rx_world.specs.declared.sources.Given.{Given};
 ghost use Rattle.rx_world.specs.Causes.{HasCauseOf};
 ghost use Rattle.rx_world.specs.Sources.{given_bytes, given_look, is_file};
 ghost use Rattle.rx_digest_cache.specs.declared.cache_fault.CacheFault.TheVariants.{SourceFault as source_fault};
-ghost use Rattle.rx_digest_cache.specs.Answers.{Gives};
+ghost use Rattle.rx_world.specs.Answers.{Gives};
 ghost use Rattle.rx_digest_cache.specs.Cache.{HasDigest, IsFound, IsRead, Refuses, RefusesRead};
 ghost use Rattle.rx_digest_cache.specs.Kept.{IsTied};
 
