@@ -11,6 +11,7 @@ export LC_ALL=C
 
 top=$(cd "$(dirname "$0")/.." && pwd)
 compiler=${1:-g++}
+rt=${RT:-$(command -v rt || echo /opt/rattle/bin/rt)}
 
 work=$(mktemp -d /tmp/directives-bench.XXXXXX)
 trap 'rm -rf "$work"' EXIT
@@ -19,4 +20,6 @@ trap 'rm -rf "$work"' EXIT
     sed -n '/^#include <\.\.\.>/,/^End of search list/s/^ \(.*\/c++\/.*\)$/\1/p' |
     while read -r folder; do find "$folder" -type f; done | sort -u > "$work/files"
 
-bash "$top/bench/run" directives rx_lex < "$work/files" | grep 'MB/s'
+cd "$top/crates/lex_bench"
+"$rt" run < "$work/files" > "$work/log" 2>&1 || { tail -n 20 "$work/log" >&2; exit 1; }
+grep 'MB/s' "$work/log"

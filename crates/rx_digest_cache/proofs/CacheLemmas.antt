@@ -1,36 +1,17 @@
 -- A look, and the read that may follow it.
-use Rattle.std.proofs.Common.{◌≡◌, ℕ, true, List, [], ◌∷◌, ◌++◌, refl, ap, ◌∙◌, append_assoc, subst, inr}
-use Rattle.std.proofs.lemmas.List.Elements.{All-append}
-use Rattle.std.specs.Prelude.{Option, None, Some, Result, Ok, Err, All, IfSome, MatchResult}
+use Rattle.std.proofs.Common.{◌≡◌, ℕ, true, List, [], ◌∷◌, refl, ap, inr}
+use Rattle.std.specs.Prelude.{Option, Result, Ok, Err, MatchResult}
 use Rattle.rx_base.specs.declared.digests.Digest.{Digest}
 use Rattle.rx_world.specs.declared.looks.Look.{Look}
 use Rattle.rx_world.specs.declared.looks.Stamp.{Stamp}
 use Rattle.rx_world.specs.declared.sources.Given.{Given}
 use Rattle.rx_world.specs.declared.sources.SourceEntry.{SourceEntry}
-use Rattle.rx_world.specs.Sources.{Adds, given_look, is_file}
+use Rattle.rx_world.specs.Sources.{given_look, is_file}
 use Rattle.rx_digest_cache.specs.declared.cache_fault.CacheFault.{CacheFault}
 use Rattle.rx_digest_cache.specs.declared.cache_fault.CacheFault.TheVariants.{NoMemory, NotFile, SourceFault}
-use Rattle.rx_world.specs.Answers.{Gives, HasContent, IsAnswerOf}
+use Rattle.rx_world.specs.Answers.{Gives}
+use Rattle.rx_world.proofs.AnswerLemmas.{gives-join}
 use Rattle.rx_digest_cache.specs.Cache.{IsFound, IsRead, Refuses, RefusesRead}
-
-adds-join : (a b c : Option (List Given)) (xs ys : List Given) → Adds a b xs → Adds b c ys → Adds a c (xs ++ ys)
-adds-join None b c xs ys h k = tt
-adds-join (Some told) None c xs ys h k = absurd h
-adds-join (Some told) (Some bs) None xs ys h k = absurd k
-adds-join (Some told) (Some bs) (Some cs) xs ys h k = k ∙ ap (λ s. s ++ ys) h ∙ append_assoc told xs ys
-
-list-join : (o : Option (List SourceEntry)) (xs ys : List Given) → IfSome o (λ es. All (IsAnswerOf es) xs) → IfSome o (λ es. All (IsAnswerOf es) ys) → IfSome o (λ es. All (IsAnswerOf es) (xs ++ ys))
-list-join None xs ys h k = tt
-list-join (Some es) xs ys h k = All-append (IsAnswerOf es) xs ys h k
-
--- answers, and then more of them
-gives-join : {T : Type 0} (listed : T → Option (List SourceEntry)) (keeps : T → Type 0) (given : T → Option (List Given)) (content : List ℕ → Stamp → List ℕ) (honest : Type 0) (a b c : T) (xs ys : List Given) → Gives listed keeps given content honest a b xs → Gives listed keeps given content honest b c ys → Gives listed keeps given content honest a c (xs ++ ys)
-gives-join listed keeps given content honest a b c xs ys g h = record {
-  told = adds-join (given a) (given b) (given c) xs ys g.told h.told;
-  kept = λ k. let first = g.kept k in let second = h.kept first.0 in (second.0, second.1 ∙ first.1);
-  by_list = λ k. let first = g.kept k in list-join (listed a) xs ys (g.by_list k) (subst (λ o. IfSome o (λ es. All (IsAnswerOf es) ys)) first.1 (h.by_list first.0));
-  contents = λ e. All-append (HasContent content) xs ys (g.contents e) (h.contents e);
-}
 
 -- what a read answers is what was found, and its refusals are refusals, after a look at a file
 followed : (path : List ℕ) (first : Look) (others : List Given) (result : Result (Look × Digest) CacheFault) → is_file first ≡ true
