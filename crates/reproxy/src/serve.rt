@@ -3,8 +3,7 @@
 use crate::host::{
     HostBenches, HostDesk, HostFront, HostPlace, HostSink, HostSource, HostSources, HostWorld,
 };
-use crate::words::root_of;
-use rx_engine::run_proxy;
+use rx_engine::{root_in, run_proxy};
 use std::alloc::AllocError;
 use std::io::{Print, Read};
 use std::process;
@@ -24,7 +23,7 @@ pub(crate) fn serve<I: Read + Send + Drop, O: Print + Send + Drop>(
 ) -> Result<u8, AllocError> {
     let alloc = rt.alloc();
     let process = process::id(rt.process());
-    let root = root_of(words);
+    let root = root_in(words);
     let desk = match root {
         Some(root) => Some(HostDesk {
             input: HostSource::new(input),

@@ -22,7 +22,7 @@ use std::alloc::{AllocError, Global};
 
 /// A reply with its frame, and what it stands on.
 #[derive(Drop)]
-pub struct Answered {
+pub(crate) struct Answered {
     pub reply: Reply,
     pub frame: Vec<u8>,
     pub receipt: Option<Receipt>,
@@ -43,14 +43,14 @@ fn plain(alloc: Global, reply: Reply) -> Result<Answered, NoMemory>
 }
 
 /// The answer to bytes that are no request.
-pub fn refuse(alloc: Global, bad: Bad) -> Result<Answered, NoMemory>
+pub(crate) fn refuse(alloc: Global, bad: Bad) -> Result<Answered, NoMemory>
     ensures { IfOk result (IsPlain (bad_request bad)) }
 {
     plain(alloc, Reply::BadRequest { bad })
 }
 
 /// The answer where memory ran out.
-pub fn give_up(alloc: Global) -> Result<Answered, NoMemory>
+pub(crate) fn give_up(alloc: Global) -> Result<Answered, NoMemory>
     ensures { IfOk result (IsPlain reply_no_memory) }
 {
     plain(alloc, Reply::NoMemory)
@@ -209,7 +209,7 @@ fn run_and_publish<W: World, M: BenchMaker<W>, P: Place>(
 }
 
 /// Answers a request.
-pub fn answer<W: World, S: Sources<W>, M: BenchMaker<W>, P: Place>(
+pub(crate) fn answer<W: World, S: Sources<W>, M: BenchMaker<W>, P: Place>(
     alloc: Global,
     session: u32,
     request: &Request,

@@ -34,7 +34,7 @@ pub struct Shared<P: Place> {
 
 /// The request, and the answer to it. Without an answer, memory ran out even for that.
 #[derive(Drop)]
-pub struct Ready {
+pub(crate) struct Ready {
     pub request: Option<Request>,
     pub answered: Option<Answered>,
 }
