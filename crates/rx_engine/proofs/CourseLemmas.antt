@@ -10,7 +10,7 @@ use Rattle.rx_engine.specs.declared.desk.Parts.{Parts}
 use Rattle.rx_engine.specs.declared.transcripts.Ending.{Ending}
 use Rattle.rx_engine.specs.declared.transcripts.Ending.TheVariants.{NoMemory, Replied, SinkLost, SourceLost}
 use Rattle.rx_engine.specs.declared.transcripts.Transcript.{Transcript}
-use Rattle.rx_engine.specs.Inputs.{Gives}
+use Rattle.rx_world.specs.Answers.{Gives}
 use Rattle.rx_engine.specs.Meanings.{Meanings}
 use Rattle.rx_engine.specs.Ready.{FinishesAs, IsLost, IsReadyAs, IsWriting, Wrote}
 use Rattle.rx_engine.specs.Session.{AreLater, Grounds, IsCourse, IsSession, Replies}

@@ -14,7 +14,8 @@ use Rattle.rx_world.specs.Sources.{Adds, given_bytes, given_look}
 use Rattle.rx_engine.specs.declared.inputs.FileLook.{FileLook}
 use Rattle.rx_engine.specs.declared.inputs.InputFault.{InputFault}
 use Rattle.rx_engine.specs.declared.inputs.InputFault.TheVariants.{Blocked, InputChanged, InputMissing, NoMemory, SourceFault}
-use Rattle.rx_engine.specs.Inputs.{Gives, HasContent, IsAnswerOf, Refuses, RefusesLook, RefusesLooks, RefusesRead, RefusesReads, RefusesWay, IsGathered, blocked, change_above, file_look, looks_at, reads_of, upper_among}
+use Rattle.rx_engine.specs.Inputs.{Refuses, RefusesLook, RefusesLooks, RefusesRead, RefusesReads, RefusesWay, IsGathered, blocked, change_above, file_look, looks_at, reads_of, upper_among}
+use Rattle.rx_world.specs.Answers.{Gives, HasContent, IsAnswerOf}
 
 adds-join : (a b c : Option (List Given)) (xs ys : List Given) → Adds a b xs → Adds b c ys → Adds a c (xs ++ ys)
 adds-join None b c xs ys h k = tt

@@ -18,7 +18,8 @@ use Rattle.rx_world.specs.declared.sources.Given.{Given}
 use Rattle.rx_world.specs.declared.sources.SourceEntry.{SourceEntry}
 use Rattle.rx_world.specs.Sources.{entry_at, given_bytes, given_look, is_file}
 use Rattle.rx_engine.specs.declared.inputs.FileLook.{FileLook}
-use Rattle.rx_engine.specs.Inputs.{IsAboveOne, IsAnswerOf, IsGathered, IsMissing, IsReadAnew, above_among, file_look, looks_at, reads_of, upper_among}
+use Rattle.rx_engine.specs.Inputs.{IsAboveOne, IsGathered, IsMissing, IsReadAnew, above_among, file_look, looks_at, reads_of, upper_among}
+use Rattle.rx_world.specs.Answers.{IsAnswerOf}
 use Rattle.rx_local.specs.Local.{LacksOutput}
 use Rattle.rx_board.specs.declared.journal.Entry.{Entry}
 use Rattle.rx_session.specs.declared.replies.Reply.{Reply}

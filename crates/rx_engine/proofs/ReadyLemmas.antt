@@ -25,7 +25,7 @@ use Rattle.rx_engine.specs.declared.answers.Answered.{Answered}
 use Rattle.rx_engine.specs.declared.sessions.Ready.{Ready}
 use Rattle.rx_engine.specs.Answered.{IsPlain, bad_request, reply_no_memory}
 use Rattle.rx_engine.specs.Answers.{Answers}
-use Rattle.rx_engine.specs.Inputs.{Gives}
+use Rattle.rx_world.specs.Answers.{Gives}
 use Rattle.rx_engine.specs.Ready.{EntersAs, EntersReady, IsOrGivenUp, IsReady, IsReadyAs, IsRefusalOf}
 use Rattle.rx_engine.specs.Session.{Grounds, IsAsked, Replies}
 use Rattle.rx_engine.proofs.AnswerLemmas.{enters-nothing}

@@ -19,7 +19,7 @@ use Rattle.rx_engine.specs.declared.transcripts.Ending.{Ending}
 use Rattle.rx_engine.specs.declared.transcripts.Ending.TheVariants.{NoMemory, Replied, SinkLost, SourceLost}
 use Rattle.rx_engine.specs.declared.transcripts.Transcript.{Transcript}
 use Rattle.rx_engine.specs.Answers.{Answers}
-use Rattle.rx_engine.specs.Inputs.{Gives}
+use Rattle.rx_world.specs.Answers.{Gives}
 use Rattle.rx_engine.specs.Meanings.{Meanings}
 
 -- what a reply stands on: the world's tool, the served root, the input when the session ended, the tree's answers, and the counts of

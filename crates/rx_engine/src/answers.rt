@@ -6,7 +6,7 @@ ghost use Rattle.rx_session.specs.Jobs.{command_of, declared_of};
 ghost use Rattle.rx_session.specs.Replies.{frame_of};
 ghost use Rattle.rx_world.specs.declared.sources.Given.{Given};
 ghost use Rattle.rx_engine.specs.Answers.{Answers, RunsOn, done_end};
-ghost use Rattle.rx_engine.specs.Inputs.{Gives};
+ghost use Rattle.rx_world.specs.Answers.{Gives};
 ghost use Rattle.rx_engine.specs.Journal.{Enters};
 
 use crate::inputs::{InputFault, gather_inputs};

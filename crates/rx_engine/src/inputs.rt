@@ -3,7 +3,8 @@
 ghost use Rattle.std.specs.Prelude.{◌≡◌, ◌≤◌, ◌||◌, [], ◌∷◌, ◌++◌, Contains, IfErr, IfOk, List, MatchResult, None, OnOk, find, length, map, option_copied};
 ghost use Rattle.rx_world.specs.Causes.{Rose};
 ghost use Rattle.rx_world.specs.Sources.{given_bytes, given_look};
-ghost use Rattle.rx_engine.specs.Inputs.{Gives, IsGathered, Refuses, above_among, blocked, file_look, looks_at, reads_of, upper_among, RefusesLook, RefusesLooks, RefusesRead, RefusesReads, RefusesWay, change_above};
+ghost use Rattle.rx_engine.specs.Inputs.{IsGathered, Refuses, above_among, blocked, file_look, looks_at, reads_of, upper_among, RefusesLook, RefusesLooks, RefusesRead, RefusesReads, RefusesWay, change_above};
+ghost use Rattle.rx_world.specs.Answers.{Gives};
 ghost use Rattle.rx_world.specs.declared.sources.Given.{Given};
 ghost use Rattle.rx_base.specs.Paths.{is_below};
 ghost use Rattle.rx_base.specs.SortedPaths.{AreSorted};

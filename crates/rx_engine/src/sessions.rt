@@ -8,7 +8,7 @@ ghost use Rattle.std.specs.Io.KnownBytes.{Appends};
 ghost use Rattle.rx_world.specs.declared.sources.Given.{Given};
 ghost use Rattle.rx_world.specs.Causes.{Rose};
 ghost use Rattle.rx_engine.specs.Answered.{IsPlain, reply_no_memory};
-ghost use Rattle.rx_engine.specs.Inputs.{Gives};
+ghost use Rattle.rx_world.specs.Answers.{Gives};
 ghost use Rattle.rx_engine.specs.Journal.{IsJournalled};
 ghost use Rattle.rx_session.specs.declared.requests.Request.{Request};
 ghost use Rattle.rx_engine.specs.Quiet.{HasRoom, IsDoneOr, IsQuiet};

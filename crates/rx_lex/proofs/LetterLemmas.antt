@@ -133,7 +133,7 @@ without_of test text at n le none = record {
   none = λ k above below e. none (k - at) (omega arith) (omega arith) (passes_at test text at k above e);
 }
 
-range_all : (text : List ℕ) (at : ℕ) → take (length text - at) (drop at text) ≡ drop at text
+pub range_all : (text : List ℕ) (at : ℕ) → take (length text - at) (drop at text) ≡ drop at text
 range_all text at = take_all (length text - at) (drop at text) (omega (arith, length-drop at text))
 
 pub without_found : (test : ℕ → Bool) (text : List ℕ) (at n : ℕ) → at ≤ length text

@@ -10,3 +10,6 @@ pub mod PlacedLemmas
 pub mod WalkLemmas
 pub mod AnywhereLemmas
 pub mod AngledLemmas
+pub mod DullLemmas
+pub mod RunLemmas
+pub mod QuietLemmas

@@ -9,3 +9,4 @@ pub mod Cut
 pub mod Step
 pub mod Anywhere
 pub mod Angled
+pub mod Quiet

@@ -8,6 +8,7 @@ mod ends;
 mod found;
 mod letters;
 mod line;
+mod quiet;
 mod raw;
 mod read;
 mod step;

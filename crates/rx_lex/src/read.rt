@@ -8,6 +8,7 @@ use crate::anywhere::is_hard_anywhere;
 use crate::found::{Directives, Include, NoMemory};
 use crate::letters::{letter, text_start};
 use crate::line::start;
+use crate::quiet::{nothing_ahead, skip_lines};
 use crate::step::read_piece;
 use std::alloc::Global;
 
@@ -39,12 +40,15 @@ pub fn directives(alloc: Global, text: &[u8]) -> Result<Directives, NoMemory>
     let mut line = start();
     let mut at = from;
     let mut barren = from;
+    let mut ahead = nothing_ahead();
     while let Some((first, next)) = letter(text, at) {
         let piece = read_piece(alloc, text, line, first, next, barren)?;
         hard |= piece.hard;
         raw |= piece.raw;
-        line = piece.line;
-        at = piece.end;
+        let (place, seen) = skip_lines(text, piece.line, piece.end, ahead);
+        line = place.line;
+        at = place.at;
+        ahead = seen;
         barren = piece.barren;
         keep(&mut list, piece.name)?;
     }

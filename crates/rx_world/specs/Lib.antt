@@ -1,3 +1,4 @@
+pub mod Answers
 pub mod Benches
 pub mod Causes
 pub mod Files

@@ -1,5 +1,6 @@
 use Rattle.std.proofs.Common.{◌≡◌, ◌≤◌, length, take}
-use Rattle.rx_engine.specs.Inputs.{Gives, looks_at}
+use Rattle.rx_engine.specs.Inputs.{looks_at}
+use Rattle.rx_world.specs.Answers.{Gives}
 use Rattle.rx_engine.proofs.inputs.look_all.Given as goal
 
 abbrev pub invariant-loop-path : goal.invariant-loop-path

@@ -1,5 +1,6 @@
 use Rattle.std.proofs.Common.{◌≡◌, ◌≤◌, map, take}
-use Rattle.rx_engine.specs.Inputs.{Gives, reads_of}
+use Rattle.rx_engine.specs.Inputs.{reads_of}
+use Rattle.rx_world.specs.Answers.{Gives}
 use Rattle.rx_engine.proofs.inputs.read_all.Given as goal
 
 abbrev pub invariant-loop-at : goal.invariant-loop-at
