@@ -7,7 +7,7 @@ ghost use Rattle.rx_session.specs.Replies.{frame_of};
 ghost use Rattle.rx_world.specs.declared.sources.Given.{Given};
 ghost use Rattle.rx_engine.specs.Answers.{Answers, RunsOn, done_end};
 ghost use Rattle.rx_world.specs.Answers.{Gives};
-ghost use Rattle.rx_engine.specs.Journal.{Enters};
+ghost use Rattle.rx_engine.specs.Journal.{Enters, IsBoardAfter};
 
 use crate::inputs::{InputFault, gather_inputs};
 use rx_base::{Items, NoMemory, RelPath, TryClone};
@@ -131,9 +131,7 @@ fn publish<P: Place>(
     ensures ok { IfOk result (IsPublication outcome) }
     ensures journal { IfOk result (λ a. Enters board.old.limit board.old.journal board.new.journal (P.faults board.old.place) (P.faults board.new.place) session a.receipt a.ends (Some a.reply)) }
     ensures err { OnErr result (board.new.journal ≡ board.old.journal) }
-    ensures limit { board.new.limit ≡ board.old.limit }
-    ensures opening { P.opening board.new.place ≡ P.opening board.old.place }
-    ensures later { P.faults board.old.place ≤ P.faults board.new.place }
+    ensures board { IsBoardAfter P.faults P.opening board.old board.new }
 {
     let ends = local_end(alloc, &outcome)?;
     let room = Room::new(alloc)?;
@@ -195,9 +193,7 @@ fn run_and_publish<W: World, M: BenchMaker<W>, P: Place>(
     ensures frame { IfOk result (λ a. a.frame.items ≡ frame_of a.reply) }
     ensures journal { IfOk result (λ a. Enters board.old.limit board.old.journal board.new.journal (P.faults board.old.place) (P.faults board.new.place) session a.receipt a.ends (Some a.reply)) }
     ensures err { OnErr result (board.new.journal ≡ board.old.journal) }
-    ensures limit { board.new.limit ≡ board.old.limit }
-    ensures opening { P.opening board.new.place ≡ P.opening board.old.place }
-    ensures later { P.faults board.old.place ≤ P.faults board.new.place }
+    ensures board { IsBoardAfter P.faults P.opening board.old board.new }
     ensures benches { M.faults benches.old ≤ M.faults benches.new }
 {
     let directories = directories_of(alloc, command)?;
@@ -222,9 +218,7 @@ pub(crate) fn answer<W: World, S: Sources<W>, M: BenchMaker<W>, P: Place>(
     ensures frame { IfOk result (λ a. a.frame.items ≡ frame_of a.reply) }
     ensures journal { IfOk result (λ a. Enters board.old.limit board.old.journal board.new.journal (P.faults board.old.place) (P.faults board.new.place) session a.receipt a.ends (Some a.reply)) }
     ensures err { OnErr result (board.new.journal ≡ board.old.journal) }
-    ensures limit { board.new.limit ≡ board.old.limit }
-    ensures opening { P.opening board.new.place ≡ P.opening board.old.place }
-    ensures later { P.faults board.old.place ≤ P.faults board.new.place }
+    ensures board { IsBoardAfter P.faults P.opening board.old board.new }
     ensures tree { S.faults tree.old ≤ S.faults tree.new }
     ensures benches { M.faults benches.old ≤ M.faults benches.new }
 {

@@ -9,7 +9,7 @@ use crate::{
 };
 use rx_base::{Bytes, RelPath, Text};
 use rx_board::Board;
-use rx_engine::{Ran, Shared, run_proxy, serve_session};
+use rx_engine::{Parts, Ran, Shared, run_proxy, serve_session};
 use rx_world::Toy;
 use std::alloc::{AllocError, Global};
 use std::marker::Brand;
@@ -180,7 +180,7 @@ fn tree(alloc: Global, input: Input, script: Script) -> Result<MemorySources<Bra
 
 fn desk(alloc: Global, row: &Row) -> Result<MemoryDesk<Brand>, Fail> {
     let (sources, bench, _) = row.fails;
-    Ok(MemoryDesk {
+    Ok(Parts {
         input: MemorySource::new(row.read.to_vec(alloc)?, Script::empty(alloc)),
         output: MemorySink::new(alloc, Script::empty(alloc)),
         tree: tree(alloc, row.input, failing(alloc, sources)?)?,
