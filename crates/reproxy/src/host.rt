@@ -16,7 +16,7 @@ mod streams;
 mod world;
 
 pub(crate) use benches::HostBenches;
-pub(crate) use desk::{HostDesk, HostFront};
+pub(crate) use desk::HostFront;
 pub(crate) use files::HostSources;
 pub(crate) use place::HostPlace;
 pub(crate) use streams::{HostSink, HostSource};

@@ -1,10 +1,9 @@
 //! One run of the proxy over the machine.
 
 use crate::host::{
-    HostBenches, HostDesk, HostFront, HostPlace, HostSink, HostSource, HostSources, HostWorld,
+    HostBenches, HostFront, HostPlace, HostSink, HostSource, HostSources, HostWorld,
 };
-use crate::words::root_of;
-use rx_engine::run_proxy;
+use rx_engine::{Parts, root_in, run_proxy};
 use std::alloc::AllocError;
 use std::io::{Print, Read};
 use std::process;
@@ -24,9 +23,9 @@ pub(crate) fn serve<I: Read + Send + Drop, O: Print + Send + Drop>(
 ) -> Result<u8, AllocError> {
     let alloc = rt.alloc();
     let process = process::id(rt.process());
-    let root = root_of(words);
+    let root = root_in(words);
     let desk = match root {
-        Some(root) => Some(HostDesk {
+        Some(root) => Some(Parts {
             input: HostSource::new(input),
             output: HostSink::new(output),
             tree: HostSources::new(rt, String::from_str(alloc, root)?),

@@ -13,13 +13,3 @@ pub(crate) fn is_help(words: &[String]) -> bool {
         _ => false,
     }
 }
-
-/// The root in the words `exec --root PATH`. Words that name none are refused by the run.
-pub(crate) fn root_of(words: &[String]) -> Option<&str> {
-    match words {
-        [command, option, path]
-            if command.as_str() == "exec" && option.as_str() == "--root" && path.starts_with('/') =>
-            { Some(path.as_str()) }
-        _ => None,
-    }
-}

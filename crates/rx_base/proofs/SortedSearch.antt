@@ -7,6 +7,7 @@ use Rattle.std.proofs.lemmas.Option.{none-some}
 use Rattle.std.proofs.Math.Bool.{or-false, or-true}
 use Rattle.std.proofs.Math.Seq.{drop-cons, take-append_seam, take-length}
 use Rattle.std.proofs.lemmas.Cmp.{nat_list_cmp_total, tied_itself}
+use Rattle.std.proofs.lemmas.List.Folds.{list_any_at, list_any_none}
 use Rattle.std.proofs.lemmas.List.Quantifiers.{position-Some}
 use Rattle.std.proofs.lemmas.List.Sorted.{searchable_from_sorted}
 use Rattle.std.proofs.lemmas.List.Sums.{prefix_len_is, prefix_len_passes}
@@ -16,7 +17,8 @@ use Rattle.std.proofs.lemmas.Slice.Eq.{bytes_eq-Decides}
 use Rattle.std.specs.declared.cmp.Ordering.{Ordering}
 use Rattle.std.specs.declared.cmp.Ordering.TheVariants.{Less, Equal, Greater}
 use Rattle.std.specs.Cmp.Lexicographic.{slice_cmp}
-use Rattle.std.specs.List.{position_or_len}
+use Rattle.std.specs.List.{list_any, position_or_len}
+use Rattle.std.specs.Option.{is_some}
 use Rattle.std.specs.List.Sorted.{IsBinarySearchResult, IsNonDecreasingBy, IsPartitionPoint, IsPartitionedBy, IsSearchInRange}
 use Rattle.std.specs.Ordering.{is_eq, is_lt, nat_cmp, ordering_index}
 use Rattle.std.specs.Result.{result_ok}
@@ -30,9 +32,6 @@ use Rattle.rx_base.proofs.FrontOrder.{between, front_less, less_not_equal, not_b
 bool_cases : (b : Bool) → (b ≡ true) ⊎ (b ≡ false)
 bool_cases true = inl refl
 bool_cases false = inr refl
-
-ltb_cases : (k i : ℕ) → (k < i) ⊎ (i ≤ k)
-ltb_cases k i = elim (cases_lt k i) [ inl lt ↦ inl lt | inr ge ↦ inr (omega arith) ]
 
 not_true : (b : Bool) → not b ≡ true → b ≡ false
 not_true true h = absurd (true≢false (sym h))
@@ -54,20 +53,28 @@ position_none p xs none =
     rw (is, test) refl
 
 -- where no place is found, the test passes at none
-position_none_at : (p : List ℕ → Bool) (xs : List (List ℕ)) (k : ℕ) → k < length xs → position p xs ≡ None → p (get_or xs k []) ≡ false
-position_none_at p xs k lt e =
-    elim (nat_lt (position_or_len p xs) (length xs)) as (λ b. nat_lt (position_or_len p xs) (length xs) ≡ b → p (get_or xs k []) ≡ false) [
+position_none_at : (p : List ℕ → Bool) (xs : List (List ℕ)) (k : ℕ) (d : List ℕ) → k < length xs → position p xs ≡ None → p (get_or xs k d) ≡ false
+position_none_at p xs k d lt e =
+    elim (nat_lt (position_or_len p xs) (length xs)) as (λ b. nat_lt (position_or_len p xs) (length xs) ≡ b → p (get_or xs k d) ≡ false) [
       | true ↦ λ t. absurd (none-some (position_or_len p xs) (sym (rw t at e)))
       | false ↦ λ t.
           let all : length xs ≤ position_or_len p xs = grind (arith, nat_tests) in
-          not_true (p (get_or xs k [])) (prefix_len_passes (λ x. not (p x)) xs k [] (omega arith))
+          not_true (p (get_or xs k d)) (prefix_len_passes (λ x. not (p x)) xs k d (omega arith))
+    ] refl
+
+-- a place is found just where the test passes at some
+pub position_is_any : (p : List ℕ → Bool) (xs : List (List ℕ)) → is_some (position p xs) ≡ list_any p xs
+position_is_any p xs =
+    elim (position p xs) as (λ o. position p xs ≡ o → is_some o ≡ list_any p xs) [
+      | None ↦ λ e. sym (list_any_none p xs (λ k d lt. position_none_at p xs k d lt e))
+      | Some i ↦ λ e. let h = position-Some p xs i [] e in sym (list_any_at p xs i [] h.0 h.1)
     ] refl
 
 -- what passes at no earlier place and at this one under another test
 position_other : (p q : List ℕ → Bool) (xs : List (List ℕ)) → ((k : ℕ) → k < length xs → p (get_or xs k []) ≡ q (get_or xs k [])) → position p xs ≡ position q xs
 position_other p q xs same =
     elim (position q xs) as (λ o. position q xs ≡ o → position p xs ≡ o) [
-      | None ↦ λ e. position_none p xs (λ k lt. same k lt ∙ position_none_at q xs k lt e)
+      | None ↦ λ e. position_none p xs (λ k lt. same k lt ∙ position_none_at q xs k [] lt e)
       | Some i ↦ λ e.
           let h = position-Some q xs i [] e in
           position_at p xs i h.0 (same i h.0 ∙ h.1) (λ k lt. same k (omega (arith, lt, h.0)) ∙ h.2 k lt)
@@ -118,7 +125,7 @@ is_lt-Less Greater h = absurd (true≢false (sym h))
 front_order : (path low high : List ℕ) (at k : ℕ) → slice_cmp nat_cmp high low ≡ Less → at ≤ k → k ≤ length path → high ≡ take k path → low ≡ take at path → ⊥
 front_order path low high at k lt le within is_high is_low =
     let order : slice_cmp nat_cmp (take k path) (take at path) ≡ Less = rw (← is_high, ← is_low) lt in
-    elim (ltb_cases at k) [
+    elim (cases_lt at k) [
       | inl below ↦ not_both (take k path) (take at path) order (front_less path at k below within)
       | inr above ↦ not_self (take at path) (subst (λ n. slice_cmp nat_cmp (take n path) (take at path) ≡ Less) {x = k} {y = at} (omega arith) order)
     ]
@@ -139,7 +146,7 @@ NoUpper-start paths path = record { none = λ k lt upper. absurd (omega arith) }
 pub NoUpper-more : (paths : List (List ℕ)) (path : List ℕ) (at : ℕ) → NoUpper paths path at → ((at ≡ 0) ⊎ (slice_index path at ≡ 47) → position (λ other. bytes_eq (take at path) other) paths ≡ None) → NoUpper paths path (at + 1)
 NoUpper-more paths path at h here = record {
   none = λ k lt upper.
-      elim (ltb_cases k at) [
+      elim (cases_lt k at) [
         | inl below ↦ h.none k below upper
         | inr above ↦
             let is : at ≡ k = omega arith in
@@ -176,7 +183,7 @@ module _ (paths : List (List ℕ)) (s : AreSorted paths) where
         | inr differs ↦ differs
         | inl ties ↦
             let equal : slice_cmp nat_cmp (get_or paths k []) text ≡ Equal = subst (λ t. slice_cmp nat_cmp t text ≡ Equal) ((bytes_eq-Decides _ _).0 ties) (tied_itself nat_list_cmp_total text) in
-            elim (ltb_cases k i) [
+            elim (cases_lt k i) [
               | inl below ↦ absurd (less_not_equal (sym (parts.0 k [] (omega arith) below) ∙ equal))
               | inr above ↦ absurd (greater_not_equal (sym (parts.1 k [] above lt) ∙ equal))
             ]
@@ -189,10 +196,10 @@ module _ (paths : List (List ℕ)) (s : AreSorted paths) where
       → (k : ℕ) × (at ≤ k) × (k < length path) × (get_or paths j [] ≡ take k path)
   later path at j h within above =
       let f = front_of path (get_or paths j []) above in
-      elim (ltb_cases (length (get_or paths j [])) at) [
+      elim (cases_lt (length (get_or paths j [])) at) [
         | inr le ↦ (length (get_or paths j []), le, f.short, f.is)
         | inl lt ↦
-            let none = position_none_at (λ other. bytes_eq (take (length (get_or paths j [])) path) other) paths j within (h.none (length (get_or paths j [])) lt f.upper) in
+            let none = position_none_at (λ other. bytes_eq (take (length (get_or paths j [])) path) other) paths j [] within (h.none (length (get_or paths j [])) lt f.upper) in
             absurd (true≢false (sym ((bytes_eq-Decides _ _).1 (sym f.is)) ∙ none))
       ]
 
@@ -233,14 +240,14 @@ module _ (paths : List (List ℕ)) (s : AreSorted paths) where
   pub at_first : (path : List ℕ) → first_above paths path ≡ None → position (λ other. bytes_eq path other) paths ≡ first_at_or_above paths path
   at_first path e =
       position_other (λ other. bytes_eq path other) (λ other. bytes_eq path other || is_below path other) paths
-      (λ k lt. rw (position_none_at (λ other. is_below path other) paths k lt e) (sym (or-false (bytes_eq path (get_or paths k [])))))
+      (λ k lt. rw (position_none_at (λ other. is_below path other) paths k [] lt e) (sym (or-false (bytes_eq path (get_or paths k [])))))
 
   -- ---- the paths below a path
 
   -- those before all that begin with a path and a slash come first
   pub before_first : (path : List ℕ) → IsPartitionedBy (λ other. is_before other path) paths
   before_first path i j d le lt before =
-      elim (ltb_cases i j) [
+      elim (cases_lt i j) [
         | inr same ↦ subst (λ n. is_before (get_or paths n d) path ≡ true) {x = j} {y = i} (omega arith) before
         | inl below ↦
             ap is_lt (nat_list_cmp_total.trans (get_or paths i d) (get_or paths j d) (path ++ 47 ∷ []) (Less-from_sorted (slice_cmp nat_cmp) paths i j d s below lt) (is_lt-Less _ before))
@@ -265,11 +272,11 @@ module _ (paths : List (List ℕ)) (s : AreSorted paths) where
 
     -- where the first that could begin so doesn't, none does
     pub below_none : (at < length paths → is_below (get_or paths at []) path ≡ false) → first_below paths path ≡ None
-    below_none differs = position_none (λ other. is_below other path) paths (λ k lt. elim (ltb_cases k at) [
+    below_none differs = position_none (λ other. is_below other path) paths (λ k lt. elim (cases_lt k at) [
       | inl early ↦ not_earlier k early
       | inr from ↦ elim (bool_cases (is_below (get_or paths k []) path)) [
         | inr none ↦ none
-        | inl below ↦ elim (ltb_cases at k) [
+        | inl below ↦ elim (cases_lt at k) [
           | inr same ↦ absurd (true≢false (sym below ∙ subst (λ n. is_below (get_or paths n []) path ≡ false) {x = at} {y = k} (omega arith) (differs (omega arith))))
           | inl after ↦
               let rest = drop (length (path ++ 47 ∷ [])) (get_or paths k []) in

@@ -1,3 +1,2 @@
 mod LastPlaced
 mod OnePublication
-mod PlacedBy

@@ -13,7 +13,7 @@ use Rattle.rx_board.specs.declared.journal.Entry.{Entry}
 use Rattle.rx_board.specs.Board.{IsKept}
 use Rattle.rx_board.specs.Journal.{AreNumberedFrom, IsKeptBy, count_short, journal_leaves, placed_files}
 use Rattle.rx_board.specs.Placing.{PlacesAll}
-use Rattle.rx_board.proofs.PlacedBy.{all_placed_by-append, map-all_placed_by}
+use Rattle.rx_world.proofs.PlacedBy.{all_placed_by-append, map-all_placed_by}
 
 -- one file more
 pub places_all-more : (old mid new : Option (List FileOut)) (files : List FileOut) (file : FileOut) → PlacesAll old mid files → Places mid new file.path file.bytes file.executable → PlacesAll old new (files ++ file ∷ [])

@@ -1,12 +1,15 @@
 -- From the steps of an answer to the whole of it.
-use Rattle.std.proofs.Common.{false, true, ◌≡◌, ℕ, List, refl}
+use Rattle.std.proofs.Common.{false, true, ◌≡◌, ℕ, List, ◌++◌, refl}
 use Rattle.std.specs.Prelude.{Err, IfOk, None, Ok, Option, Result, Some}
+use Rattle.rx_base.specs.SortedPaths.{AreSorted}
+use Rattle.rx_base.proofs.PathsSorted.{AreSorted-sorted_paths}
 use Rattle.rx_board.specs.declared.journal.Entry.{Entry}
 use Rattle.rx_board.specs.declared.journal.Receipt.{Receipt}
 use Rattle.rx_session.specs.declared.replies.Reply.{Reply}
 use Rattle.rx_session.specs.declared.replies.Reply.TheVariants as reply
 use Rattle.rx_session.specs.declared.requests.Request.{Request}
 use Rattle.rx_session.specs.Jobs.{command_of, declared_of}
+use Rattle.rx_session.specs.Rules.{paths_in}
 use Rattle.rx_world.specs.declared.attempts.Ended.{Ended}
 use Rattle.rx_world.specs.declared.commands.Command.{Command}
 use Rattle.rx_world.specs.declared.outcomes.FileOut.{FileOut}
@@ -20,6 +23,11 @@ use Rattle.rx_engine.specs.Answered.{AnswersFault}
 use Rattle.rx_engine.specs.Answers.{Answers, RunsOn}
 use Rattle.rx_engine.specs.Inputs.{IsGathered, Refuses, blocked}
 use Rattle.rx_engine.specs.Journal.{Enters}
+
+-- the declared inputs of a request are sorted
+pub declared-sorted : (asked : Request) → AreSorted (declared_of asked)
+unfolding declared_of
+declared-sorted asked = AreSorted-sorted_paths (paths_in asked.inputs ++ paths_in asked.toolchain_inputs)
 
 -- a run on inputs that were gathered answers the request
 pub runs-answers : (tool : Command → Tree → Outcome) (honest : Type 0) (asked : Request) (answers : List Given) (files : List FileOut) (tb tn bb bn : ℕ) (receipt : Option Receipt) (ends : List Ended) (answer : Reply)

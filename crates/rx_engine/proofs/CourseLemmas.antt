@@ -13,8 +13,8 @@ use Rattle.rx_engine.specs.declared.transcripts.Transcript.{Transcript}
 use Rattle.rx_world.specs.Answers.{Gives}
 use Rattle.rx_engine.specs.Meanings.{Meanings}
 use Rattle.rx_engine.specs.Ready.{FinishesAs, IsLost, IsReadyAs, IsWriting, Wrote}
-use Rattle.rx_engine.specs.Session.{AreLater, Grounds, IsCourse, IsSession, Replies}
-use Rattle.rx_engine.proofs.InputLemmas.{gives-none}
+use Rattle.rx_engine.specs.Session.{grounds_of, AreLater, Grounds, IsCourse, IsSession, Replies}
+use Rattle.rx_world.proofs.AnswerLemmas.{gives-none}
 
 replies-moved : (g : Grounds) (honest : Type 0) (number : ℕ) (read : List ℕ) (request : Option Request) (a : Answered) (t : Transcript) → Replies g honest read request a.receipt a.ends a.reply → Wrote number read request a t → Replies g honest t.read t.request t.receipt t.ends a.reply
 replies-moved g honest number read request a t h w = rw (w.read_is, w.request_is, w.receipt_is, w.ends_are) h
@@ -41,16 +41,7 @@ pub session-finished : {I O T B : Type 0} (m : Meanings I O T B) (keeps : T → 
     → Consumes (m.left before.input) (m.left after.input) read
     → Appends (m.taken before.output) (m.taken after.output) t.written
     → Gives m.listed keeps m.given m.content stamps before.tree after.tree answers
-    → IsReadyAs (record {
-      tool = m.tool;
-      root = root;
-      left = m.left after.input;
-      answers = answers;
-      tree_before = m.tree_faults before.tree;
-      tree_now = m.tree_faults after.tree;
-      bench_before = m.bench_faults before.benches;
-      bench_now = m.bench_faults after.benches;
-    }) tools read request answered
+    → IsReadyAs (grounds_of m root before after answers) tools read request answered
     → FinishesAs number read request answered t
     → (t.ending ≡ SinkLost → Rose (m.output_faults before.output) (m.output_faults after.output))
     → AreLater m before after

@@ -36,7 +36,7 @@ use Rattle.rx_engine.specs.Answers.{Answers, HasFailed, input_tree}
 use Rattle.rx_engine.specs.Journal.{IsEntry, IsJournalled, IsPlaced, files_of}
 use Rattle.rx_engine.specs.Meanings.{Meanings}
 use Rattle.rx_engine.specs.Quiet.{AreApart, HasRoom, IsDoneOr, IsDoneReply, IsFileIn, IsQuiet, file_in, is_executable}
-use Rattle.rx_engine.specs.Session.{IsCourse, IsSession, Replies, RepliesTo}
+use Rattle.rx_engine.specs.Session.{grounds_of, IsCourse, IsSession, Replies, RepliesTo}
 use Rattle.rx_engine.proofs.Early.{early}
 
 none-some : {A : Type 0} {a : A} → None ≡ Some a → ⊥
@@ -216,16 +216,7 @@ done-to m keeps stamps tools root before after limit old new pb pn t bytes asked
 to-asked : {I O T B : Type 0} (m : Meanings I O T B) (keeps : T → Type 0) (stamps tools : Type 0) (root : List ℕ) (before after : Parts I O T B) (limit : ℕ) (old new : List Entry) (pb pn : ℕ) (t : Transcript) (bytes : List ℕ) (asked : Request) (answer : Reply)
     → (s : IsSession m keeps stamps tools root before after t) → (q : IsQuiet m keeps stamps tools root before after bytes asked) → IsJournalled limit old new pb pn t → HasRoom limit old pb pn
     → t.reply ≡ Some answer
-    → RepliesTo (record {
-      tool = m.tool;
-      root = root;
-      left = m.left after.input;
-      answers = s.answers;
-      tree_before = m.tree_faults before.tree;
-      tree_now = m.tree_faults after.tree;
-      bench_before = m.bench_faults before.benches;
-      bench_now = m.bench_faults after.benches;
-    }) tools t.read t.request t.receipt t.ends answer
+    → RepliesTo (grounds_of m root before after s.answers) tools t.read t.request t.receipt t.ends answer
     → IsDoneReply (Some answer)
 to-asked m keeps stamps tools root before after limit old new pb pn t bytes asked answer s q j r e a =
     let whole = read-all (m.left before.input) (m.left after.input) bytes t.read q.told s.read a.1.ended in
@@ -236,16 +227,7 @@ to-asked m keeps stamps tools root before after limit old new pb pn t bytes aske
 done-at : {I O T B : Type 0} (m : Meanings I O T B) (keeps : T → Type 0) (stamps tools : Type 0) (root : List ℕ) (before after : Parts I O T B) (limit : ℕ) (old new : List Entry) (pb pn : ℕ) (t : Transcript) (bytes : List ℕ) (asked : Request) (answer : Reply)
     → (s : IsSession m keeps stamps tools root before after t) → (q : IsQuiet m keeps stamps tools root before after bytes asked) → IsJournalled limit old new pb pn t → HasRoom limit old pb pn
     → t.reply ≡ Some answer
-    → Replies (record {
-      tool = m.tool;
-      root = root;
-      left = m.left after.input;
-      answers = s.answers;
-      tree_before = m.tree_faults before.tree;
-      tree_now = m.tree_faults after.tree;
-      bench_before = m.bench_faults before.benches;
-      bench_now = m.bench_faults after.benches;
-    }) tools t.read t.request t.receipt t.ends answer
+    → Replies (grounds_of m root before after s.answers) tools t.read t.request t.receipt t.ends answer
     → IsDoneReply (Some answer)
 done-at m keeps stamps tools root before after limit old new pb pn t bytes asked (reply.BadRequest bad) s q j r e a =
     not-refused root (m.left before.input) (m.left after.input) bytes t.read bad asked q.told s.read a.0 a.5 q.valid
@@ -269,16 +251,7 @@ done-at m keeps stamps tools root before after limit old new pb pn t bytes asked
 complete-at : {I O T B : Type 0} (m : Meanings I O T B) (keeps : T → Type 0) (stamps tools : Type 0) (root : List ℕ) (before after : Parts I O T B) (limit : ℕ) (old new : List Entry) (pb pn : ℕ) (t : Transcript) (bytes : List ℕ) (asked : Request) (ending : Ending)
     → (s : IsSession m keeps stamps tools root before after t) → IsQuiet m keeps stamps tools root before after bytes asked → IsJournalled limit old new pb pn t → HasRoom limit old pb pn
     → t.ending ≡ ending
-    → IsCourse (record {
-      tool = m.tool;
-      root = root;
-      left = m.left after.input;
-      answers = s.answers;
-      tree_before = m.tree_faults before.tree;
-      tree_now = m.tree_faults after.tree;
-      bench_before = m.bench_faults before.benches;
-      bench_now = m.bench_faults after.benches;
-    }) tools t ending
+    → IsCourse (grounds_of m root before after s.answers) tools t ending
     → IsDoneOr ending t.reply
 complete-at m keeps stamps tools root before after limit old new pb pn t bytes asked Replied s q j r e c =
     rw c.1 (done-at m keeps stamps tools root before after limit old new pb pn t bytes asked c.0 s q j r c.1 c.3)

@@ -29,7 +29,7 @@ use Rattle.rx_world.specs.Answers.{Gives}
 use Rattle.rx_engine.specs.Ready.{EntersAs, EntersReady, IsOrGivenUp, IsReady, IsReadyAs, IsRefusalOf}
 use Rattle.rx_engine.specs.Session.{Grounds, IsAsked, Replies}
 use Rattle.rx_engine.proofs.AnswerLemmas.{enters-nothing}
-use Rattle.rx_engine.proofs.InputLemmas.{gives-none}
+use Rattle.rx_world.proofs.AnswerLemmas.{gives-none}
 
 some-none : {A : Type 0} {a : A} → Some a ≡ None → ⊥
 some-none h = cc

@@ -1,12 +1,14 @@
--- What a session does to the journal.
-use Rattle.std.specs.Prelude.{◌≡◌, ◌≢◌, ℕ, ◌+◌, ◌<◌, List, [], ◌∷◌, ◌++◌, Option, None, Some, IsSome, MatchOption, length}
+-- What a session does to the board: to its journal and to its place.
+use Rattle.std.specs.Prelude.{◌≡◌, ◌≢◌, ℕ, ◌+◌, ◌<◌, ◌≤◌, List, [], ◌∷◌, ◌++◌, Option, None, Some, IsSome, MatchOption, length}
 use Rattle.rx_board.specs.declared.journal.Entry.{Entry}
 use Rattle.rx_board.specs.declared.journal.Receipt.{Receipt}
+use Rattle.rx_board.specs.Board.{State}
 use Rattle.rx_session.specs.declared.replies.Reply.{Reply}
 use Rattle.rx_session.specs.declared.replies.Reply.TheVariants as reply
 use Rattle.rx_world.specs.declared.attempts.End.{End}
 use Rattle.rx_world.specs.declared.attempts.End.TheVariants as end
 use Rattle.rx_world.specs.declared.attempts.Ended.{Ended}
+use Rattle.rx_world.specs.declared.outcomes.FileOut.{FileOut}
 use Rattle.rx_world.specs.declared.outcomes.KeptOutcome.{KeptOutcome}
 use Rattle.rx_world.specs.declared.outcomes.Listed.{Listed}
 use Rattle.rx_world.specs.Causes.{Rose}
@@ -52,3 +54,9 @@ pub record Enters (limit : ℕ) (old new : List Entry) (before now session : ℕ
 -- the same of a transcript
 abbrev pub IsJournalled : ℕ → List Entry → List Entry → ℕ → ℕ → Transcript → Type 0
 IsJournalled limit old new before now t = Enters limit old new before now t.number t.receipt t.ends t.reply
+
+-- the board's limit and the opening contents of its place stay, and the place's count of faults doesn't fall
+pub record IsBoardAfter {P : Type 0} (faults : P → ℕ) (opened : P → Option (List FileOut)) (old new : State P) : Type 0 where
+  pub limit : new.limit ≡ old.limit
+  pub opening : opened new.place ≡ opened old.place
+  pub later : faults old.place ≤ faults new.place

@@ -57,34 +57,27 @@ pub record Wrote (number : ℕ) (read : List ℕ) (request : Option Request) (an
   pub whole : t.ending ≡ Replied → t.written ≡ answered.frame.items
   pub writing : IsWriting t.ending
 
--- nothing was ready
-pub record WroteNothing (number : ℕ) (read : List ℕ) (request : Option Request) (t : Transcript) : Type 0 where
+-- a session that ended so, after these bytes and with this request, and answered nothing
+pub record IsBare (number : ℕ) (read : List ℕ) (request : Option Request) (ending : Ending) (t : Transcript) : Type 0 where
   pub number_is : t.number ≡ number
   pub read_is : t.read ≡ read
   pub request_is : t.request ≡ request
-  pub ending_is : t.ending ≡ NoMemory
+  pub ending_is : t.ending ≡ ending
   pub written_is : t.written ≡ []
   pub reply_is : t.reply ≡ None
   pub receipt_is : t.receipt ≡ None
   pub ends_are : t.ends ≡ []
 
 abbrev pub FinishesAs : ℕ → List ℕ → Option Request → Option Answered → Transcript → Type 0
-FinishesAs number read request None t = WroteNothing number read request t
+FinishesAs number read request None t = IsBare number read request NoMemory t
 FinishesAs number read request (Some answered) t = Wrote number read request answered t
 
 abbrev pub Finishes : ℕ → List ℕ → Ready → Transcript → Type 0
 Finishes number read ready t = FinishesAs number read ready.request ready.answered t
 
 -- the input was lost, and nothing was done
-pub record IsLost (number : ℕ) (read : List ℕ) (t : Transcript) : Type 0 where
-  pub number_is : t.number ≡ number
-  pub read_is : t.read ≡ read
-  pub request_is : t.request ≡ None
-  pub ending_is : t.ending ≡ SourceLost
-  pub written_is : t.written ≡ []
-  pub reply_is : t.reply ≡ None
-  pub receipt_is : t.receipt ≡ None
-  pub ends_are : t.ends ≡ []
+abbrev pub IsLost : ℕ → List ℕ → Transcript → Type 0
+IsLost number read t = IsBare number read None SourceLost t
 
 -- the answer to bytes that are no request, unless memory ran out for it
 abbrev pub IsBadReady : Bad → Ready → Type 0

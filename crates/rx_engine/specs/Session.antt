@@ -34,6 +34,19 @@ pub record Grounds : Type 0 where
   pub bench_before : ℕ
   pub bench_now : ℕ
 
+-- what the replies of a session stand on, by what its parts tell and the answers of its source tree
+abbrev pub grounds_of : {I O T B : Type 0} → Meanings I O T B → List ℕ → Parts I O T B → Parts I O T B → List Given → Grounds
+grounds_of m root before after answers = record {
+  tool = m.tool;
+  root = root;
+  left = m.left after.input;
+  answers = answers;
+  tree_before = m.tree_faults before.tree;
+  tree_now = m.tree_faults after.tree;
+  bench_before = m.bench_faults before.benches;
+  bench_now = m.bench_faults after.benches;
+}
+
 -- the bytes are this request, all of them, and the input was read to its end
 pub record IsAsked (g : Grounds) (read : List ℕ) (request : Option Request) (asked : Request) : Type 0 where
   pub request_is : request ≡ Some asked
@@ -96,16 +109,7 @@ pub record IsSession {I O T B : Type 0} (m : Meanings I O T B) (keeps : T → Ty
   pub read : Consumes (m.left before.input) (m.left after.input) t.read
   pub written : Appends (m.taken before.output) (m.taken after.output) t.written
   pub looked : Gives m.listed keeps m.given m.content stamps_honest before.tree after.tree answers
-  pub course : IsCourse (record {
-    tool = m.tool;
-    root = root;
-    left = m.left after.input;
-    answers = answers;
-    tree_before = m.tree_faults before.tree;
-    tree_now = m.tree_faults after.tree;
-    bench_before = m.bench_faults before.benches;
-    bench_now = m.bench_faults after.benches;
-  }) tools_honest t t.ending
+  pub course : IsCourse (grounds_of m root before after answers) tools_honest t t.ending
   pub source : t.ending ≡ SourceLost → Rose (m.input_faults before.input) (m.input_faults after.input)
   pub sink : t.ending ≡ SinkLost → Rose (m.output_faults before.output) (m.output_faults after.output)
   pub later : AreLater m before after

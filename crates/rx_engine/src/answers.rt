@@ -7,7 +7,7 @@ ghost use Rattle.rx_session.specs.Replies.{frame_of};
 ghost use Rattle.rx_world.specs.declared.sources.Given.{Given};
 ghost use Rattle.rx_engine.specs.Answers.{Answers, RunsOn, done_end};
 ghost use Rattle.rx_world.specs.Answers.{Gives};
-ghost use Rattle.rx_engine.specs.Journal.{Enters};
+ghost use Rattle.rx_engine.specs.Journal.{Enters, IsBoardAfter};
 
 use crate::inputs::{InputFault, gather_inputs};
 use rx_base::{Items, NoMemory, RelPath, TryClone};
@@ -22,7 +22,7 @@ use std::alloc::{AllocError, Global};
 
 /// A reply with its frame, and what it stands on.
 #[derive(Drop)]
-pub struct Answered {
+pub(crate) struct Answered {
     pub reply: Reply,
     pub frame: Vec<u8>,
     pub receipt: Option<Receipt>,
@@ -43,14 +43,14 @@ fn plain(alloc: Global, reply: Reply) -> Result<Answered, NoMemory>
 }
 
 /// The answer to bytes that are no request.
-pub fn refuse(alloc: Global, bad: Bad) -> Result<Answered, NoMemory>
+pub(crate) fn refuse(alloc: Global, bad: Bad) -> Result<Answered, NoMemory>
     ensures { IfOk result (IsPlain (bad_request bad)) }
 {
     plain(alloc, Reply::BadRequest { bad })
 }
 
 /// The answer where memory ran out.
-pub fn give_up(alloc: Global) -> Result<Answered, NoMemory>
+pub(crate) fn give_up(alloc: Global) -> Result<Answered, NoMemory>
     ensures { IfOk result (IsPlain reply_no_memory) }
 {
     plain(alloc, Reply::NoMemory)
@@ -131,9 +131,7 @@ fn publish<P: Place>(
     ensures ok { IfOk result (IsPublication outcome) }
     ensures journal { IfOk result (λ a. Enters board.old.limit board.old.journal board.new.journal (P.faults board.old.place) (P.faults board.new.place) session a.receipt a.ends (Some a.reply)) }
     ensures err { OnErr result (board.new.journal ≡ board.old.journal) }
-    ensures limit { board.new.limit ≡ board.old.limit }
-    ensures opening { P.opening board.new.place ≡ P.opening board.old.place }
-    ensures later { P.faults board.old.place ≤ P.faults board.new.place }
+    ensures board { IsBoardAfter P.faults P.opening board.old board.new }
 {
     let ends = local_end(alloc, &outcome)?;
     let room = Room::new(alloc)?;
@@ -195,9 +193,7 @@ fn run_and_publish<W: World, M: BenchMaker<W>, P: Place>(
     ensures frame { IfOk result (λ a. a.frame.items ≡ frame_of a.reply) }
     ensures journal { IfOk result (λ a. Enters board.old.limit board.old.journal board.new.journal (P.faults board.old.place) (P.faults board.new.place) session a.receipt a.ends (Some a.reply)) }
     ensures err { OnErr result (board.new.journal ≡ board.old.journal) }
-    ensures limit { board.new.limit ≡ board.old.limit }
-    ensures opening { P.opening board.new.place ≡ P.opening board.old.place }
-    ensures later { P.faults board.old.place ≤ P.faults board.new.place }
+    ensures board { IsBoardAfter P.faults P.opening board.old board.new }
     ensures benches { M.faults benches.old ≤ M.faults benches.new }
 {
     let directories = directories_of(alloc, command)?;
@@ -209,7 +205,7 @@ fn run_and_publish<W: World, M: BenchMaker<W>, P: Place>(
 }
 
 /// Answers a request.
-pub fn answer<W: World, S: Sources<W>, M: BenchMaker<W>, P: Place>(
+pub(crate) fn answer<W: World, S: Sources<W>, M: BenchMaker<W>, P: Place>(
     alloc: Global,
     session: u32,
     request: &Request,
@@ -222,9 +218,7 @@ pub fn answer<W: World, S: Sources<W>, M: BenchMaker<W>, P: Place>(
     ensures frame { IfOk result (λ a. a.frame.items ≡ frame_of a.reply) }
     ensures journal { IfOk result (λ a. Enters board.old.limit board.old.journal board.new.journal (P.faults board.old.place) (P.faults board.new.place) session a.receipt a.ends (Some a.reply)) }
     ensures err { OnErr result (board.new.journal ≡ board.old.journal) }
-    ensures limit { board.new.limit ≡ board.old.limit }
-    ensures opening { P.opening board.new.place ≡ P.opening board.old.place }
-    ensures later { P.faults board.old.place ≤ P.faults board.new.place }
+    ensures board { IsBoardAfter P.faults P.opening board.old board.new }
     ensures tree { S.faults tree.old ≤ S.faults tree.new }
     ensures benches { M.faults benches.old ≤ M.faults benches.new }
 {

@@ -7,7 +7,8 @@ ghost use Rattle.rx_engine.specs.Fronts.{GivesNext};
 
 use rx_world::{BenchMaker, Failed, Sink, Source, Sources, World};
 
-/// The parts of a desk.
+/// The parts of a desk. They are a desk themselves.
+#[derive(Drop)]
 pub struct Parts<I, O, T, B> {
     /// Where the request comes from.
     pub input: I,
@@ -37,6 +38,34 @@ pub trait Desk<W: World>: Sized {
 
     fn unite(of: Parts<Self::I, Self::O, Self::T, Self::B>) -> Self
         ensures { parts result ≡ of };
+}
+
+impl<
+    W: World,
+    I: Source + Send,
+    O: Sink + Send,
+    T: Sources<W> + Send,
+    B: BenchMaker<W> + Send,
+> Desk<W> for Parts<I, O, T, B> {
+    type I = I;
+
+    type O = O;
+
+    type T = T;
+
+    type B = B;
+
+    ghost parts = { λ parts. parts };
+
+    fn split(self) -> Parts<I, O, T, B> {
+        self
+    }
+
+    fn unite(of: Parts<I, O, T, B>) -> Parts<I, O, T, B>
+        ensures { result ≡ of }
+    {
+        of
+    }
 }
 
 /// Gives desks, one for each session.

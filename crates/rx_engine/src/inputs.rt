@@ -7,24 +7,25 @@ ghost use Rattle.rx_engine.specs.Inputs.{IsGathered, Refuses, above_among, block
 ghost use Rattle.rx_world.specs.Answers.{Gives};
 ghost use Rattle.rx_world.specs.declared.sources.Given.{Given};
 ghost use Rattle.rx_base.specs.Paths.{is_below};
+ghost use Rattle.rx_base.specs.SortedPaths.{AreSorted};
 ghost use Rattle.std.specs.List.{list_any};
 ghost use Rattle.std.specs.Str.{bytes_eq};
 
-use rx_base::{NoMemory, RelPath, TryClone};
+use rx_base::{NoMemory, RelPath, TryClone, first_above, first_at_or_above};
 use rx_world::{Command, FileOut, Look, Refused, Seen, Sources, Stamp, World};
 use std::alloc::{AllocError, AllocFailed, Global};
 use thiserror::Error;
 
 /// What a look tells of a file.
 #[derive(Clone, Copy, Debug, PartialEq, Eq)]
-pub struct FileLook {
+pub(crate) struct FileLook {
     pub stamp: Stamp,
     pub executable: bool,
 }
 
 /// Why the inputs of a command can't be had.
 #[derive(Debug, Drop, Error)]
-pub enum InputFault {
+pub(crate) enum InputFault {
     /// The first declared input, in the order of the paths, that isn't a file.
     #[error("a declared input is missing")]
     InputMissing {
@@ -178,42 +179,41 @@ fn read_all<W: World, S: Sources<W>>(
     Ok(files)
 }
 
-/// Which input another one stands below.
+/// Which of these sorted inputs another one stands below.
 fn upper_index(paths: &[RelPath]) -> Option<usize>
+    requires { AreSorted paths.now }
     ensures { result ≡ upper_among paths.now paths.now }
 {
     for path in paths {
-        if let Some(at) = above_index(paths, path) {
+        if let Some(at) = first_above(paths, path) {
             return Some(at);
         }
     }
     None
 }
 
-/// Which of these files a path stands below.
-fn above_index(files: &[RelPath], path: &RelPath) -> Option<usize>
-    ensures { result ≡ above_among files.now path.now }
-{
-    files.iter().position(|file| path.is_below(file))
-}
-
-/// Whether a path stands below one of these files.
+/// Whether a path stands below one of these sorted files.
+#[tactic(auto, using(rx_base::proofs::SortedSearch::position_is_any))]
 fn is_below_one(path: &RelPath, files: &[RelPath]) -> bool
+    requires { AreSorted files.now }
     ensures { result ≡ list_any (λ file. is_below path.now file) files.now }
 {
-    files.iter().any(|file| path.is_below(file))
+    first_above(files, path).is_some()
 }
 
-/// Whether a path is one of these files or stands below one.
+/// Whether a path is one of these sorted files or stands below one.
+#[tactic(auto, using(rx_base::proofs::SortedSearch::position_is_any))]
 fn is_at_or_below_one(path: &RelPath, files: &[RelPath]) -> bool
+    requires { AreSorted files.now }
     ensures { result ≡ list_any (λ file. bytes_eq path.now file || is_below path.now file) files.now }
 {
-    files.iter().any(|file| path == file || path.is_below(file))
+    first_at_or_above(files, path).is_some()
 }
 
-/// What stands in the way of a command whose inputs are these files: its working directory, or the
-/// least output.
+/// What stands in the way of a command whose inputs are these sorted files: its working directory,
+/// or the least output.
 fn blocked_path<'a>(command: &'a Command, files: &[RelPath]) -> Option<&'a RelPath>
+    requires { AreSorted files.now }
     ensures { option_copied result ≡ blocked command.now files.now }
 {
     if is_at_or_below_one(&command.working_directory, files) {
@@ -241,14 +241,15 @@ fn changed_above(alloc: Global, path: &RelPath, look: &FileLook) -> Result<Input
     })
 }
 
-/// Whether these inputs, which are files, leave the way of a command free.
+/// Whether these sorted inputs, which are files, leave the way of a command free.
 fn check_way(
     alloc: Global,
     command: &Command,
     paths: &[RelPath],
     looks: &[FileLook],
 ) -> Result<(), InputFault>
-    requires { length looks.now ≡ length paths.now }
+    requires sorted { AreSorted paths.now }
+    requires each { length looks.now ≡ length paths.now }
     ensures free { OnOk result (blocked command.now paths.now ≡ None) }
     ensures err { IfErr result (RefusesWay command.now paths.now looks.now) }
 {
@@ -265,13 +266,15 @@ fn check_way(
     }
 }
 
-/// Looks at the declared inputs of a command in the order of their paths, and reads each once.
-pub fn gather_inputs<W: World, S: Sources<W>>(
+/// Looks at the declared inputs of a command in the order of their paths, which are sorted, and
+/// reads each once.
+pub(crate) fn gather_inputs<W: World, S: Sources<W>>(
     alloc: Global,
     sources: &mut S,
     command: &Command,
     paths: &[RelPath],
 ) -> Result<Vec<FileOut>, InputFault>
+    requires { AreSorted paths.now }
     ensures gathered { (answers : List Given) × Gives S.listed S.keeps S.given W.content W.stamps_honest sources.old sources.new answers
         × MatchResult result (λ files. IsGathered paths.now answers files.items × (blocked command.now paths.now ≡ None))
         (Refuses command.now paths.now answers (S.faults sources.old) (S.faults sources.new)) }

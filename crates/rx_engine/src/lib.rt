@@ -9,9 +9,8 @@ mod sessions;
 mod transcripts;
 mod words;
 
-pub use answers::{Answered, answer, give_up, refuse};
 pub use desk::{Desk, Front, Parts};
-pub use inputs::{FileLook, InputFault, gather_inputs};
-pub use proxy::{Ran, Stop, run_proxy};
-pub use sessions::{Ready, Shared, serve_session};
+pub use proxy::{Ran, run_proxy};
+pub use sessions::{Shared, serve_session};
 pub use transcripts::{Ending, Transcript};
+pub use words::root_in;

@@ -18,7 +18,7 @@ use std::alloc::Global;
 
 /// Why no more desks are asked for.
 #[derive(Clone, Copy, Debug, PartialEq, Eq)]
-pub enum Stop {
+pub(crate) enum Stop {
     /// The front has no more.
     Ended,
     /// The front failed.

@@ -9,7 +9,7 @@ ghost use Rattle.rx_world.specs.declared.sources.Given.{Given};
 ghost use Rattle.rx_world.specs.Causes.{Rose};
 ghost use Rattle.rx_engine.specs.Answered.{IsPlain, reply_no_memory};
 ghost use Rattle.rx_world.specs.Answers.{Gives};
-ghost use Rattle.rx_engine.specs.Journal.{IsJournalled};
+ghost use Rattle.rx_engine.specs.Journal.{IsBoardAfter, IsJournalled};
 ghost use Rattle.rx_session.specs.declared.requests.Request.{Request};
 ghost use Rattle.rx_engine.specs.Quiet.{HasRoom, IsDoneOr, IsQuiet};
 ghost use Rattle.rx_engine.specs.Ready.{EntersReady, Finishes, IsLost, IsOrGivenUp, IsReady, IsRefusalOf};
@@ -34,7 +34,7 @@ pub struct Shared<P: Place> {
 
 /// The request, and the answer to it. Without an answer, memory ran out even for that.
 #[derive(Drop)]
-pub struct Ready {
+pub(crate) struct Ready {
     pub request: Option<Request>,
     pub answered: Option<Answered>,
 }
@@ -125,9 +125,7 @@ fn make_ready<W: World, S: Sources<W>, M: BenchMaker<W>, P: Place>(
         }) W.tools_honest read ready)) }
     ensures enters { IfSome result (EntersReady board.old.limit board.old.journal board.new.journal (P.faults board.old.place) (P.faults board.new.place) session) }
     ensures same { IfNone result ((tree.new ≡ tree.old) × (benches.new ≡ benches.old) × (board.new ≡ board.old)) }
-    ensures limit { board.new.limit ≡ board.old.limit }
-    ensures opening { P.opening board.new.place ≡ P.opening board.old.place }
-    ensures later { P.faults board.old.place ≤ P.faults board.new.place }
+    ensures board { IsBoardAfter P.faults P.opening board.old board.new }
     ensures tree { S.faults tree.old ≤ S.faults tree.new }
     ensures benches { M.faults benches.old ≤ M.faults benches.new }
 {
@@ -197,10 +195,8 @@ fn converse<W: World, I: Source, O: Sink, S: Sources<W>, M: BenchMaker<W>, P: Pl
     }) S.keeps W.stamps_honest W.tools_honest shared.old.root parts.old parts.new result }
     ensures number { result.number ≡ number }
     ensures journal { IsJournalled shared.old.board.limit shared.old.board.journal shared.new.board.journal (P.faults shared.old.board.place) (P.faults shared.new.board.place) result }
-    ensures limit { shared.new.board.limit ≡ shared.old.board.limit }
     ensures root { shared.new.root ≡ shared.old.root }
-    ensures opening { P.opening shared.new.board.place ≡ P.opening shared.old.board.place }
-    ensures later { P.faults shared.old.board.place ≤ P.faults shared.new.board.place }
+    ensures board { IsBoardAfter P.faults P.opening shared.old.board shared.new.board }
 {
     let mut read = Vec::new(alloc);
     let asked = read_request(alloc, &mut parts.input, shared.root.as_str(), &mut read);
@@ -264,10 +260,8 @@ pub fn serve_session<W: World, D: Desk<W>, P: Place>(
         }) D.T.keeps W.stamps_honest W.tools_honest shared.old.root (D.parts desk) (D.parts result.1) bytes asked →
         HasRoom shared.old.board.limit shared.old.board.journal (P.faults shared.old.board.place) (P.faults shared.new.board.place) →
         IsDoneOr result.0.ending result.0.reply }
-    ensures limit { shared.new.board.limit ≡ shared.old.board.limit }
     ensures root { shared.new.root ≡ shared.old.root }
-    ensures opening { P.opening shared.new.board.place ≡ P.opening shared.old.board.place }
-    ensures later { P.faults shared.old.board.place ≤ P.faults shared.new.board.place }
+    ensures board { IsBoardAfter P.faults P.opening shared.old.board shared.new.board }
 {
     let mut parts = desk.split();
     let transcript = converse::<W, D::I, D::O, D::T, D::B, P>(alloc, number, &mut parts, shared);

@@ -3,7 +3,7 @@ use Rattle.std.proofs.Common.{◌≡◌, ℕ, ◌+◌, ◌||◌, Bool, true, fal
 use Rattle.std.specs.List.{take-map}
 use Rattle.rx_base.specs.Paths.{is_below}
 use Rattle.rx_fakes.specs.Found.{found_of}
-use Rattle.rx_fakes.proofs.PlacedBy.{map-all_placed_by}
+use Rattle.rx_world.proofs.PlacedBy.{map-all_placed_by}
 use Rattle.rx_world.specs.declared.sources.Found.{Found}
 use Rattle.rx_world.specs.declared.sources.SourceEntry.{SourceEntry}
 use Rattle.rx_world.specs.Files.{all_placed_by}

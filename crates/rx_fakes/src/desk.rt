@@ -1,63 +1,13 @@
 //! Desks in memory, and a front that gives them.
 
-ghost use Rattle.std.specs.Prelude.{◌≡◌, Some};
+ghost use Rattle.std.specs.Prelude.{Some};
 
 use crate::{MemorySink, MemorySource, MemorySources, Script, ToyBenches};
-use rx_engine::{Desk, Front, Parts};
+use rx_engine::{Front, Parts};
 use rx_world::{Contents, Failed, Toy};
 
 /// A desk whose parts are in memory.
-#[derive(Drop)]
-pub struct MemoryDesk<K: Contents> {
-    pub input: MemorySource,
-    pub output: MemorySink,
-    pub tree: MemorySources<K>,
-    pub benches: ToyBenches,
-}
-
-impl<K: Contents + Send> Desk<Toy<K>> for MemoryDesk<K> {
-    type I = MemorySource;
-
-    type O = MemorySink;
-
-    type T = MemorySources<K>;
-
-    type B = ToyBenches;
-
-    ghost parts = { λ d. record { input = d.input; output = d.output; tree = d.tree; benches = d.benches } };
-
-    fn split(self) -> Parts<MemorySource, MemorySink, MemorySources<K>, ToyBenches> {
-        let MemoryDesk {
-            input,
-            output,
-            tree,
-            benches,
-        } = self;
-        Parts {
-            input,
-            output,
-            tree,
-            benches,
-        }
-    }
-
-    fn unite(of: Parts<MemorySource, MemorySink, MemorySources<K>, ToyBenches>) -> MemoryDesk<K>
-        ensures { record { input = result.input; output = result.output; tree = result.tree; benches = result.benches } ≡ of }
-    {
-        let Parts {
-            input,
-            output,
-            tree,
-            benches,
-        } = of;
-        MemoryDesk {
-            input,
-            output,
-            tree,
-            benches,
-        }
-    }
-}
+pub type MemoryDesk<K> = Parts<MemorySource, MemorySink, MemorySources<K>, ToyBenches>;
 
 /// Desks in memory, of which the first is given first.
 #[derive(Drop)]

@@ -7,8 +7,9 @@ use crate::{
     Change, MemoryDesk, MemoryFront, MemoryPlace, MemorySink, MemorySource, MemorySources, Script,
     SourceEntries, ToyBenches,
 };
-use rx_base::{Bytes, RelPath};
-use rx_engine::{Ran, run_proxy};
+use rx_base::{Bytes, RelPath, Text};
+use rx_board::Board;
+use rx_engine::{Parts, Ran, Shared, run_proxy, serve_session};
 use rx_world::Toy;
 use std::alloc::{AllocError, Global};
 use std::marker::Brand;
@@ -20,7 +21,7 @@ enum Input {
     Absent,
     /// `abc` with mark 1.
     Steady,
-    /// The same, and from the second call on `abcd` with mark 2.
+    /// The same, and from the second call on `abcd` with mark 2, which may be executed.
     Changed,
 }
 
@@ -116,7 +117,7 @@ const ROWS: [Row; 14] = [
     },
     Row {
         input: Input::Changed,
-        written: b"\x02\0\0\0\x15\x08\x04\x52\x01a\x5a\x06\x08\x01\x10\x03\x20\x01\x62\x06\x08\x01\x10\x04\x20\x02",
+        written: b"\x02\0\0\0\x17\x08\x04\x52\x01a\x5a\x06\x08\x01\x10\x03\x20\x01\x62\x08\x08\x01\x10\x04\x20\x02\x30\x01",
         ..REFUSED
     },
     Row {
@@ -150,21 +151,26 @@ fn failing(alloc: Global, call: u64) -> Result<Script, AllocError>
 }
 
 /// The source tree with this alone at `a`.
-fn with_a(alloc: Global, bytes: &[u8], mark: u128) -> Result<SourceEntries<Brand>, Fail> {
+fn with_a(
+    alloc: Global,
+    bytes: &[u8],
+    mark: u128,
+    executable: bool,
+) -> Result<SourceEntries<Brand>, Fail> {
     let mut entries: SourceEntries<Brand> = SourceEntries::new(alloc);
     let bytes = Bytes::copy_of(alloc, bytes)?;
-    entries.add_file(RelPath::read(alloc, "a")?, mark, false, bytes)?;
+    entries.add_file(RelPath::read(alloc, "a")?, mark, executable, bytes)?;
     Ok(entries)
 }
 
 fn tree(alloc: Global, input: Input, script: Script) -> Result<MemorySources<Brand>, Fail> {
     let (entries, change) = match input {
         Input::Absent => (SourceEntries::new(alloc), None),
-        Input::Steady => (with_a(alloc, b"abc", 1)?, None),
+        Input::Steady => (with_a(alloc, b"abc", 1, false)?, None),
         Input::Changed => {
-            let entries = with_a(alloc, b"abcd", 2)?;
+            let entries = with_a(alloc, b"abcd", 2, true)?;
             (
-                with_a(alloc, b"abc", 1)?,
+                with_a(alloc, b"abc", 1, false)?,
                 Some(Change { after: 1, entries }),
             )
         }
@@ -172,16 +178,20 @@ fn tree(alloc: Global, input: Input, script: Script) -> Result<MemorySources<Bra
     Ok(MemorySources::new(alloc, entries, change, script))
 }
 
-fn run(alloc: Global, row: &Row) -> Result<Ran<Toy<Brand>, MemoryFront<Brand>, MemoryPlace>, Fail> {
-    let (sources, bench, placing) = row.fails;
-    let desk = MemoryDesk {
+fn desk(alloc: Global, row: &Row) -> Result<MemoryDesk<Brand>, Fail> {
+    let (sources, bench, _) = row.fails;
+    Ok(Parts {
         input: MemorySource::new(row.read.to_vec(alloc)?, Script::empty(alloc)),
         output: MemorySink::new(alloc, Script::empty(alloc)),
         tree: tree(alloc, row.input, failing(alloc, sources)?)?,
         benches: ToyBenches::new(alloc, vec![in alloc; bench]?, Script::empty(alloc)),
-    };
+    })
+}
+
+fn run(alloc: Global, row: &Row) -> Result<Ran<Toy<Brand>, MemoryFront<Brand>, MemoryPlace>, Fail> {
+    let (_, _, placing) = row.fails;
     let front = MemoryFront {
-        desks: vec![in alloc; desk]?,
+        desks: vec![in alloc; desk(alloc, row)?]?,
         script: Script::empty(alloc),
     };
     let mut words = Vec::new(alloc);
@@ -213,5 +223,20 @@ fn rows_of_one_session(rt: HostRuntime) -> Result<(), Fail> {
         }
         assert_eq!(rt; placed.as_slice(), row.placed, "at {at}");
     }
+    Ok(())
+}
+
+#[test]
+fn full_journal(rt: HostRuntime) -> Result<(), Fail> {
+    let alloc = rt.alloc();
+    let place = MemoryPlace::new(alloc, &[], Script::empty(alloc))?;
+    let mut shared = Shared {
+        root: Text::copy_of(alloc, "/r")?,
+        board: Board::new(alloc, place, 0),
+    };
+    let desk = desk(alloc, &DONE)?;
+    let (transcript, desk) = serve_session::<Toy<Brand>, _, _>(alloc, 1, desk, &mut shared);
+    assert_eq!(rt; desk.output.bytes.as_slice(), b"\x02\0\0\0\x02\x08\x0a");
+    assert!(rt; transcript.receipt.is_none());
     Ok(())
 }

@@ -1,8 +1,11 @@
 use Rattle.std.proofs.Common.{◌∙◌}
 use Rattle.std.proofs.lemmas.Result.{err_from_is_err_and}
-use Rattle.rx_engine.proofs.AnswerLemmas.{err-answers, err-enters, ok-answers}
-use Rattle.rx_engine.proofs.InputLemmas.{gives-none}
+use Rattle.rx_engine.proofs.AnswerLemmas.{declared-sorted, err-answers, err-enters, ok-answers}
+use Rattle.rx_world.proofs.AnswerLemmas.{gives-none}
 use Rattle.rx_engine.proofs.answers.answer.Goals as goal
+
+pub gather_inputs-requires : goal.gather_inputs-requires
+gather_inputs-requires g c = rw (c.as_slice.ensures, c.in_ok-inputs.ensures) (declared-sorted c.args.request.now)
 
 pub returns-in_err-command-clause-answers : goal.returns-in_err-command-clause-answers
 returns-in_err-command-clause-answers g c =

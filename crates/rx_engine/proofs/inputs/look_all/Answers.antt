@@ -1,6 +1,7 @@
 use Rattle.std.proofs.Common.{arith, length-append, ◌∷◌, []}
 use Rattle.std.proofs.lemmas.Result.{err_from_is_err_and}
-use Rattle.rx_engine.proofs.InputLemmas.{gives-join, looks-more-at, looks-refused-at}
+use Rattle.rx_world.proofs.AnswerLemmas.{gives-join}
+use Rattle.rx_engine.proofs.InputLemmas.{looks-more-at, looks-refused-at}
 use Rattle.rx_engine.proofs.inputs.look_all.Goals as goal
 
 pub returns-in_err-look-clause-err : goal.returns-in_err-look-clause-err

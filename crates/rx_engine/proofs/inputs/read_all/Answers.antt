@@ -1,6 +1,7 @@
 use Rattle.std.proofs.Common.{◌<◌, arith, length}
 use Rattle.std.proofs.lemmas.Result.{err_from_is_err_and}
-use Rattle.rx_engine.proofs.InputLemmas.{gives-join, gives-read, marks-more, paths-more, reads-refused-at, size-read}
+use Rattle.rx_world.proofs.AnswerLemmas.{gives-join}
+use Rattle.rx_engine.proofs.InputLemmas.{gives-read, marks-more, paths-more, reads-refused-at, size-read}
 use Rattle.rx_engine.proofs.inputs.read_all.Goals as goal
 
 pub returns-in_err-file-clause-err : goal.returns-in_err-file-clause-err
