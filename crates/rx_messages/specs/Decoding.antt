@@ -1,5 +1,5 @@
 -- A message of some bytes.
-use Rattle.std.specs.Prelude.{ℕ, Bool, List, Result, Ok, Err, if◌then◌else◌}
+use Rattle.std.specs.Prelude.{ℕ, Bool, true, List, Result, Ok, Err, if◌then◌else◌}
 use Rattle.rx_base.specs.Results.{◌>>=◌}
 use Rattle.rx_wire.specs.declared.faults.WireFault.{WireFault}
 use Rattle.rx_wire.specs.Values.{Field}
@@ -12,6 +12,10 @@ use Rattle.rx_messages.specs.declared.faults.MessageFault.TheVariants.{Wire, Not
 abbrev pub on_wire : {A : Type 0} → Result A WireFault → Result A MessageFault
 on_wire (Ok x) = Ok x
 on_wire (Err fault) = Err (Wire fault)
+
+-- a message that may be written in more than one form
+abbrev pub any_form : {A : Type 0} → List ℕ → A → Bool
+any_form bytes x = true
 
 -- First what the wire format refuses, by place. Then what the fields mean, by their numbers. Last, whether this is the one
 -- form in which it may be written.

@@ -34,6 +34,10 @@ IsPart (message parts) (varint n) = Unit {0}
 IsPart (message parts) (fixed64 n) = Unit {0}
 IsPart (message parts) (fixed32 n) = Unit {0}
 
+-- Each field is what its part says.
+abbrev pub HasParts : (ℕ → Part) → List Field → Type 0
+HasParts parts fields = AllByRecursion (λ f. IsPart (parts f.number) f.content) fields
+
 -- Bytes that are a message of these parts.
 abbrev pub IsMessage : (ℕ → Part) → List ℕ → Type 0
 IsMessage parts all = SpellsEach (λ f. IsPart (parts f.number) f.content) all

@@ -1,7 +1,7 @@
 //! What every message has: how its fields are checked, read and written, and from these how it is
 //! encoded and decoded.
 
-ghost use Rattle.std.specs.Prelude.{◌≡◌, ◌++◌, ℕ, List, Bool, Result, Ok, IfOk, IsOk, OnOk};
+ghost use Rattle.std.specs.Prelude.{◌≡◌, ◌++◌, ℕ, List, Bool, true, Result, Ok, IfOk, IsOk, OnOk};
 ghost use Rattle.rx_base.specs.Results.{Gives};
 ghost use Rattle.rx_wire.specs.Values.{Field};
 ghost use Rattle.rx_wire.specs.Fields.{placed_before};
@@ -39,25 +39,30 @@ pub trait Message: Shape + Sized + Drop {
     ghost IsReadable: { Self → Type 0 };
 
     /// Whether the field that was read last is text, or a message, where it has to be.
-    fn check_field(number: u32, value: Value<'_>, fields: &Fields<'_>) -> Result<(), WireFault>
-        ensures { result ≡ field_checked Self.parts fields.now.bytes (placed_before number value.entry fields.now) };
+    fn check_field(number: u32, value: Value<'_>, read: &Fields<'_>) -> Result<(), WireFault>
+        ensures { result ≡ field_checked Self.parts read.now.bytes (placed_before number value.entry read.now) };
 
     /// The message that these fields mean.
-    fn from_fields(alloc: Global, fields: &FieldList<'_, Self>) -> Result<Self, MessageFault>
-        ensures { Gives NoMemory (λ x. x) result (from fields.now) };
+    fn from_fields(alloc: Global, list: &FieldList<'_, Self>) -> Result<Self, MessageFault>
+        ensures { Gives NoMemory (λ x. x) result (from list.now) };
 
     /// Writes the message's fields.
     fn write(&self, alloc: Global, out: &mut Writer<Self>) -> Result<(), NoMemory>
-        ensures fields { OnOk result (out.new ≡ out.old ++ fields self.now) }
+        ensures written { OnOk result (out.new ≡ out.old ++ fields self.now) }
         ensures again { IsOk result → IsReadable self.now → from (fields self.now) ≡ Ok self.now };
 
     /// Whether these bytes are the one form of this message.
     fn has_one_form(&self, alloc: Global, bytes: &[u8]) -> Result<bool, NoMemory>
         ensures { IfOk result (λ one. one ≡ is_canonical bytes.now self.now) };
 
+    /// What is read again is written in that form.
+    ghost one_form: { (x : Self) → IsReadable x → is_canonical (fields_bytes (fields x)) x ≡ true };
+
     /// The message's bytes: its fields in the order of their numbers, defaults left out.
     final fn encode(&self, alloc: Global) -> Result<Vec<u8>, NoMemory>
         ensures bytes { IfOk result (λ bytes. bytes.items ≡ fields_bytes (fields self.now)) }
+        // What is written is read again.
+        ensures again { IfOk result (λ bytes. IsReadable self.now → decoded Self.parts from is_canonical bytes.items ≡ Ok self.now) }
     {
         let mut out = Writer::new(alloc);
         self.write(alloc, &mut out)?;
