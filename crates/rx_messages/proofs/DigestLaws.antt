@@ -84,9 +84,9 @@ pub digest_again : (digest : Digest) → length digest.hash ≡ 32 → IsBytes d
 unfolding digest_from digest_fields
 digest_again digest len h lt =
     let hash : text_in (contents 1 (digest_fields digest)) ≡ encode_lower digest.hash =
-        ap text_in (contents-append 1 (numbered 1 (text_put (encode_lower digest.hash))) (numbered 2 (number_put digest.size)) ∙ rw (contents-numbered 1 1 (text_put (encode_lower digest.hash)), contents-numbered 1 2 (number_put digest.size)) (append-nil (text_put (encode_lower digest.hash)))) ∙ text_again (encode_lower digest.hash) in
+    ap text_in (contents-append 1 (numbered 1 (text_put (encode_lower digest.hash))) (numbered 2 (number_put digest.size)) ∙ rw (contents-numbered 1 1 (text_put (encode_lower digest.hash)), contents-numbered 1 2 (number_put digest.size)) (append-nil (text_put (encode_lower digest.hash)))) ∙ text_again (encode_lower digest.hash) in
     let size : number_in (contents 2 (digest_fields digest)) ≡ digest.size =
-        ap number_in (contents-append 2 (numbered 1 (text_put (encode_lower digest.hash))) (numbered 2 (number_put digest.size)) ∙ rw (contents-numbered 2 1 (text_put (encode_lower digest.hash)), contents-numbered 2 2 (number_put digest.size)) refl) ∙ number_again digest.size in
+    ap number_in (contents-append 2 (numbered 1 (text_put (encode_lower digest.hash))) (numbered 2 (number_put digest.size)) ∙ rw (contents-numbered 2 1 (text_put (encode_lower digest.hash)), contents-numbered 2 2 (number_put digest.size)) refl) ∙ number_again digest.size in
     rw (hash, size) (read_at (encode_lower digest.hash) digest.hash digest.size (hash_text digest.hash len h) len h refl lt)
 
 -- ---- digits that are read

@@ -111,7 +111,7 @@ within all at p b le e r is =
     let v : SpellsContent (bytes b) s.value = subst (λ (c : Content). SpellsContent c s.value) is s.value_is in
     let front = s.tag ++ v.0 in
     let content-is : p.content ≡ at + length r.text - length b =
-        ap (λ (q : Placed). q.content) same ∙ ap (λ (c : Content). content_at c (at + length s.tag) (at + length r.text)) is in
+    ap (λ (q : Placed). q.content) same ∙ ap (λ (c : Content). content_at c (at + length s.tag) (at + length r.text)) is in
     let text-is : r.text ≡ front ++ b = s.whole ∙ ap (λ (t : List ℕ). s.tag ++ t) v.2 ∙ sym (append_assoc s.tag v.0 b) in
     let parts : drop at all ≡ front ++ (b ++ drop p.end all) = r.parts ∙ ap (λ (t : List ℕ). t ++ drop p.end all) text-is ∙ append_assoc front b (drop p.end all) in
     let rest : drop (at + length front) all ≡ b ++ drop p.end all = after all at front (b ++ drop p.end all) parts in
@@ -153,9 +153,9 @@ part_stands text all at p (fixed32 n) h le e r is m = tt
 part_stands (message parts) all at p (bytes b) h le e r is m =
     let w = within all at p b le e r is in
     subst (λ (t : List ℕ). IsMessage parts t) w.is (
-      fields_stand (λ (q : Placed). part_checked (parts q.field.number) (take p.end all) q q.field.content) (λ (f : Field). IsPart (parts f.number) f.content) (take p.end all) (IsBytes-take p.end all h)
-      (λ place q inside found reads passed. part_stands (parts q.field.number) (take p.end all) place q q.field.content (IsBytes-take p.end all h) inside found reads refl passed)
-      (length (take p.end all)) p.content (omega arith) w.le m
+    fields_stand (λ (q : Placed). part_checked (parts q.field.number) (take p.end all) q q.field.content) (λ (f : Field). IsPart (parts f.number) f.content) (take p.end all) (IsBytes-take p.end all h)
+    (λ place q inside found reads passed. part_stands (parts q.field.number) (take p.end all) place q q.field.content (IsBytes-take p.end all h) inside found reads refl passed)
+    (length (take p.end all)) p.content (omega arith) w.le m
     )
 part_stands (message parts) all at p (varint n) h le e r is m = tt
 part_stands (message parts) all at p (fixed64 n) h le e r is m = tt

@@ -1,10 +1,10 @@
 //! What is run on which tree (`remote_execution.proto`, Action).
 
 use crate::checking::check_message;
+use crate::commands::Platform;
 use crate::faults::MessageFault;
 use crate::field_list::FieldList;
 use crate::message::{Message, Shape};
-use crate::commands::Platform;
 use crate::writer::Writer;
 use rx_base::{Bytes, Digest, NoMemory};
 use rx_wire::{Fields, Value, WireFault};
@@ -43,16 +43,18 @@ impl Message for Duration {
     }
 
     #[tactic(auto, unfolding(crate::specs::Actions::duration_from))]
-    fn from_fields(alloc: Global, list: &FieldList<'_, Duration>) -> Result<Duration, MessageFault> {
+    fn from_fields(
+        alloc: Global,
+        list: &FieldList<'_, Duration>,
+    ) -> Result<Duration, MessageFault> {
         let seconds = list.int64(1);
-        Ok(Duration {
-            seconds,
-        })
+        Ok(Duration { seconds })
     }
 
     #[tactic(auto, unfolding(crate::specs::Actions::duration_fields))]
     fn write(&self, alloc: Global, out: &mut Writer<Duration>) -> Result<(), NoMemory> {
-        out.int64(1, self.seconds)
+        let seconds = self.seconds;
+        out.int64(1, seconds)
     }
 
     fn has_one_form(&self, alloc: Global, bytes: &[u8]) -> Result<bool, NoMemory> {

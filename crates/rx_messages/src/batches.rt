@@ -47,13 +47,13 @@ impl Message for BlobUpdate {
     }
 
     #[tactic(auto, unfolding(crate::specs::Batches::blob_update_from))]
-    fn from_fields(alloc: Global, list: &FieldList<'_, BlobUpdate>) -> Result<BlobUpdate, MessageFault> {
+    fn from_fields(
+        alloc: Global,
+        list: &FieldList<'_, BlobUpdate>,
+    ) -> Result<BlobUpdate, MessageFault> {
         let digest = list.message(alloc, 1)?;
         let body = list.bytes(alloc, 2)?;
-        Ok(BlobUpdate {
-            digest,
-            body,
-        })
+        Ok(BlobUpdate { digest, body })
     }
 
     #[tactic(auto, unfolding(crate::specs::Batches::blob_update_fields))]
@@ -105,7 +105,10 @@ impl Message for BatchUpdateBlobsRequest {
     }
 
     #[tactic(auto, unfolding(crate::specs::Batches::batch_update_blobs_request_from))]
-    fn from_fields(alloc: Global, list: &FieldList<'_, BatchUpdateBlobsRequest>) -> Result<BatchUpdateBlobsRequest, MessageFault> {
+    fn from_fields(
+        alloc: Global,
+        list: &FieldList<'_, BatchUpdateBlobsRequest>,
+    ) -> Result<BatchUpdateBlobsRequest, MessageFault> {
         let instance_name = list.text(alloc, 1)?;
         let requests = list.messages(alloc, 2)?;
         Ok(BatchUpdateBlobsRequest {
@@ -115,9 +118,13 @@ impl Message for BatchUpdateBlobsRequest {
     }
 
     #[tactic(auto, unfolding(crate::specs::Batches::batch_update_blobs_request_fields))]
-    fn write(&self, alloc: Global, out: &mut Writer<BatchUpdateBlobsRequest>) -> Result<(), NoMemory> {
+    fn write(
+        &self,
+        alloc: Global,
+        out: &mut Writer<BatchUpdateBlobsRequest>,
+    ) -> Result<(), NoMemory> {
         out.text(1, self.instance_name.as_str())?;
-        out.messages(alloc, 2, self.requests.as_slice())
+        out.messages(alloc, 2, &self.requests)
     }
 
     fn has_one_form(&self, alloc: Global, bytes: &[u8]) -> Result<bool, NoMemory> {
@@ -163,13 +170,13 @@ impl Message for BlobUpdated {
     }
 
     #[tactic(auto, unfolding(crate::specs::Batches::blob_updated_from))]
-    fn from_fields(alloc: Global, list: &FieldList<'_, BlobUpdated>) -> Result<BlobUpdated, MessageFault> {
+    fn from_fields(
+        alloc: Global,
+        list: &FieldList<'_, BlobUpdated>,
+    ) -> Result<BlobUpdated, MessageFault> {
         let digest = list.message(alloc, 1)?;
         let status = list.message(alloc, 2)?;
-        Ok(BlobUpdated {
-            digest,
-            status,
-        })
+        Ok(BlobUpdated { digest, status })
     }
 
     #[tactic(auto, unfolding(crate::specs::Batches::blob_updated_fields))]
@@ -219,16 +226,21 @@ impl Message for BatchUpdateBlobsResponse {
     }
 
     #[tactic(auto, unfolding(crate::specs::Batches::batch_update_blobs_response_from))]
-    fn from_fields(alloc: Global, list: &FieldList<'_, BatchUpdateBlobsResponse>) -> Result<BatchUpdateBlobsResponse, MessageFault> {
+    fn from_fields(
+        alloc: Global,
+        list: &FieldList<'_, BatchUpdateBlobsResponse>,
+    ) -> Result<BatchUpdateBlobsResponse, MessageFault> {
         let responses = list.messages(alloc, 1)?;
-        Ok(BatchUpdateBlobsResponse {
-            responses,
-        })
+        Ok(BatchUpdateBlobsResponse { responses })
     }
 
     #[tactic(auto, unfolding(crate::specs::Batches::batch_update_blobs_response_fields))]
-    fn write(&self, alloc: Global, out: &mut Writer<BatchUpdateBlobsResponse>) -> Result<(), NoMemory> {
-        out.messages(alloc, 1, self.responses.as_slice())
+    fn write(
+        &self,
+        alloc: Global,
+        out: &mut Writer<BatchUpdateBlobsResponse>,
+    ) -> Result<(), NoMemory> {
+        out.messages(alloc, 1, &self.responses)
     }
 
     fn has_one_form(&self, alloc: Global, bytes: &[u8]) -> Result<bool, NoMemory> {
@@ -274,7 +286,10 @@ impl Message for BatchReadBlobsRequest {
     }
 
     #[tactic(auto, unfolding(crate::specs::Batches::batch_read_blobs_request_from))]
-    fn from_fields(alloc: Global, list: &FieldList<'_, BatchReadBlobsRequest>) -> Result<BatchReadBlobsRequest, MessageFault> {
+    fn from_fields(
+        alloc: Global,
+        list: &FieldList<'_, BatchReadBlobsRequest>,
+    ) -> Result<BatchReadBlobsRequest, MessageFault> {
         let instance_name = list.text(alloc, 1)?;
         let digests = list.messages(alloc, 2)?;
         Ok(BatchReadBlobsRequest {
@@ -284,9 +299,13 @@ impl Message for BatchReadBlobsRequest {
     }
 
     #[tactic(auto, unfolding(crate::specs::Batches::batch_read_blobs_request_fields))]
-    fn write(&self, alloc: Global, out: &mut Writer<BatchReadBlobsRequest>) -> Result<(), NoMemory> {
+    fn write(
+        &self,
+        alloc: Global,
+        out: &mut Writer<BatchReadBlobsRequest>,
+    ) -> Result<(), NoMemory> {
         out.text(1, self.instance_name.as_str())?;
-        out.messages(alloc, 2, self.digests.as_slice())
+        out.messages(alloc, 2, &self.digests)
     }
 
     fn has_one_form(&self, alloc: Global, bytes: &[u8]) -> Result<bool, NoMemory> {
@@ -333,7 +352,10 @@ impl Message for BlobRead {
     }
 
     #[tactic(auto, unfolding(crate::specs::Batches::blob_read_from))]
-    fn from_fields(alloc: Global, list: &FieldList<'_, BlobRead>) -> Result<BlobRead, MessageFault> {
+    fn from_fields(
+        alloc: Global,
+        list: &FieldList<'_, BlobRead>,
+    ) -> Result<BlobRead, MessageFault> {
         let digest = list.message(alloc, 1)?;
         let body = list.bytes(alloc, 2)?;
         let status = list.message(alloc, 3)?;
@@ -392,16 +414,21 @@ impl Message for BatchReadBlobsResponse {
     }
 
     #[tactic(auto, unfolding(crate::specs::Batches::batch_read_blobs_response_from))]
-    fn from_fields(alloc: Global, list: &FieldList<'_, BatchReadBlobsResponse>) -> Result<BatchReadBlobsResponse, MessageFault> {
+    fn from_fields(
+        alloc: Global,
+        list: &FieldList<'_, BatchReadBlobsResponse>,
+    ) -> Result<BatchReadBlobsResponse, MessageFault> {
         let responses = list.messages(alloc, 1)?;
-        Ok(BatchReadBlobsResponse {
-            responses,
-        })
+        Ok(BatchReadBlobsResponse { responses })
     }
 
     #[tactic(auto, unfolding(crate::specs::Batches::batch_read_blobs_response_fields))]
-    fn write(&self, alloc: Global, out: &mut Writer<BatchReadBlobsResponse>) -> Result<(), NoMemory> {
-        out.messages(alloc, 1, self.responses.as_slice())
+    fn write(
+        &self,
+        alloc: Global,
+        out: &mut Writer<BatchReadBlobsResponse>,
+    ) -> Result<(), NoMemory> {
+        out.messages(alloc, 1, &self.responses)
     }
 
     fn has_one_form(&self, alloc: Global, bytes: &[u8]) -> Result<bool, NoMemory> {

@@ -47,7 +47,10 @@ impl Message for FindMissingBlobsRequest {
     }
 
     #[tactic(auto, unfolding(crate::specs::Blobs::find_missing_blobs_request_from))]
-    fn from_fields(alloc: Global, list: &FieldList<'_, FindMissingBlobsRequest>) -> Result<FindMissingBlobsRequest, MessageFault> {
+    fn from_fields(
+        alloc: Global,
+        list: &FieldList<'_, FindMissingBlobsRequest>,
+    ) -> Result<FindMissingBlobsRequest, MessageFault> {
         let instance_name = list.text(alloc, 1)?;
         let blob_digests = list.messages(alloc, 2)?;
         Ok(FindMissingBlobsRequest {
@@ -57,9 +60,13 @@ impl Message for FindMissingBlobsRequest {
     }
 
     #[tactic(auto, unfolding(crate::specs::Blobs::find_missing_blobs_request_fields))]
-    fn write(&self, alloc: Global, out: &mut Writer<FindMissingBlobsRequest>) -> Result<(), NoMemory> {
+    fn write(
+        &self,
+        alloc: Global,
+        out: &mut Writer<FindMissingBlobsRequest>,
+    ) -> Result<(), NoMemory> {
         out.text(1, self.instance_name.as_str())?;
-        out.messages(alloc, 2, self.blob_digests.as_slice())
+        out.messages(alloc, 2, &self.blob_digests)
     }
 
     fn has_one_form(&self, alloc: Global, bytes: &[u8]) -> Result<bool, NoMemory> {
@@ -103,7 +110,10 @@ impl Message for FindMissingBlobsResponse {
     }
 
     #[tactic(auto, unfolding(crate::specs::Blobs::find_missing_blobs_response_from))]
-    fn from_fields(alloc: Global, list: &FieldList<'_, FindMissingBlobsResponse>) -> Result<FindMissingBlobsResponse, MessageFault> {
+    fn from_fields(
+        alloc: Global,
+        list: &FieldList<'_, FindMissingBlobsResponse>,
+    ) -> Result<FindMissingBlobsResponse, MessageFault> {
         let missing_blob_digests = list.messages(alloc, 2)?;
         Ok(FindMissingBlobsResponse {
             missing_blob_digests,
@@ -111,8 +121,12 @@ impl Message for FindMissingBlobsResponse {
     }
 
     #[tactic(auto, unfolding(crate::specs::Blobs::find_missing_blobs_response_fields))]
-    fn write(&self, alloc: Global, out: &mut Writer<FindMissingBlobsResponse>) -> Result<(), NoMemory> {
-        out.messages(alloc, 2, self.missing_blob_digests.as_slice())
+    fn write(
+        &self,
+        alloc: Global,
+        out: &mut Writer<FindMissingBlobsResponse>,
+    ) -> Result<(), NoMemory> {
+        out.messages(alloc, 2, &self.missing_blob_digests)
     }
 
     fn has_one_form(&self, alloc: Global, bytes: &[u8]) -> Result<bool, NoMemory> {

@@ -46,13 +46,13 @@ impl Message for EnvironmentVariable {
     }
 
     #[tactic(auto, unfolding(crate::specs::Commands::environment_variable_from))]
-    fn from_fields(alloc: Global, list: &FieldList<'_, EnvironmentVariable>) -> Result<EnvironmentVariable, MessageFault> {
+    fn from_fields(
+        alloc: Global,
+        list: &FieldList<'_, EnvironmentVariable>,
+    ) -> Result<EnvironmentVariable, MessageFault> {
         let name = list.text(alloc, 1)?;
         let value = list.text(alloc, 2)?;
-        Ok(EnvironmentVariable {
-            name,
-            value,
-        })
+        Ok(EnvironmentVariable { name, value })
     }
 
     #[tactic(auto, unfolding(crate::specs::Commands::environment_variable_fields))]
@@ -103,13 +103,13 @@ impl Message for Property {
     }
 
     #[tactic(auto, unfolding(crate::specs::Commands::property_from))]
-    fn from_fields(alloc: Global, list: &FieldList<'_, Property>) -> Result<Property, MessageFault> {
+    fn from_fields(
+        alloc: Global,
+        list: &FieldList<'_, Property>,
+    ) -> Result<Property, MessageFault> {
         let name = list.text(alloc, 1)?;
         let value = list.text(alloc, 2)?;
-        Ok(Property {
-            name,
-            value,
-        })
+        Ok(Property { name, value })
     }
 
     #[tactic(auto, unfolding(crate::specs::Commands::property_fields))]
@@ -159,16 +159,17 @@ impl Message for Platform {
     }
 
     #[tactic(auto, unfolding(crate::specs::Commands::platform_from))]
-    fn from_fields(alloc: Global, list: &FieldList<'_, Platform>) -> Result<Platform, MessageFault> {
+    fn from_fields(
+        alloc: Global,
+        list: &FieldList<'_, Platform>,
+    ) -> Result<Platform, MessageFault> {
         let properties = list.messages(alloc, 1)?;
-        Ok(Platform {
-            properties,
-        })
+        Ok(Platform { properties })
     }
 
     #[tactic(auto, unfolding(crate::specs::Commands::platform_fields))]
     fn write(&self, alloc: Global, out: &mut Writer<Platform>) -> Result<(), NoMemory> {
-        out.messages(alloc, 1, self.properties.as_slice())
+        out.messages(alloc, 1, &self.properties)
     }
 
     fn has_one_form(&self, alloc: Global, bytes: &[u8]) -> Result<bool, NoMemory> {
@@ -242,13 +243,13 @@ impl Message for Command {
 
     #[tactic(auto, unfolding(crate::specs::Commands::command_fields))]
     fn write(&self, alloc: Global, out: &mut Writer<Command>) -> Result<(), NoMemory> {
-        out.texts(1, self.arguments.as_slice())?;
-        out.messages(alloc, 2, self.environment_variables.as_slice())?;
-        out.texts(3, self.output_files.as_slice())?;
-        out.texts(4, self.output_directories.as_slice())?;
+        out.texts(1, &self.arguments)?;
+        out.messages(alloc, 2, &self.environment_variables)?;
+        out.texts(3, &self.output_files)?;
+        out.texts(4, &self.output_directories)?;
         out.message(alloc, 5, &self.platform)?;
         out.text(6, self.working_directory.as_str())?;
-        out.texts(7, self.output_paths.as_slice())
+        out.texts(7, &self.output_paths)
     }
 
     fn has_one_form(&self, alloc: Global, bytes: &[u8]) -> Result<bool, NoMemory> {

@@ -119,11 +119,7 @@ impl<'a, M: Shape> FieldList<'a, M> {
 
     /// A message, of all its pieces, or none.
     #[tactic(auto, unfolding(crate::specs::Contents::one_in))]
-    pub fn message<N: Message>(
-        &self,
-        alloc: Global,
-        number: u32,
-    ) -> Result<Option<N>, MessageFault>
+    pub fn message<N: Message>(&self, alloc: Global, number: u32) -> Result<Option<N>, MessageFault>
         requires { M.parts number ≡ message N.parts }
         ensures { Gives NoMemory (λ x. x) result (one_in N.from (contents number self.now)) }
     {
@@ -136,11 +132,7 @@ impl<'a, M: Shape> FieldList<'a, M> {
 
     /// Messages, in order.
     #[tactic(auto, unfolding(crate::specs::Contents::each_in))]
-    pub fn messages<N: Message>(
-        &self,
-        alloc: Global,
-        number: u32,
-    ) -> Result<Items<N>, MessageFault>
+    pub fn messages<N: Message>(&self, alloc: Global, number: u32) -> Result<Items<N>, MessageFault>
         requires { M.parts number ≡ message N.parts }
         ensures { Gives NoMemory (λ x. x) result (each_in N.from (contents number self.now)) }
     {

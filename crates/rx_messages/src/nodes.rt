@@ -48,7 +48,10 @@ impl Message for FileNode {
     }
 
     #[tactic(auto, unfolding(crate::specs::Nodes::file_node_from))]
-    fn from_fields(alloc: Global, list: &FieldList<'_, FileNode>) -> Result<FileNode, MessageFault> {
+    fn from_fields(
+        alloc: Global,
+        list: &FieldList<'_, FileNode>,
+    ) -> Result<FileNode, MessageFault> {
         let name = list.text(alloc, 1)?;
         let digest = list.message(alloc, 2)?;
         let is_executable = list.truth(4);
@@ -109,13 +112,13 @@ impl Message for DirectoryNode {
     }
 
     #[tactic(auto, unfolding(crate::specs::Nodes::directory_node_from))]
-    fn from_fields(alloc: Global, list: &FieldList<'_, DirectoryNode>) -> Result<DirectoryNode, MessageFault> {
+    fn from_fields(
+        alloc: Global,
+        list: &FieldList<'_, DirectoryNode>,
+    ) -> Result<DirectoryNode, MessageFault> {
         let name = list.text(alloc, 1)?;
         let digest = list.message(alloc, 2)?;
-        Ok(DirectoryNode {
-            name,
-            digest,
-        })
+        Ok(DirectoryNode { name, digest })
     }
 
     #[tactic(auto, unfolding(crate::specs::Nodes::directory_node_fields))]
@@ -166,13 +169,13 @@ impl Message for SymlinkNode {
     }
 
     #[tactic(auto, unfolding(crate::specs::Nodes::symlink_node_from))]
-    fn from_fields(alloc: Global, list: &FieldList<'_, SymlinkNode>) -> Result<SymlinkNode, MessageFault> {
+    fn from_fields(
+        alloc: Global,
+        list: &FieldList<'_, SymlinkNode>,
+    ) -> Result<SymlinkNode, MessageFault> {
         let name = list.text(alloc, 1)?;
         let target = list.text(alloc, 2)?;
-        Ok(SymlinkNode {
-            name,
-            target,
-        })
+        Ok(SymlinkNode { name, target })
     }
 
     #[tactic(auto, unfolding(crate::specs::Nodes::symlink_node_fields))]

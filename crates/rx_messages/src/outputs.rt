@@ -49,7 +49,10 @@ impl Message for OutputFile {
     }
 
     #[tactic(auto, unfolding(crate::specs::Outputs::output_file_from))]
-    fn from_fields(alloc: Global, list: &FieldList<'_, OutputFile>) -> Result<OutputFile, MessageFault> {
+    fn from_fields(
+        alloc: Global,
+        list: &FieldList<'_, OutputFile>,
+    ) -> Result<OutputFile, MessageFault> {
         let path = list.text(alloc, 1)?;
         let digest = list.message(alloc, 2)?;
         let is_executable = list.truth(4);
@@ -113,13 +116,13 @@ impl Message for OutputDirectory {
     }
 
     #[tactic(auto, unfolding(crate::specs::Outputs::output_directory_from))]
-    fn from_fields(alloc: Global, list: &FieldList<'_, OutputDirectory>) -> Result<OutputDirectory, MessageFault> {
+    fn from_fields(
+        alloc: Global,
+        list: &FieldList<'_, OutputDirectory>,
+    ) -> Result<OutputDirectory, MessageFault> {
         let path = list.text(alloc, 1)?;
         let tree_digest = list.message(alloc, 3)?;
-        Ok(OutputDirectory {
-            path,
-            tree_digest,
-        })
+        Ok(OutputDirectory { path, tree_digest })
     }
 
     #[tactic(auto, unfolding(crate::specs::Outputs::output_directory_fields))]
@@ -170,13 +173,13 @@ impl Message for OutputSymlink {
     }
 
     #[tactic(auto, unfolding(crate::specs::Outputs::output_symlink_from))]
-    fn from_fields(alloc: Global, list: &FieldList<'_, OutputSymlink>) -> Result<OutputSymlink, MessageFault> {
+    fn from_fields(
+        alloc: Global,
+        list: &FieldList<'_, OutputSymlink>,
+    ) -> Result<OutputSymlink, MessageFault> {
         let path = list.text(alloc, 1)?;
         let target = list.text(alloc, 2)?;
-        Ok(OutputSymlink {
-            path,
-            target,
-        })
+        Ok(OutputSymlink { path, target })
     }
 
     #[tactic(auto, unfolding(crate::specs::Outputs::output_symlink_fields))]

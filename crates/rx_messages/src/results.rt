@@ -59,7 +59,10 @@ impl Message for ActionResult {
     }
 
     #[tactic(auto, unfolding(crate::specs::Results::action_result_from))]
-    fn from_fields(alloc: Global, list: &FieldList<'_, ActionResult>) -> Result<ActionResult, MessageFault> {
+    fn from_fields(
+        alloc: Global,
+        list: &FieldList<'_, ActionResult>,
+    ) -> Result<ActionResult, MessageFault> {
         let output_files = list.messages(alloc, 2)?;
         let output_directories = list.messages(alloc, 3)?;
         let exit_code = list.int32(4);
@@ -84,15 +87,16 @@ impl Message for ActionResult {
 
     #[tactic(auto, unfolding(crate::specs::Results::action_result_fields))]
     fn write(&self, alloc: Global, out: &mut Writer<ActionResult>) -> Result<(), NoMemory> {
-        out.messages(alloc, 2, self.output_files.as_slice())?;
-        out.messages(alloc, 3, self.output_directories.as_slice())?;
-        out.int32(4, self.exit_code)?;
+        let exit_code = self.exit_code;
+        out.messages(alloc, 2, &self.output_files)?;
+        out.messages(alloc, 3, &self.output_directories)?;
+        out.int32(4, exit_code)?;
         out.bytes(5, self.stdout_raw.as_slice())?;
         out.message(alloc, 6, &self.stdout_digest)?;
         out.bytes(7, self.stderr_raw.as_slice())?;
         out.message(alloc, 8, &self.stderr_digest)?;
         out.bytes(9, self.execution_metadata.as_slice())?;
-        out.messages(alloc, 12, self.output_symlinks.as_slice())
+        out.messages(alloc, 12, &self.output_symlinks)
     }
 
     fn has_one_form(&self, alloc: Global, bytes: &[u8]) -> Result<bool, NoMemory> {

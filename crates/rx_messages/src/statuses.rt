@@ -49,10 +49,7 @@ impl Message for Any {
     fn from_fields(alloc: Global, list: &FieldList<'_, Any>) -> Result<Any, MessageFault> {
         let type_url = list.text(alloc, 1)?;
         let value = list.bytes(alloc, 2)?;
-        Ok(Any {
-            type_url,
-            value,
-        })
+        Ok(Any { type_url, value })
     }
 
     #[tactic(auto, unfolding(crate::specs::Statuses::any_fields))]
@@ -118,9 +115,10 @@ impl Message for Status {
 
     #[tactic(auto, unfolding(crate::specs::Statuses::status_fields))]
     fn write(&self, alloc: Global, out: &mut Writer<Status>) -> Result<(), NoMemory> {
-        out.int32(1, self.code)?;
+        let code = self.code;
+        out.int32(1, code)?;
         out.text(2, self.message.as_str())?;
-        out.messages(alloc, 3, self.details.as_slice())
+        out.messages(alloc, 3, &self.details)
     }
 
     fn has_one_form(&self, alloc: Global, bytes: &[u8]) -> Result<bool, NoMemory> {

@@ -8,7 +8,7 @@ ghost use Rattle.rx_messages.specs.FieldBytes.{contents, fields_in, fields_bytes
 ghost use Rattle.rx_messages.specs.Parts.{IsMessage, IsPart, anything, text, message};
 
 use crate::message::{Message, Shape};
-use rx_base::{NoMemory, Text};
+use rx_base::{Items, NoMemory, Text};
 use rx_wire::Out;
 use std::alloc::Global;
 use std::marker::{Model, PhantomData};
@@ -152,13 +152,24 @@ impl<M: Shape> Writer<M> {
     }
 
     /// Texts, each a field, also an empty one.
-    #[tactic(auto, using(crate::proofs::ContentLaws::texts_again, crate::proofs::ContentLaws::part_is_text), unfolding(crate::specs::Contents::texts_put))]
-    pub fn texts(&mut self, number: u32, values: &[Text]) -> Result<(), NoMemory>
+    #[tactic(auto, using(crate::proofs::ContentLaws::texts_again))]
+    pub fn texts(&mut self, number: u32, values: &Items<Text>) -> Result<(), NoMemory>
         requires above { 0 < number }
         requires below { number < 2 ^ 29 }
         requires part { M.parts number ≡ text }
         ensures fields { OnOk result (self.new ≡ self.old ++ numbered number (texts_put values.now)) }
         ensures again { texts_in (texts_put values.now) ≡ values.now }
+    {
+        self.push_texts(number, values.as_slice())
+    }
+
+    /// Fields that are texts.
+    #[tactic(auto, using(crate::proofs::ContentLaws::part_is_text), unfolding(crate::specs::Contents::texts_put))]
+    fn push_texts(&mut self, number: u32, values: &[Text]) -> Result<(), NoMemory>
+        requires above { 0 < number }
+        requires below { number < 2 ^ 29 }
+        requires part { M.parts number ≡ text }
+        ensures { OnOk result (self.new ≡ self.old ++ numbered number (texts_put values.now)) }
     {
         for value in values {
             self.push_bytes(number, value.as_str().as_bytes())?;
@@ -205,8 +216,24 @@ impl<M: Shape> Writer<M> {
     }
 
     /// Messages, each a field.
-    #[tactic(auto, unfolding(crate::specs::Contents::each_put))]
     pub fn messages<N: Message>(
+        &mut self,
+        alloc: Global,
+        number: u32,
+        values: &Items<N>,
+    ) -> Result<(), NoMemory>
+        requires above { 0 < number }
+        requires below { number < 2 ^ 29 }
+        requires part { M.parts number ≡ message N.parts }
+        ensures fields { OnOk result (self.new ≡ self.old ++ numbered number (each_put N.fields values.now)) }
+        ensures again { IsOk result → AllByRecursion N.IsReadable values.now → each_in N.from (each_put N.fields values.now) ≡ Ok values.now }
+    {
+        self.push_messages(alloc, number, values.as_slice())
+    }
+
+    /// Fields that are messages.
+    #[tactic(auto, unfolding(crate::specs::Contents::each_put))]
+    fn push_messages<N: Message>(
         &mut self,
         alloc: Global,
         number: u32,

@@ -11,7 +11,7 @@ loop-field-init c = rw c.new-found.ensures.items refl
 pub loop-field-preserved : goal.loop-field-preserved
 loop-field-preserved c = elim c.match-chunk_in.branch [
   | in-Some+in_ok-push w ↦ rw (w.found-is, w.in_ok-push.ensures.items) (
-    slices-push _ _ ∙ ap (λ (xs : List (List ℕ)). xs ++ w.in-Some.bytes.now ∷ []) c.loop-field.invariant ∙ sym (chunks_some _ _ _ _ c.loop-field-test.true _ w.in-Some.ensures)
-  )
+      slices-push _ _ ∙ ap (λ (xs : List (List ℕ)). xs ++ w.in-Some.bytes.now ∷ []) c.loop-field.invariant ∙ sym (chunks_some _ _ _ _ c.loop-field-test.true _ w.in-Some.ensures)
+      )
   | in_default w ↦ rw w.found-is (c.loop-field.invariant ∙ sym (chunks_none _ _ _ _ c.loop-field-test.true w.in_default.ensures))
 ]

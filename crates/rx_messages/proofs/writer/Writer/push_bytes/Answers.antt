@@ -11,6 +11,6 @@ invariant_of-self g c =
 pub returns : goal.returns
 returns g c =
     rw (← c.self.view_is) (
-      fields_either c.bytes.result g.M.Shape.parts c.self.inside.out c.bytes.new.self (record { number = c.args.number; content = bytes c.args.value.now }) c.self.invariant
-      c.bytes.ensures.fields c.bytes.ensures.ok c.requires.part
+    fields_either c.bytes.result g.M.Shape.parts c.self.inside.out c.bytes.new.self (record { number = c.args.number; content = bytes c.args.value.now }) c.self.invariant
+    c.bytes.ensures.fields c.bytes.ensures.ok c.requires.part
     )

@@ -11,6 +11,6 @@ invariant_of-self g c =
 pub returns : goal.returns
 returns g c =
     rw (← c.self.view_is) (
-      fields_either c.varint.result g.M.Shape.parts c.self.inside.out c.varint.new.self (record { number = c.args.number; content = varint c.args.value }) c.self.invariant
-      c.varint.ensures.fields c.varint.ensures.ok (part_of_varint (g.M.Shape.parts c.args.number) c.args.value)
+    fields_either c.varint.result g.M.Shape.parts c.self.inside.out c.varint.new.self (record { number = c.args.number; content = varint c.args.value }) c.self.invariant
+    c.varint.ensures.fields c.varint.ensures.ok (part_of_varint (g.M.Shape.parts c.args.number) c.args.value)
     )

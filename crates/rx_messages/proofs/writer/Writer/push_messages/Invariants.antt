@@ -3,7 +3,7 @@ use Rattle.std.specs.List.{AllByRecursion}
 use Rattle.rx_messages.specs.Contents.{each_put}
 use Rattle.rx_messages.specs.FieldBytes.{numbered}
 use Rattle.rx_messages.proofs.ContentLaws.{ReadsBack}
-use Rattle.rx_messages.proofs.writer.Writer.messages.Given as goal
+use Rattle.rx_messages.proofs.writer.Writer.push_messages.Given as goal
 
 abbrev pub invariant-loop-value : goal.invariant-loop-value
 invariant-loop-value g l = record {
