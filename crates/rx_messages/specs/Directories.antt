@@ -1,5 +1,5 @@
 -- What is directly in a directory, and the one form in which it is written (remote_execution.proto, Directory).
-use Rattle.std.specs.Prelude.{◌≡◌, ℕ, ◌==◌, List, ◌++◌, map, Result, Ok, IsSome, if◌then◌else◌}
+use Rattle.std.specs.Prelude.{◌≡◌, ℕ, ◌==◌, Bool, true, false, not, List, ◌++◌, map, Result, Ok, is_some, if◌then◌else◌}
 use Rattle.rx_base.specs.Results.{◌>>=◌}
 use Rattle.rx_wire.specs.Values.{Field}
 use Rattle.rx_messages.specs.Contents.{each_in, each_put}
@@ -7,11 +7,9 @@ use Rattle.rx_messages.specs.FieldBytes.{contents, fields_bytes, numbered}
 use Rattle.rx_messages.specs.Nodes.{directory_node_fields, directory_node_from, directory_node_is_readable, directory_node_parts, file_node_fields, file_node_from, file_node_is_readable, file_node_parts, symlink_node_fields, symlink_node_from, symlink_node_parts}
 use Rattle.rx_messages.specs.Parts.{Part, anything, message}
 use Rattle.rx_messages.specs.declared.faults.MessageFault.{MessageFault}
-use Rattle.std.specs.Ordering.{nat_cmp}
-use Rattle.std.specs.Cmp.Lexicographic.{slice_cmp}
-use Rattle.std.specs.List.{AllByRecursion, Contains}
-use Rattle.std.specs.List.Sorted.{IsStrictlySortedBy}
-use Rattle.rx_base.specs.Paths.{IsName}
+use Rattle.std.specs.List.{AllByRecursion}
+use Rattle.std.specs.Str.{bytes_eq}
+use Rattle.rx_messages.specs.Names.{are_distinct, entries_hold}
 use Rattle.rx_messages.specs.declared.nodes.FileNode.{FileNode}
 use Rattle.rx_messages.specs.declared.nodes.DirectoryNode.{DirectoryNode}
 use Rattle.rx_messages.specs.declared.nodes.SymlinkNode.{SymlinkNode}
@@ -53,28 +51,29 @@ directory_names directory = map (λ (node : DirectoryNode). node.name) directory
 abbrev pub symlink_names : Directory → List (List ℕ)
 symlink_names directory = map (λ (node : SymlinkNode). node.name) directory.symlinks
 
--- sorted by their bytes, none twice
-abbrev pub IsSorted : List (List ℕ) → Type 0
-IsSorted names = IsStrictlySortedBy (slice_cmp nat_cmp) names
+-- all names in a Directory
+abbrev pub entry_names : Directory → List (List ℕ)
+entry_names directory = file_names directory ++ directory_names directory ++ symlink_names directory
 
--- no name is in both lists
-abbrev pub IsApart : List (List ℕ) → List (List ℕ) → Type 0
-IsApart names others = (name : List ℕ) → Contains names name → Contains others name → ⊥
+-- Each list is sorted by the bytes of the names, each name is a name of a path, and each file and directory has its digest.
+unfoldable pub lists_hold : Directory → Bool
+lists_hold directory =
+    if not (entries_hold (λ (node : FileNode). node.name) (λ (node : FileNode). is_some node.digest) directory.files) then false
+    else if not (entries_hold (λ (node : DirectoryNode). node.name) (λ (node : DirectoryNode). is_some node.digest) directory.directories) then false
+    else entries_hold (λ (node : SymlinkNode). node.name) (λ (node : SymlinkNode). true) directory.symlinks
 
--- A Directory as it may be written: each list in the order of the names' bytes, no name twice, each a name of a path, and
--- each file and directory with its digest.
-pub record IsCanonical (directory : Directory) : Type 0 where
-  pub files_sorted : IsSorted (file_names directory)
-  pub directories_sorted : IsSorted (directory_names directory)
-  pub symlinks_sorted : IsSorted (symlink_names directory)
-  pub files_apart : IsApart (file_names directory) (directory_names directory)
-  pub links_apart : IsApart (symlink_names directory) (file_names directory ++ directory_names directory)
-  pub files_named : AllByRecursion IsName (file_names directory)
-  pub directories_named : AllByRecursion IsName (directory_names directory)
-  pub symlinks_named : AllByRecursion IsName (symlink_names directory)
-  pub files_have_digests : AllByRecursion (λ (node : FileNode). IsSome node.digest) directory.files
-  pub directories_have_digests : AllByRecursion (λ (node : DirectoryNode). IsSome node.digest) directory.directories
+-- besides, no name is in it twice
+unfoldable pub is_canonical : Directory → Bool
+is_canonical directory = if not (lists_hold directory) then false else are_distinct (entry_names directory)
+
+-- the bytes are those that are written for a Directory in canonical form
+unfoldable pub directory_has_one_form : List ℕ → Directory → Bool
+directory_has_one_form bytes directory = if not (is_canonical directory) then false else bytes_eq bytes (directory_bytes directory)
 
 -- each size is below 2^63
 abbrev pub HasSizes : Directory → Type 0
 HasSizes directory = AllByRecursion file_node_is_readable directory.files × AllByRecursion directory_node_is_readable directory.directories
+
+-- what is read again as it was written
+abbrev pub directory_is_readable : Directory → Type 0
+directory_is_readable directory = (is_canonical directory ≡ true) × AllByRecursion file_node_is_readable directory.files × AllByRecursion directory_node_is_readable directory.directories

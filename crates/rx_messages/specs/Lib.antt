@@ -7,10 +7,12 @@ pub mod Decoding
 pub mod Digests
 pub mod Directories
 pub mod FieldBytes
+pub mod Names
 pub mod Nodes
 pub mod Outputs
 pub mod Parts
 pub mod Results
 pub mod Seen
 pub mod Statuses
+pub mod Trees
 pub mod Written

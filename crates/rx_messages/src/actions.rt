@@ -23,7 +23,6 @@ impl Shape for Duration {
 }
 
 impl Message for Duration {
-    ghost use Rattle.std.specs.Prelude.{refl};
     ghost use Rattle.rx_messages.specs.Decoding.{any_form};
     ghost use Rattle.rx_messages.specs.Actions.{duration_fields, duration_from, duration_is_readable};
 
@@ -34,8 +33,6 @@ impl Message for Duration {
     ghost is_canonical = { any_form };
 
     ghost IsReadable = { duration_is_readable };
-
-    ghost one_form = { λ x can. refl };
 
     #[tactic(auto, unfolding(crate::specs::Parts::part_checked))]
     fn check_field(number: u32, value: Value<'_>, read: &Fields<'_>) -> Result<(), WireFault> {
@@ -81,7 +78,6 @@ impl Shape for Action {
 }
 
 impl Message for Action {
-    ghost use Rattle.std.specs.Prelude.{refl};
     ghost use Rattle.rx_messages.specs.Decoding.{any_form};
     ghost use Rattle.rx_messages.specs.Actions.{action_fields, action_from, action_is_readable};
 
@@ -92,8 +88,6 @@ impl Message for Action {
     ghost is_canonical = { any_form };
 
     ghost IsReadable = { action_is_readable };
-
-    ghost one_form = { λ x can. refl };
 
     #[tactic(auto, unfolding(crate::specs::Parts::part_checked))]
     fn check_field(number: u32, value: Value<'_>, read: &Fields<'_>) -> Result<(), WireFault> {

@@ -24,7 +24,6 @@ impl Shape for BlobUpdate {
 }
 
 impl Message for BlobUpdate {
-    ghost use Rattle.std.specs.Prelude.{refl};
     ghost use Rattle.rx_messages.specs.Decoding.{any_form};
     ghost use Rattle.rx_messages.specs.Batches.{blob_update_fields, blob_update_from, blob_update_is_readable};
 
@@ -35,8 +34,6 @@ impl Message for BlobUpdate {
     ghost is_canonical = { any_form };
 
     ghost IsReadable = { blob_update_is_readable };
-
-    ghost one_form = { λ x can. refl };
 
     #[tactic(auto, unfolding(crate::specs::Parts::part_checked))]
     fn check_field(number: u32, value: Value<'_>, read: &Fields<'_>) -> Result<(), WireFault> {
@@ -81,7 +78,6 @@ impl Shape for BatchUpdateBlobsRequest {
 }
 
 impl Message for BatchUpdateBlobsRequest {
-    ghost use Rattle.std.specs.Prelude.{refl};
     ghost use Rattle.rx_messages.specs.Decoding.{any_form};
     ghost use Rattle.rx_messages.specs.Batches.{batch_update_blobs_request_fields, batch_update_blobs_request_from, batch_update_blobs_request_is_readable};
 
@@ -92,8 +88,6 @@ impl Message for BatchUpdateBlobsRequest {
     ghost is_canonical = { any_form };
 
     ghost IsReadable = { batch_update_blobs_request_is_readable };
-
-    ghost one_form = { λ x can. refl };
 
     #[tactic(auto, unfolding(crate::specs::Parts::part_checked))]
     fn check_field(number: u32, value: Value<'_>, read: &Fields<'_>) -> Result<(), WireFault> {
@@ -146,7 +140,6 @@ impl Shape for BlobUpdated {
 }
 
 impl Message for BlobUpdated {
-    ghost use Rattle.std.specs.Prelude.{refl};
     ghost use Rattle.rx_messages.specs.Decoding.{any_form};
     ghost use Rattle.rx_messages.specs.Batches.{blob_updated_fields, blob_updated_from, blob_updated_is_readable};
 
@@ -157,8 +150,6 @@ impl Message for BlobUpdated {
     ghost is_canonical = { any_form };
 
     ghost IsReadable = { blob_updated_is_readable };
-
-    ghost one_form = { λ x can. refl };
 
     #[tactic(auto, unfolding(crate::specs::Parts::part_checked))]
     fn check_field(number: u32, value: Value<'_>, read: &Fields<'_>) -> Result<(), WireFault> {
@@ -203,7 +194,6 @@ impl Shape for BatchUpdateBlobsResponse {
 }
 
 impl Message for BatchUpdateBlobsResponse {
-    ghost use Rattle.std.specs.Prelude.{refl};
     ghost use Rattle.rx_messages.specs.Decoding.{any_form};
     ghost use Rattle.rx_messages.specs.Batches.{batch_update_blobs_response_fields, batch_update_blobs_response_from, batch_update_blobs_response_is_readable};
 
@@ -214,8 +204,6 @@ impl Message for BatchUpdateBlobsResponse {
     ghost is_canonical = { any_form };
 
     ghost IsReadable = { batch_update_blobs_response_is_readable };
-
-    ghost one_form = { λ x can. refl };
 
     #[tactic(auto, unfolding(crate::specs::Parts::part_checked))]
     fn check_field(number: u32, value: Value<'_>, read: &Fields<'_>) -> Result<(), WireFault> {
@@ -262,7 +250,6 @@ impl Shape for BatchReadBlobsRequest {
 }
 
 impl Message for BatchReadBlobsRequest {
-    ghost use Rattle.std.specs.Prelude.{refl};
     ghost use Rattle.rx_messages.specs.Decoding.{any_form};
     ghost use Rattle.rx_messages.specs.Batches.{batch_read_blobs_request_fields, batch_read_blobs_request_from, batch_read_blobs_request_is_readable};
 
@@ -273,8 +260,6 @@ impl Message for BatchReadBlobsRequest {
     ghost is_canonical = { any_form };
 
     ghost IsReadable = { batch_read_blobs_request_is_readable };
-
-    ghost one_form = { λ x can. refl };
 
     #[tactic(auto, unfolding(crate::specs::Parts::part_checked))]
     fn check_field(number: u32, value: Value<'_>, read: &Fields<'_>) -> Result<(), WireFault> {
@@ -328,7 +313,6 @@ impl Shape for BlobRead {
 }
 
 impl Message for BlobRead {
-    ghost use Rattle.std.specs.Prelude.{refl};
     ghost use Rattle.rx_messages.specs.Decoding.{any_form};
     ghost use Rattle.rx_messages.specs.Batches.{blob_read_fields, blob_read_from, blob_read_is_readable};
 
@@ -339,8 +323,6 @@ impl Message for BlobRead {
     ghost is_canonical = { any_form };
 
     ghost IsReadable = { blob_read_is_readable };
-
-    ghost one_form = { λ x can. refl };
 
     #[tactic(auto, unfolding(crate::specs::Parts::part_checked))]
     fn check_field(number: u32, value: Value<'_>, read: &Fields<'_>) -> Result<(), WireFault> {
@@ -391,7 +373,6 @@ impl Shape for BatchReadBlobsResponse {
 }
 
 impl Message for BatchReadBlobsResponse {
-    ghost use Rattle.std.specs.Prelude.{refl};
     ghost use Rattle.rx_messages.specs.Decoding.{any_form};
     ghost use Rattle.rx_messages.specs.Batches.{batch_read_blobs_response_fields, batch_read_blobs_response_from, batch_read_blobs_response_is_readable};
 
@@ -402,8 +383,6 @@ impl Message for BatchReadBlobsResponse {
     ghost is_canonical = { any_form };
 
     ghost IsReadable = { batch_read_blobs_response_is_readable };
-
-    ghost one_form = { λ x can. refl };
 
     #[tactic(auto, unfolding(crate::specs::Parts::part_checked))]
     fn check_field(number: u32, value: Value<'_>, read: &Fields<'_>) -> Result<(), WireFault> {

@@ -23,7 +23,6 @@ impl Shape for FindMissingBlobsRequest {
 }
 
 impl Message for FindMissingBlobsRequest {
-    ghost use Rattle.std.specs.Prelude.{refl};
     ghost use Rattle.rx_messages.specs.Decoding.{any_form};
     ghost use Rattle.rx_messages.specs.Blobs.{find_missing_blobs_request_fields, find_missing_blobs_request_from, find_missing_blobs_request_is_readable};
 
@@ -34,8 +33,6 @@ impl Message for FindMissingBlobsRequest {
     ghost is_canonical = { any_form };
 
     ghost IsReadable = { find_missing_blobs_request_is_readable };
-
-    ghost one_form = { λ x can. refl };
 
     #[tactic(auto, unfolding(crate::specs::Parts::part_checked))]
     fn check_field(number: u32, value: Value<'_>, read: &Fields<'_>) -> Result<(), WireFault> {
@@ -87,7 +84,6 @@ impl Shape for FindMissingBlobsResponse {
 }
 
 impl Message for FindMissingBlobsResponse {
-    ghost use Rattle.std.specs.Prelude.{refl};
     ghost use Rattle.rx_messages.specs.Decoding.{any_form};
     ghost use Rattle.rx_messages.specs.Blobs.{find_missing_blobs_response_fields, find_missing_blobs_response_from, find_missing_blobs_response_is_readable};
 
@@ -98,8 +94,6 @@ impl Message for FindMissingBlobsResponse {
     ghost is_canonical = { any_form };
 
     ghost IsReadable = { find_missing_blobs_response_is_readable };
-
-    ghost one_form = { λ x can. refl };
 
     #[tactic(auto, unfolding(crate::specs::Parts::part_checked))]
     fn check_field(number: u32, value: Value<'_>, read: &Fields<'_>) -> Result<(), WireFault> {

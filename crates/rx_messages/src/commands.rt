@@ -23,7 +23,6 @@ impl Shape for EnvironmentVariable {
 }
 
 impl Message for EnvironmentVariable {
-    ghost use Rattle.std.specs.Prelude.{refl};
     ghost use Rattle.rx_messages.specs.Decoding.{any_form};
     ghost use Rattle.rx_messages.specs.Commands.{environment_variable_fields, environment_variable_from, environment_variable_is_readable};
 
@@ -34,8 +33,6 @@ impl Message for EnvironmentVariable {
     ghost is_canonical = { any_form };
 
     ghost IsReadable = { environment_variable_is_readable };
-
-    ghost one_form = { λ x can. refl };
 
     #[tactic(auto, unfolding(crate::specs::Parts::part_checked))]
     fn check_field(number: u32, value: Value<'_>, read: &Fields<'_>) -> Result<(), WireFault> {
@@ -80,7 +77,6 @@ impl Shape for Property {
 }
 
 impl Message for Property {
-    ghost use Rattle.std.specs.Prelude.{refl};
     ghost use Rattle.rx_messages.specs.Decoding.{any_form};
     ghost use Rattle.rx_messages.specs.Commands.{property_fields, property_from, property_is_readable};
 
@@ -91,8 +87,6 @@ impl Message for Property {
     ghost is_canonical = { any_form };
 
     ghost IsReadable = { property_is_readable };
-
-    ghost one_form = { λ x can. refl };
 
     #[tactic(auto, unfolding(crate::specs::Parts::part_checked))]
     fn check_field(number: u32, value: Value<'_>, read: &Fields<'_>) -> Result<(), WireFault> {
@@ -136,7 +130,6 @@ impl Shape for Platform {
 }
 
 impl Message for Platform {
-    ghost use Rattle.std.specs.Prelude.{refl};
     ghost use Rattle.rx_messages.specs.Decoding.{any_form};
     ghost use Rattle.rx_messages.specs.Commands.{platform_fields, platform_from, platform_is_readable};
 
@@ -147,8 +140,6 @@ impl Message for Platform {
     ghost is_canonical = { any_form };
 
     ghost IsReadable = { platform_is_readable };
-
-    ghost one_form = { λ x can. refl };
 
     #[tactic(auto, unfolding(crate::specs::Parts::part_checked))]
     fn check_field(number: u32, value: Value<'_>, read: &Fields<'_>) -> Result<(), WireFault> {
@@ -197,7 +188,6 @@ impl Shape for Command {
 }
 
 impl Message for Command {
-    ghost use Rattle.std.specs.Prelude.{refl};
     ghost use Rattle.rx_messages.specs.Decoding.{any_form};
     ghost use Rattle.rx_messages.specs.Commands.{command_fields, command_from, command_is_readable};
 
@@ -208,8 +198,6 @@ impl Message for Command {
     ghost is_canonical = { any_form };
 
     ghost IsReadable = { command_is_readable };
-
-    ghost one_form = { λ x can. refl };
 
     #[tactic(auto, unfolding(crate::specs::Parts::part_checked))]
     fn check_field(number: u32, value: Value<'_>, read: &Fields<'_>) -> Result<(), WireFault> {

@@ -21,7 +21,6 @@ impl Shape for Digest {
 }
 
 impl Message for Digest {
-    ghost use Rattle.std.specs.Prelude.{refl};
     ghost use Rattle.rx_messages.specs.Decoding.{any_form};
     ghost use Rattle.rx_messages.specs.Digests.{digest_fields, digest_from, digest_is_readable};
 
@@ -32,8 +31,6 @@ impl Message for Digest {
     ghost is_canonical = { any_form };
 
     ghost IsReadable = { digest_is_readable };
-
-    ghost one_form = { λ x can. refl };
 
     #[tactic(auto, unfolding(crate::specs::Parts::part_checked))]
     fn check_field(number: u32, value: Value<'_>, read: &Fields<'_>) -> Result<(), WireFault> {

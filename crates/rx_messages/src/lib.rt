@@ -13,10 +13,12 @@ mod directories;
 mod faults;
 mod field_list;
 mod message;
+mod names;
 mod nodes;
 mod outputs;
 mod results;
 mod statuses;
+mod trees;
 mod writer;
 
 pub use actions::{Action, Duration};
@@ -34,4 +36,5 @@ pub use nodes::{DirectoryNode, FileNode, SymlinkNode};
 pub use outputs::{OutputDirectory, OutputFile, OutputSymlink};
 pub use results::ActionResult;
 pub use statuses::{Any, Status};
+pub use trees::Tree;
 pub use writer::Writer;

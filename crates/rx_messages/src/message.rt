@@ -6,7 +6,7 @@ ghost use Rattle.rx_base.specs.Results.{Gives};
 ghost use Rattle.rx_wire.specs.Values.{Field};
 ghost use Rattle.rx_wire.specs.Fields.{placed_before};
 ghost use Rattle.rx_messages.specs.Decoding.{decoded};
-ghost use Rattle.rx_messages.specs.FieldBytes.{fields_bytes};
+ghost use Rattle.rx_messages.specs.FieldBytes.{fields_bytes, fields_in};
 ghost use Rattle.rx_messages.specs.Parts.{Part, field_checked};
 ghost use Rattle.rx_messages.specs.declared.faults.MessageFault.{MessageFault};
 ghost use Rattle.rx_messages.specs.declared.faults.MessageFault.TheVariants.{NoMemory};
@@ -49,14 +49,13 @@ pub trait Message: Shape + Sized + Drop {
     /// Writes the message's fields.
     fn write(&self, alloc: Global, out: &mut Writer<Self>) -> Result<(), NoMemory>
         ensures written { OnOk result (out.new ≡ out.old ++ fields self.now) }
-        ensures again { IsOk result → IsReadable self.now → from (fields self.now) ≡ Ok self.now };
+        ensures again { IsOk result → IsReadable self.now → from (fields self.now) ≡ Ok self.now }
+        // What is read again is written in the one form, where it has but one.
+        ensures form { IsOk result → IsReadable self.now → fields_in (fields_bytes (fields self.now)) ≡ fields self.now → is_canonical (fields_bytes (fields self.now)) self.now ≡ true };
 
     /// Whether these bytes are the one form of this message.
     fn has_one_form(&self, alloc: Global, bytes: &[u8]) -> Result<bool, NoMemory>
         ensures { IfOk result (λ one. one ≡ is_canonical bytes.now self.now) };
-
-    /// What is read again is written in that form.
-    ghost one_form: { (x : Self) → IsReadable x → is_canonical (fields_bytes (fields x)) x ≡ true };
 
     /// The message's bytes: its fields in the order of their numbers, defaults left out.
     final fn encode(&self, alloc: Global) -> Result<Vec<u8>, NoMemory>

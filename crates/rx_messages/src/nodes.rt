@@ -24,7 +24,6 @@ impl Shape for FileNode {
 }
 
 impl Message for FileNode {
-    ghost use Rattle.std.specs.Prelude.{refl};
     ghost use Rattle.rx_messages.specs.Decoding.{any_form};
     ghost use Rattle.rx_messages.specs.Nodes.{file_node_fields, file_node_from, file_node_is_readable};
 
@@ -35,8 +34,6 @@ impl Message for FileNode {
     ghost is_canonical = { any_form };
 
     ghost IsReadable = { file_node_is_readable };
-
-    ghost one_form = { λ x can. refl };
 
     #[tactic(auto, unfolding(crate::specs::Parts::part_checked))]
     fn check_field(number: u32, value: Value<'_>, read: &Fields<'_>) -> Result<(), WireFault> {
@@ -88,7 +85,6 @@ impl Shape for DirectoryNode {
 }
 
 impl Message for DirectoryNode {
-    ghost use Rattle.std.specs.Prelude.{refl};
     ghost use Rattle.rx_messages.specs.Decoding.{any_form};
     ghost use Rattle.rx_messages.specs.Nodes.{directory_node_fields, directory_node_from, directory_node_is_readable};
 
@@ -99,8 +95,6 @@ impl Message for DirectoryNode {
     ghost is_canonical = { any_form };
 
     ghost IsReadable = { directory_node_is_readable };
-
-    ghost one_form = { λ x can. refl };
 
     #[tactic(auto, unfolding(crate::specs::Parts::part_checked))]
     fn check_field(number: u32, value: Value<'_>, read: &Fields<'_>) -> Result<(), WireFault> {
@@ -146,7 +140,6 @@ impl Shape for SymlinkNode {
 }
 
 impl Message for SymlinkNode {
-    ghost use Rattle.std.specs.Prelude.{refl};
     ghost use Rattle.rx_messages.specs.Decoding.{any_form};
     ghost use Rattle.rx_messages.specs.Nodes.{symlink_node_fields, symlink_node_from, symlink_node_is_readable};
 
@@ -157,8 +150,6 @@ impl Message for SymlinkNode {
     ghost is_canonical = { any_form };
 
     ghost IsReadable = { symlink_node_is_readable };
-
-    ghost one_form = { λ x can. refl };
 
     #[tactic(auto, unfolding(crate::specs::Parts::part_checked))]
     fn check_field(number: u32, value: Value<'_>, read: &Fields<'_>) -> Result<(), WireFault> {

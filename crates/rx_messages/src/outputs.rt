@@ -25,7 +25,6 @@ impl Shape for OutputFile {
 }
 
 impl Message for OutputFile {
-    ghost use Rattle.std.specs.Prelude.{refl};
     ghost use Rattle.rx_messages.specs.Decoding.{any_form};
     ghost use Rattle.rx_messages.specs.Outputs.{output_file_fields, output_file_from, output_file_is_readable};
 
@@ -36,8 +35,6 @@ impl Message for OutputFile {
     ghost is_canonical = { any_form };
 
     ghost IsReadable = { output_file_is_readable };
-
-    ghost one_form = { λ x can. refl };
 
     #[tactic(auto, unfolding(crate::specs::Parts::part_checked))]
     fn check_field(number: u32, value: Value<'_>, read: &Fields<'_>) -> Result<(), WireFault> {
@@ -92,7 +89,6 @@ impl Shape for OutputDirectory {
 }
 
 impl Message for OutputDirectory {
-    ghost use Rattle.std.specs.Prelude.{refl};
     ghost use Rattle.rx_messages.specs.Decoding.{any_form};
     ghost use Rattle.rx_messages.specs.Outputs.{output_directory_fields, output_directory_from, output_directory_is_readable};
 
@@ -103,8 +99,6 @@ impl Message for OutputDirectory {
     ghost is_canonical = { any_form };
 
     ghost IsReadable = { output_directory_is_readable };
-
-    ghost one_form = { λ x can. refl };
 
     #[tactic(auto, unfolding(crate::specs::Parts::part_checked))]
     fn check_field(number: u32, value: Value<'_>, read: &Fields<'_>) -> Result<(), WireFault> {
@@ -150,7 +144,6 @@ impl Shape for OutputSymlink {
 }
 
 impl Message for OutputSymlink {
-    ghost use Rattle.std.specs.Prelude.{refl};
     ghost use Rattle.rx_messages.specs.Decoding.{any_form};
     ghost use Rattle.rx_messages.specs.Outputs.{output_symlink_fields, output_symlink_from, output_symlink_is_readable};
 
@@ -161,8 +154,6 @@ impl Message for OutputSymlink {
     ghost is_canonical = { any_form };
 
     ghost IsReadable = { output_symlink_is_readable };
-
-    ghost one_form = { λ x can. refl };
 
     #[tactic(auto, unfolding(crate::specs::Parts::part_checked))]
     fn check_field(number: u32, value: Value<'_>, read: &Fields<'_>) -> Result<(), WireFault> {

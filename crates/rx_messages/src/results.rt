@@ -33,7 +33,6 @@ impl Shape for ActionResult {
 }
 
 impl Message for ActionResult {
-    ghost use Rattle.std.specs.Prelude.{refl};
     ghost use Rattle.rx_messages.specs.Decoding.{any_form};
     ghost use Rattle.rx_messages.specs.Results.{action_result_fields, action_result_from, action_result_is_readable};
 
@@ -44,8 +43,6 @@ impl Message for ActionResult {
     ghost is_canonical = { any_form };
 
     ghost IsReadable = { action_result_is_readable };
-
-    ghost one_form = { λ x can. refl };
 
     #[tactic(auto, unfolding(crate::specs::Parts::part_checked))]
     fn check_field(number: u32, value: Value<'_>, read: &Fields<'_>) -> Result<(), WireFault> {

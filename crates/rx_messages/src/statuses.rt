@@ -23,7 +23,6 @@ impl Shape for Any {
 }
 
 impl Message for Any {
-    ghost use Rattle.std.specs.Prelude.{refl};
     ghost use Rattle.rx_messages.specs.Decoding.{any_form};
     ghost use Rattle.rx_messages.specs.Statuses.{any_fields, any_from, any_is_readable};
 
@@ -34,8 +33,6 @@ impl Message for Any {
     ghost is_canonical = { any_form };
 
     ghost IsReadable = { any_is_readable };
-
-    ghost one_form = { λ x can. refl };
 
     #[tactic(auto, unfolding(crate::specs::Parts::part_checked))]
     fn check_field(number: u32, value: Value<'_>, read: &Fields<'_>) -> Result<(), WireFault> {
@@ -78,7 +75,6 @@ impl Shape for Status {
 }
 
 impl Message for Status {
-    ghost use Rattle.std.specs.Prelude.{refl};
     ghost use Rattle.rx_messages.specs.Decoding.{any_form};
     ghost use Rattle.rx_messages.specs.Statuses.{status_fields, status_from, status_is_readable};
 
@@ -89,8 +85,6 @@ impl Message for Status {
     ghost is_canonical = { any_form };
 
     ghost IsReadable = { status_is_readable };
-
-    ghost one_form = { λ x can. refl };
 
     #[tactic(auto, unfolding(crate::specs::Parts::part_checked))]
     fn check_field(number: u32, value: Value<'_>, read: &Fields<'_>) -> Result<(), WireFault> {

@@ -12,4 +12,4 @@ returns-clause-again g c = λ can.
     let written : c.finish.result.items ≡ fields_bytes (g.Self.Message.fields c.args.self.now) = c.finish.ensures.bytes ∙ ap fields_bytes all in
     is_decoded g.Self.Shape.parts g.Self.Message.from g.Self.Message.is_canonical c.finish.result.items c.args.self.now (parts_pass g.Self.Shape.parts c.finish.result.items c.finish.ensures.message)
     (ap g.Self.Message.from found ∙ c.in_ok-write.ensures.again refl can)
-    (rw written (g.met.Self.Message.one_form c.args.self.now can))
+    (rw written (c.in_ok-write.ensures.form refl can (ap fields_in (sym written) ∙ found)))
