@@ -1,5 +1,5 @@
 -- The fields of one number, and what they mean.
-use Rattle.std.proofs.Common.{◌≡◌, ℕ, ℤ, ◌+◌, ◌<◌, ◌≤◌, ◌^◌, ◌%◌, ◌==◌, Bool, true, false, cond, List, [], ◌∷◌, ◌++◌, length, map, take, Option, Some, None, Result, Ok, Err, refl, sym, ap, ◌∙◌, arith, eq-eqb, append_assoc, subst}
+use Rattle.std.proofs.Common.{◌≡◌, ℕ, ℤ, ◌<◌, ◌≤◌, ◌==◌, Bool, true, false, cond, List, [], ◌∷◌, ◌++◌, length, map, take, Option, Some, None, Result, Ok, Err, refl, sym, ap, ◌∙◌, arith, append_assoc, subst}
 use Rattle.std.specs.Prelude.{IfSome, unwrap_or}
 use Rattle.std.specs.Int.{w64, cast_signed, cast_unsigned}
 use Rattle.std.specs.List.{AllByRecursion, concat, filter_map, last_or}
@@ -10,8 +10,7 @@ use Rattle.std.proofs.lemmas.List.Elements.{filter_map-append}
 use Rattle.std.proofs.lemmas.Str.{IsUtf8-from_is_utf8, IsUtf8-nil, is_utf8-from_IsUtf8}
 use Rattle.rx_wire.specs.Integers.{int32_of, sign_extended}
 use Rattle.rx_wire.specs.Values.{Content, varint, fixed64, bytes, fixed32, Field}
-use Rattle.rx_base.specs.Results.{◌>>=◌}
-use Rattle.rx_messages.specs.Contents.{chunk_of, number_of, chunks, numbers, text_in, text_put, number_in, number_put, truth_in, truth_put, number_of_truth, int32_in, int32_put, int64_in, int64_put, texts_in, texts_put, joined_in, one_in, one_of, one_put, each_in, each_of, each_put}
+use Rattle.rx_messages.specs.Contents.{chunk_of, number_of, chunks, numbers, text_in, text_put, number_in, number_put, truth_in, truth_put, int32_in, int32_put, int64_in, int64_put, texts_in, texts_put, joined_in, one_in, one_of, one_put, each_in, each_put}
 use Rattle.rx_messages.specs.FieldBytes.{contents, numbered, fields_bytes, fields_in}
 use Rattle.rx_messages.specs.Parts.{Part, anything, text, message, HasParts, IsMessage, IsPart}
 use Rattle.rx_messages.specs.Seen.{chunk_in, varint_in}

@@ -2,7 +2,7 @@
 use Rattle.std.proofs.Common.{◌≡◌, ℕ, Bool, true, false, List, Result, Ok, Err, refl}
 use Rattle.rx_wire.specs.declared.faults.WireFault.{WireFault}
 use Rattle.rx_wire.specs.Values.{Field}
-use Rattle.rx_messages.specs.Decoding.{decoded, on_wire}
+use Rattle.rx_messages.specs.Decoding.{decoded}
 use Rattle.rx_messages.specs.FieldBytes.{fields_in}
 use Rattle.rx_messages.specs.Parts.{Part, parts_checked}
 use Rattle.rx_messages.specs.declared.faults.MessageFault.{MessageFault}

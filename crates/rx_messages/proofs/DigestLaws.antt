@@ -1,7 +1,6 @@
 -- Digests, read and written.
-use Rattle.std.proofs.Common.{◌≡◌, ℕ, zero, suc, ◌/◌, ◌%◌, ◌<◌, ◌≤◌, ◌^◌, ◌∷◌, ◌++◌, inl, inr, slice_index, ◌==◌, Bool, true, false, ◌&&◌, List, [], length, Result, Ok, Err, refl, sym, ap, ◌∙◌, nat_lt, eq-eqb, arith}
+use Rattle.std.proofs.Common.{◌≡◌, ℕ, zero, suc, ◌/◌, ◌%◌, ◌<◌, ◌≤◌, ◌^◌, ◌∷◌, inl, inr, slice_index, ◌==◌, Bool, true, false, ◌&&◌, List, [], length, Ok, Err, refl, sym, ap, ◌∙◌, nat_lt, eq-eqb, arith}
 use Rattle.std.specs.List.{AllPass, list_all}
-use Rattle.std.specs.Result.{result_unwrap_or}
 use Rattle.std.proofs.lemmas.Bool.{and_parts, cases_lt, eqb-true, lt-ltb, le-ltb}
 use Rattle.std.proofs.lemmas.List.{append-nil, get_or_past}
 use Rattle.rx_messages.specs.Contents.{number_in, number_put, text_in, text_put}
@@ -13,7 +12,6 @@ use Rattle.hex.proofs.HexLemmas.{decode_sized-encode_lower, decode_sized-ok, len
 use Rattle.rx_base.specs.declared.digests.Digest.{Digest}
 use Rattle.rx_base.specs.HashText.{is_lower_digit}
 use Rattle.rx_messages.specs.Digests.{digest_fields, digest_from, digest_of_parts}
-use Rattle.rx_messages.specs.declared.faults.MessageFault.{MessageFault}
 use Rattle.rx_messages.specs.declared.faults.MessageFault.TheVariants.{BadValue}
 
 abbrev IsHashText : List ℕ → Type 0

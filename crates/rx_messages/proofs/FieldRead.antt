@@ -1,12 +1,12 @@
 -- What is spelled is read, and what is written is spelled.
-use Rattle.std.proofs.Common.{◌≡◌, ℕ, zero, suc, ◌+◌, ◌≤◌, ◌==◌, true, false, List, [], ◌∷◌, ◌++◌, length, drop, refl, sym, ap, ◌∙◌, arith, append_assoc, subst, eq-eqb, length-append, Result, Ok, Err}
+use Rattle.std.proofs.Common.{◌≡◌, ℕ, zero, suc, ◌+◌, ◌≤◌, ◌==◌, true, false, List, [], ◌∷◌, ◌++◌, length, drop, refl, sym, ap, ◌∙◌, arith, subst, eq-eqb, length-append, Result, Ok, Err}
 use Rattle.std.specs.Prelude.{OnOk, OnErr}
 use Rattle.std.proofs.lemmas.Bool.{ne_eqb}
-use Rattle.std.proofs.lemmas.List.{append-nil, drop_all, length-drop}
+use Rattle.std.proofs.lemmas.List.{append-nil, length-drop}
 use Rattle.std.proofs.lemmas.Grind.{flat_map-append}
 use Rattle.std.specs.List.{AllByRecursion}
 use Rattle.rx_wire.specs.Values.{Field}
-use Rattle.rx_wire.specs.Fields.{SpellsField, SpellsFields}
+use Rattle.rx_wire.specs.Fields.{SpellsFields}
 use Rattle.rx_wire.specs.Out.{AddsField}
 use Rattle.rx_wire.proofs.FieldLaws.{SpellsField-some, after, field_again}
 use Rattle.rx_messages.specs.FieldBytes.{field_bytes, fields_bytes, fields_from, fields_in}

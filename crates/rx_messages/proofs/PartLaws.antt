@@ -1,5 +1,5 @@
 -- Bytes are a message of some parts exactly where nothing in them is refused.
-use Rattle.std.proofs.Common.{◌≡◌, ℕ, zero, suc, ◌+◌, ◌-◌, ◌<◌, ◌≤◌, ◌==◌, true, false, List, [], ◌∷◌, ◌++◌, length, drop, take, get_or, Result, Ok, Err, refl, sym, ap, ◌∙◌, arith, subst, eq-eqb, length-append, append_assoc}
+use Rattle.std.proofs.Common.{◌≡◌, ℕ, zero, suc, ◌+◌, ◌-◌, ◌≤◌, ◌==◌, true, false, List, [], ◌∷◌, ◌++◌, length, drop, take, Result, Ok, Err, refl, sym, ap, ◌∙◌, arith, subst, eq-eqb, length-append, append_assoc}
 use Rattle.std.proofs.lemmas.Bool.{ne_eqb, eqb-true}
 use Rattle.std.proofs.lemmas.List.{drop_all, drop-take, length-drop, length-take-le, take_at}
 use Rattle.std.specs.List.{AllByRecursion, concat}
@@ -10,7 +10,7 @@ use Rattle.rx_base.proofs.ResultLemmas.{bind_ok}
 use Rattle.rx_base.specs.Results.{◌>>=◌}
 use Rattle.rx_wire.specs.declared.faults.WireFault.{WireFault}
 use Rattle.rx_wire.specs.Values.{Content, varint, fixed64, bytes, fixed32, Field}
-use Rattle.rx_wire.specs.Fields.{Placed, Reads, SpellsContent, SpellsField, SpellsFields, content_at, field_at}
+use Rattle.rx_wire.specs.Fields.{Placed, Reads, SpellsContent, SpellsFields, content_at, field_at}
 use Rattle.rx_wire.proofs.Grammar.{IsBytes, ok_is}
 use Rattle.rx_wire.proofs.FieldLaws.{SpellsField-some, after, field_again, field_stands, place_of}
 use Rattle.rx_messages.proofs.FieldRead.{AllByRecursion-append, fields_in-spelled}

@@ -1,9 +1,8 @@
 -- Fields read one after the other, to be kept or to be checked.
-use Rattle.std.proofs.Common.{◌≡◌, ℕ, zero, suc, ◌+◌, ◌<◌, ◌≤◌, ◌==◌, true, false, List, [], ◌∷◌, ◌++◌, length, map, Option, Some, None, inl, inr, Result, Ok, Err, refl, sym, ap, ◌∙◌, arith, eq-eqb, append_assoc, subst}
+use Rattle.std.proofs.Common.{◌≡◌, ℕ, zero, suc, ◌+◌, ◌<◌, ◌≤◌, ◌==◌, true, false, List, [], ◌∷◌, ◌++◌, length, Option, Some, None, inl, inr, Result, Ok, Err, refl, sym, ◌∙◌, arith, eq-eqb, append_assoc, subst}
 use Rattle.std.proofs.lemmas.Bool.{ne_eqb}
 use Rattle.std.specs.Prelude.{MatchOption}
 use Rattle.std.proofs.lemmas.List.{append-nil, map-append}
-use Rattle.rx_base.specs.Results.{◌>>=◌}
 use Rattle.rx_wire.specs.declared.faults.WireFault.{WireFault}
 use Rattle.rx_wire.specs.declared.values.Value.{Value}
 use Rattle.rx_wire.specs.Cursor.{Cursor}

@@ -1,12 +1,12 @@
 -- Loops over slices of bytes and over fields.
-use Rattle.std.proofs.Common.{◌≡◌, ℕ, zero, suc, ◌+◌, ◌<◌, ◌≤◌, List, [], ◌∷◌, ◌++◌, length, map, take, drop, get_or, Option, Some, None, refl, sym, ap, ◌∙◌, arith}
+use Rattle.std.proofs.Common.{◌≡◌, ℕ, zero, suc, ◌+◌, ◌<◌, List, [], ◌∷◌, ◌++◌, length, take, get_or, Some, None, sym, ap, ◌∙◌, arith}
 use Rattle.std.specs.Borrow.{Bor}
 use Rattle.std.specs.List.{AllByRecursion, concat}
 use Rattle.std.proofs.Math.Seq.{take-suc}
 use Rattle.std.proofs.lemmas.List.{map-append}
 use Rattle.rx_base.specs.Texts.{texts as slices}
 use Rattle.rx_wire.specs.declared.values.Value.{Value}
-use Rattle.rx_wire.specs.Values.{Field, field_of}
+use Rattle.rx_wire.specs.Values.{field_of}
 use Rattle.rx_messages.specs.Contents.{chunks, number_in, text_in}
 use Rattle.rx_messages.specs.FieldBytes.{contents}
 use Rattle.rx_messages.specs.Seen.{chunk_in, seen, varint_in}

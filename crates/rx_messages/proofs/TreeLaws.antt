@@ -1,15 +1,14 @@
 -- Each Directory that a Tree writes is in its one form.
-use Rattle.std.proofs.Common.{◌≡◌, ℕ, ◌+◌, ◌<◌, ◌≤◌, Bool, true, false, cond, List, [], ◌∷◌, ◌++◌, length, drop, get_or, map, Option, Some, None, refl, sym, ap, ◌∙◌, arith, zero, suc}
+use Rattle.std.proofs.Common.{◌≡◌, ℕ, ◌+◌, ◌<◌, ◌≤◌, Bool, true, false, cond, List, [], ◌∷◌, length, drop, get_or, Option, Some, None, refl, ◌∙◌, arith, suc}
 use Rattle.std.specs.Prelude.{IfSome, not}
 use Rattle.std.specs.Borrow.{Bor}
 use Rattle.std.proofs.Math.Seq.{drop-cons}
 use Rattle.rx_base.specs.Texts.{texts as slices}
-use Rattle.std.specs.List.{AllByRecursion, concat}
+use Rattle.std.specs.List.{AllByRecursion}
 use Rattle.std.proofs.lemmas.List.{append-nil, drop_all, get_or-map, length-map}
-use Rattle.rx_wire.specs.Values.{Content, Field}
 use Rattle.rx_messages.specs.Contents.{chunks, each_put, one_put}
 use Rattle.rx_messages.specs.Directories.{directory_fields, directory_has_one_form, directory_is_readable}
-use Rattle.rx_messages.specs.FieldBytes.{contents, fields_bytes, fields_in, numbered}
+use Rattle.rx_messages.specs.FieldBytes.{contents, fields_bytes, fields_in}
 use Rattle.rx_messages.proofs.OneForm.{form_of}
 use Rattle.rx_messages.specs.Trees.{each_has_one_form, root_has_one_form, tree_fields, tree_has_one_form, tree_is_readable}
 use Rattle.rx_messages.specs.declared.directories.Directory.{Directory}

@@ -1,7 +1,7 @@
 -- What the fields of one number say, by the kind of the field (Protocol Buffers, Encoding, "Optional and Repeated
 -- Elements", "Last One Wins"). For each kind: the contents that are written for a value, and the value that contents
 -- mean. A content of another wire type than the kind's is skipped.
-use Rattle.std.specs.Prelude.{ℕ, ℤ, ◌==◌, Bool, true, false, not, List, [], ◌∷◌, ◌++◌, length, map, Option, Some, None, unwrap_or, Result, Ok, Err, if◌then◌else◌}
+use Rattle.std.specs.Prelude.{ℕ, ℤ, ◌==◌, Bool, true, false, not, List, [], ◌∷◌, length, map, Option, Some, None, unwrap_or, Result, Ok, if◌then◌else◌}
 use Rattle.std.specs.Int.{w64, cast_signed, cast_unsigned}
 use Rattle.std.specs.List.{concat, filter_map, last_or}
 use Rattle.rx_base.specs.Results.{◌>>=◌}

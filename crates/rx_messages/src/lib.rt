@@ -38,3 +38,6 @@ pub use results::ActionResult;
 pub use statuses::{Any, Status};
 pub use trees::Tree;
 pub use writer::Writer;
+
+#[cfg(test)]
+mod tests;

@@ -1,6 +1,5 @@
-use Rattle.std.proofs.Common.{◌≡◌, Ok, sym, arith, ◌∙◌}
+use Rattle.std.proofs.Common.{sym, arith, ◌∙◌}
 use Rattle.std.proofs.lemmas.Result.{err_from_is_err_and}
-use Rattle.rx_messages.specs.Parts.{parts_checked}
 use Rattle.rx_messages.proofs.DecodeLaws.{wire_refused, value_refused, form_refused, is_decoded}
 use Rattle.rx_messages.proofs.PartLaws.{parts_stand}
 use Rattle.rx_messages.proofs.message.Message.decode.Goals as goal

@@ -1,4 +1,4 @@
-use Rattle.std.proofs.Common.{◌≡◌, true, Ok, refl, ap, sym, ◌∙◌, ◌++◌, List}
+use Rattle.std.proofs.Common.{◌≡◌, refl, ap, sym, ◌∙◌, ◌++◌, List}
 use Rattle.rx_wire.specs.Values.{Field}
 use Rattle.rx_messages.specs.FieldBytes.{fields_bytes, fields_in}
 use Rattle.rx_messages.proofs.DecodeLaws.{is_decoded}

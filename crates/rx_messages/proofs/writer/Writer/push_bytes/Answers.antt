@@ -1,5 +1,4 @@
-use Rattle.rx_wire.specs.Values.{varint, bytes}
-use Rattle.rx_messages.proofs.ContentLaws.{part_of_varint}
+use Rattle.rx_wire.specs.Values.{bytes}
 use Rattle.rx_messages.proofs.FieldRead.{written_either, fields_either}
 use Rattle.rx_messages.proofs.writer.Writer.push_bytes.Goals as goal
 
