@@ -1,0 +1,5 @@
+pub mod LeastLemmas
+pub mod NameOrder
+pub mod NamesLemmas
+pub mod Neighbours
+pub mod RefusalLemmas
