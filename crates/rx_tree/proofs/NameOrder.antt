@@ -64,7 +64,7 @@ not_less_then Less p e = e
 not_less_then Equal p e = refl
 not_less_then Greater p e = refl
 
-equal_then : (o p : Ordering) → ordering_then o p ≡ Equal → (o ≡ Equal) × (p ≡ Equal)
+pub equal_then : (o p : Ordering) → ordering_then o p ≡ Equal → (o ≡ Equal) × (p ≡ Equal)
 equal_then Less p e = absurd (cc e)
 equal_then Equal p e = (refl, e)
 equal_then Greater p e = absurd (cc e)

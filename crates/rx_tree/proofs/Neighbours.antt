@@ -22,13 +22,13 @@ use Rattle.rx_tree.proofs.NamesLemmas.{below-names, below-from_names, names_of-s
 
 -- ---- tests
 
-both : (a b : Bool) → a ≡ true → b ≡ true → (a && b) ≡ true
+pub both : (a b : Bool) → a ≡ true → b ≡ true → (a && b) ≡ true
 both a b e f = rw e f
 
-same_path : (p q : List ℕ) → bytes_eq p q ≡ true → p ≡ q
+pub same_path : (p q : List ℕ) → bytes_eq p q ≡ true → p ≡ q
 same_path p q e = (bytes_eq-Decides p q).0 e
 
-is_path : (p q : List ℕ) → p ≡ q → bytes_eq p q ≡ true
+pub is_path : (p q : List ℕ) → p ≡ q → bytes_eq p q ≡ true
 is_path p q e = (bytes_eq-Decides p q).1 e
 
 either : (a b : Bool) → (a || b) ≡ true → (a ≡ true) ⊎ (b ≡ true)
@@ -54,7 +54,7 @@ not_none_some : {A : Type 0} (o : Option A) → is_none o ≡ false → is_some 
 not_none_some None e = absurd (cc e)
 not_none_some (Some x) e = refl
 
-same_file-parts : (x y : Entry) → is_same_file x y ≡ true → (is_some x.file ≡ true) × (is_some y.file ≡ true) × (x.path ≡ y.path)
+pub same_file-parts : (x y : Entry) → is_same_file x y ≡ true → (is_some x.file ≡ true) × (is_some y.file ≡ true) × (x.path ≡ y.path)
 same_file-parts x y e =
     let first = and_parts (is_some x.file) (is_some y.file && bytes_eq x.path y.path) e in
     let second = and_parts (is_some y.file) (bytes_eq x.path y.path) first.1 in
@@ -63,9 +63,21 @@ same_file-parts x y e =
 same_file-from : (x y : Entry) → is_some x.file ≡ true → is_some y.file ≡ true → x.path ≡ y.path → is_same_file x y ≡ true
 same_file-from x y e f g = both _ _ e (both _ _ f (is_path x.path y.path g))
 
+-- ---- names that go on from a file's
+
+pub same_or_under : (x w : Entry) → is_some x.file ≡ true → (more : List (List ℕ)) → names_of w.path ≡ names_of x.path ++ more → (is_same_file x w ≡ true) ⊎ (is_under x w ≡ true)
+same_or_under x w file [] e =
+    let path : w.path ≡ x.path = names_of-same w.path x.path (e ∙ append-nil (names_of x.path)) in
+    elim (some_or_none w.file) [
+      | inl some ↦ inl (same_file-from x w file some (sym path))
+      | inr none ↦ inr (both _ _ file (right_or (is_below w.path x.path) (is_none w.file && bytes_eq w.path x.path) (both _ _ none (is_path w.path x.path path))))
+    ]
+same_or_under x w file (n ∷ ns) e =
+    inr (both _ _ file (left_or (is_below w.path x.path) (is_none w.file && bytes_eq w.path x.path) (below-from_names w.path x.path n ns e)))
+
 -- ---- counts
 
-counted : (test : Entry → Bool) (x : Entry) (xs : List Entry) (b : Bool) → test x ≡ b → count_by test (x ∷ xs) ≡ cond b 1 0 + count_by test xs
+pub counted : (test : Entry → Bool) (x : Entry) (xs : List Entry) (b : Bool) → test x ≡ b → count_by test (x ∷ xs) ≡ cond b 1 0 + count_by test xs
 counted test x xs b e = sum_by-cons (λ (y : Entry). cond (test y) 1 0) x xs ∙ ap (λ (c : Bool). cond c 1 0 + count_by test xs) e
 
 one_at : (test : Entry → Bool) (xs : List Entry) → 0 < count_by test xs → (j : ℕ) × (j < length xs) × ((d : Entry) → test (get_or xs j d) ≡ true)
@@ -85,7 +97,7 @@ two_at test (x ∷ xs) some =
       | false ↦ λ e. let n = counted test x xs false e in let rest = two_at test xs (omega arith) in (suc rest.0, suc rest.1, omega (arith, rest.2), omega (arith, rest.3), rest.4, rest.5)
     ] refl
 
-some_count : (test : Entry → Bool) (xs : List Entry) (j : ℕ) → j < length xs → ((d : Entry) → test (get_or xs j d) ≡ true) → 0 < count_by test xs
+pub some_count : (test : Entry → Bool) (xs : List Entry) (j : ℕ) → j < length xs → ((d : Entry) → test (get_or xs j d) ≡ true) → 0 < count_by test xs
 some_count test [] j lt h = absurd (omega arith)
 some_count test (x ∷ xs) zero lt h = let n = counted test x xs true (h x) in omega arith
 some_count test (x ∷ xs) (suc j) lt h = let rest = some_count test xs j (omega arith) h in let n = counted test x xs (test x) refl in omega arith
@@ -170,16 +182,6 @@ module _ (xs : List Entry) (up : IsSorted by_place xs) where
             absurd (false≢true (sym not_less ∙ ap is_lt less))
       ]
 
-  on_from : (x w : Entry) → is_some x.file ≡ true → (more : List (List ℕ)) → names_of w.path ≡ names_of x.path ++ more → (is_same_file x w ≡ true) ⊎ (is_under x w ≡ true)
-  on_from x w file [] e =
-      let path : w.path ≡ x.path = names_of-same w.path x.path (e ∙ append-nil (names_of x.path)) in
-      elim (some_or_none w.file) [
-        | inl some ↦ inl (same_file-from x w file some (sym path))
-        | inr none ↦ inr (both _ _ file (right_or (is_below w.path x.path) (is_none w.file && bytes_eq w.path x.path) (both _ _ none (is_path w.path x.path path))))
-      ]
-  on_from x w file (n ∷ ns) e =
-      inr (both _ _ file (left_or (is_below w.path x.path) (is_none w.file && bytes_eq w.path x.path) (below-from_names w.path x.path n ns e)))
-
   -- what stands between a file and an entry under it is the same file again, or under it too
   next_under : (x w y : Entry) → is_under x y ≡ true → is_lt (by_place w x) ≡ false → is_lt (by_place y w) ≡ false → (is_same_file x w ≡ true) ⊎ (is_under x w ≡ true)
   next_under x w y under low high =
@@ -187,7 +189,7 @@ module _ (xs : List Entry) (up : IsSorted by_place xs) where
       let low_names : is_lt (by_names (names_of w.path) (names_of x.path)) ≡ false = not_less_then (by_names (names_of w.path) (names_of x.path)) (bool_cmp (is_none w.file) (is_none x.file)) low in
       let high_names : is_lt (by_names (names_of y.path) (names_of w.path)) ≡ false = not_less_then (by_names (names_of y.path) (names_of w.path)) (bool_cmp (is_none y.file) (is_none w.file)) high in
       let on = between (names_of x.path) (names_of w.path) names.1 low_names (subst (λ (ns : List (List ℕ)). is_lt (by_names ns (names_of w.path)) ≡ false) names.2 high_names) in
-      on_from x w names.0 on.0 on.1
+      same_or_under x w names.0 on.0 on.1
 
   pub clash-neighbours : (paths : List ℕ × List ℕ) → ((p : List ℕ) → IsTwice xs p → ⊥) → IsClash xs paths → HasNeighbours is_under xs (length xs) paths.0
   clash-neighbours paths once clash =

@@ -27,7 +27,7 @@ module _ (entries xs : List Entry) (same : IsPermutation entries xs) (up : IsSor
   twice-sorted : (p : List ℕ) → IsTwice entries p → IsTwice xs p
   twice-sorted p h = subst (λ (n : ℕ). 1 < n) (sym (sum_by-IsPermutation (λ (x : Entry). cond (is_file_at p x) 1 0) entries xs same)) h
 
-  twice-entries : (p : List ℕ) → IsTwice xs p → IsTwice entries p
+  pub twice-entries : (p : List ℕ) → IsTwice xs p → IsTwice entries p
   twice-entries p h = subst (λ (n : ℕ). 1 < n) (sum_by-IsPermutation (λ (x : Entry). cond (is_file_at p x) 1 0) entries xs same) h
 
   clash-sorted : (paths : List ℕ × List ℕ) → IsClash entries paths → IsClash xs paths
@@ -41,7 +41,7 @@ module _ (entries xs : List Entry) (same : IsPermutation entries xs) (up : IsSor
     below_path = h.below_path;
   }
 
-  clash-entries : (paths : List ℕ × List ℕ) → IsClash xs paths → IsClash entries paths
+  pub clash-entries : (paths : List ℕ × List ℕ) → IsClash xs paths → IsClash entries paths
   clash-entries paths h = record {
     file = h.file;
     below = h.below;

@@ -1,4 +1,7 @@
+pub mod Blobs
 pub mod Entries
 pub mod Places
+pub mod Planting
 pub mod Refusals
 pub mod Search
+pub mod Trees

@@ -1,13 +1,16 @@
 //! The entries of a list of paths: each path split into its names once, and the order of the names.
 
-ghost use Rattle.std.specs.Prelude.{◌≡◌, ◌++◌, IfOk, Some, map, refl};
+ghost use Rattle.std.specs.Prelude.{◌≡◌, ◌<◌, ◌+◌, ◌^◌, ◌++◌, IfOk, IsSome, Some, drop, map, option_to_list, refl};
 ghost use Rattle.std.specs.Cmp.{eq_by_cmp_equiv, partial_equiv_from_equiv, partial_order_from_total};
 ghost use Rattle.std.specs.Ordering.{eq_by_cmp};
 ghost use Rattle.std.specs.List.Sorted.{IsPermutation, IsSorted};
 ghost use Rattle.rx_base.specs.Texts.{texts};
 ghost use Rattle.rx_tree.specs.Entries.{dir_entry, entries_of, file_entry, names_of};
 ghost use Rattle.rx_tree.specs.Places.{by_place, by_place_total};
+ghost use Rattle.rx_tree.specs.Planting.{contents, goes_alike};
 ghost use Rattle.rx_tree.specs.Refusals.{is_same_file, is_under, stands_under};
+ghost use Rattle.rx_tree.specs.Search.{place};
+ghost use Rattle.rx_tree.specs.Trees.{file_at_end, first_name};
 
 use crate::input_files::InputFile;
 use rx_base::{NoMemory, RelPath};
@@ -79,6 +82,36 @@ impl<'a> Entry<'a> {
         ensures { result.now ≡ self.now.path }
     {
         self.path
+    }
+
+    /// The name after so many others, or none where the path has no more.
+    pub(crate) fn name(&self, depth: usize) -> Option<&'a str>
+        ensures name { option_to_list (place result) ≡ first_name (drop depth (names_of self.now.path)) }
+        ensures deeper { IsSome result → depth + 1 < 2 ^ 64 }
+    {
+        self.names.get(depth).copied()
+    }
+
+    /// Whether both paths go on by one name after so many, or neither goes on.
+    pub(crate) fn goes_alike(&self, other: &Entry<'_>, depth: usize) -> bool
+        ensures { result ≡ goes_alike (drop depth (names_of self.now.path)) (drop depth (names_of other.now.path)) }
+    {
+        match (self.name(depth), other.name(depth)) {
+            (Some(name), Some(other)) => name == other,
+            (None, None) => true,
+            _ => false,
+        }
+    }
+
+    /// The file of a path that has no more than so many names.
+    pub(crate) fn file_after(&self, depth: usize) -> Option<&'a InputFile>
+        ensures { contents result ≡ file_at_end (drop depth (names_of self.now.path)) self.now.file }
+    {
+        if self.names.len() <= depth {
+            self.file
+        } else {
+            None
+        }
     }
 
     /// Whether both are files and have one path.

@@ -2,11 +2,16 @@
 //! digest with all the messages, and back. Nothing here reads a file.
 #![tactic(auto)]
 
+mod blobs;
+mod directories;
 mod entries;
 mod input_files;
 mod refusals;
 mod tree_fault;
+mod trees;
 
+pub use blobs::Blob;
 pub use input_files::InputFile;
 pub use refusals::MAX_FILES;
 pub use tree_fault::TreeFault;
+pub use trees::{Built, build};

@@ -1,0 +1,63 @@
+-- Blobs, sorted and each once.
+use Rattle.std.proofs.Common.{◌≡◌, ◌≢◌, ◌∙◌, ℕ, ◌<◌, Bool, true, List, [], ◌∷◌, length, get_or, refl, sym, ap, subst, arith}
+use Rattle.std.specs.declared.cmp.Ordering.{Ordering}
+use Rattle.std.specs.declared.cmp.Ordering.TheVariants.{Less, Equal, Greater}
+use Rattle.std.specs.Ordering.{eq_by_cmp, is_eq, nat_cmp, ordering_then}
+use Rattle.std.specs.Cmp.Lexicographic.{slice_cmp}
+use Rattle.std.specs.FinMap.{nat_cmp-IsAntisymmetric}
+use Rattle.std.specs.List.{AllByRecursion, AllPairs}
+use Rattle.std.specs.List.Retain.{IsFiltered, DiffersFromLast}
+use Rattle.std.specs.List.Sorted.{IsPermutation, IsSorted, IsStrictlySortedBy}
+use Rattle.std.proofs.lemmas.Cmp.{eq_by_cmp_equiv, tied_itself}
+use Rattle.std.proofs.lemmas.List.Elements.{All-from_recursion}
+use Rattle.std.proofs.lemmas.List.Filters.{dedup_is}
+use Rattle.std.proofs.lemmas.List.Kept.{AllPairs-cons, Contains-dedup, Contains-from_dedup, IsStrictlySortedBy-dedup}
+use Rattle.std.proofs.lemmas.List.Sorted.{Contains-permutation, IsPermutation-sym}
+use Rattle.rx_base.specs.SortedPaths.{HasSameMembers}
+use Rattle.rx_base.specs.declared.digests.Digest.{Digest}
+use Rattle.rx_tree.specs.declared.blobs.Blob.{Blob}
+use Rattle.rx_tree.specs.Blobs.{HasNoRepeats, by_blob, by_blob_total}
+use Rattle.rx_tree.proofs.Members.{All-weaken}
+use Rattle.rx_tree.proofs.NameOrder.{equal_then, is_equal}
+
+-- blobs that tie are one
+blob_is : (x y : Blob) → x.digest.hash ≡ y.digest.hash → x.digest.size ≡ y.digest.size → x.bytes ≡ y.bytes → x ≡ y
+blob_is x y h s b =
+    ap (λ (hash : List ℕ). let blob : Blob = record { digest = record { hash = hash; size = x.digest.size }; bytes = x.bytes } in blob) h
+    ∙ ap (λ (size : ℕ). let blob : Blob = record { digest = record { hash = y.digest.hash; size = size }; bytes = x.bytes } in blob) s
+    ∙ ap (λ (bytes : List ℕ). let blob : Blob = record { digest = y.digest; bytes = bytes } in blob) b
+
+tied_is : (x y : Blob) → by_blob x y ≡ Equal → x ≡ y
+tied_is x y e =
+    let hash = slice_cmp nat_cmp x.digest.hash y.digest.hash in
+    let size = nat_cmp x.digest.size y.digest.size in
+    let bytes = slice_cmp nat_cmp x.bytes y.bytes in
+    let first = equal_then (ordering_then hash size) bytes e in
+    let second = equal_then hash size first.0 in
+    blob_is x y (is_equal x.digest.hash y.digest.hash second.0) (nat_cmp-IsAntisymmetric x.digest.size y.digest.size second.1) (is_equal x.bytes y.bytes first.1)
+
+equal_from : (o : Ordering) → is_eq o ≡ true → o ≡ Equal
+equal_from Less e = absurd (cc e)
+equal_from Equal e = refl
+equal_from Greater e = absurd (cc e)
+
+pub members : (blobs sorted once : List Blob) → IsPermutation blobs sorted → IsFiltered (DiffersFromLast (eq_by_cmp by_blob)) [] sorted once → HasSameMembers blobs once
+members blobs sorted once p kept =
+    subst (λ (found : List Blob). HasSameMembers blobs found) (sym (dedup_is (eq_by_cmp by_blob) sorted once kept))
+    (λ blob. (
+      λ c. Contains-dedup (eq_by_cmp_equiv by_blob_total) (λ x y e. tied_is x y (equal_from (by_blob x y) e)) sorted blob (Contains-permutation blobs sorted blob p c),
+      λ c. Contains-permutation sorted blobs blob (IsPermutation-sym blobs sorted p) (Contains-from_dedup (eq_by_cmp by_blob) sorted blob c),
+    ))
+
+differ : (x y : Blob) → by_blob x y ≡ Less → x ≢ y
+differ x y less e = absurd (cc (sym less ∙ ap (λ (b : Blob). by_blob x b) (sym e) ∙ tied_itself by_blob_total x))
+
+no_pairs : (blobs : List Blob) → IsStrictlySortedBy by_blob blobs → HasNoRepeats blobs
+unfolding IsStrictlySortedBy
+no_pairs [] s = λ i j d lt within. absurd (omega arith)
+no_pairs (x ∷ xs) s =
+    AllPairs-cons (λ x y. x ≢ y) x xs (All-from_recursion (λ y. x ≢ y) xs (All-weaken (λ y. by_blob x y ≡ Less) (λ y. x ≢ y) xs (λ y less. differ x y less) s.0)) (no_pairs xs s.1)
+
+pub no_repeats : (sorted once : List Blob) → IsSorted by_blob sorted → IsFiltered (DiffersFromLast (eq_by_cmp by_blob)) [] sorted once → HasNoRepeats once
+no_repeats sorted once s kept =
+    subst (λ (found : List Blob). HasNoRepeats found) (sym (dedup_is (eq_by_cmp by_blob) sorted once kept)) (no_pairs _ (IsStrictlySortedBy-dedup by_blob_total (λ x y. refl) sorted s))
