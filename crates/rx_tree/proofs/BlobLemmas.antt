@@ -2,7 +2,7 @@
 use Rattle.std.proofs.Common.{◌≡◌, ◌≢◌, ◌∙◌, ℕ, ◌<◌, Bool, true, List, [], ◌∷◌, length, get_or, refl, sym, ap, subst, arith}
 use Rattle.std.specs.declared.cmp.Ordering.{Ordering}
 use Rattle.std.specs.declared.cmp.Ordering.TheVariants.{Less, Equal, Greater}
-use Rattle.std.specs.Ordering.{eq_by_cmp, is_eq, nat_cmp, ordering_then}
+use Rattle.std.specs.Ordering.{eq_by_cmp, is_eq, nat_cmp}
 use Rattle.std.specs.Cmp.Lexicographic.{slice_cmp}
 use Rattle.std.specs.FinMap.{nat_cmp-IsAntisymmetric}
 use Rattle.std.specs.List.{AllByRecursion, AllPairs}
@@ -16,27 +16,24 @@ use Rattle.std.proofs.lemmas.List.Sorted.{Contains-permutation, IsPermutation-sy
 use Rattle.rx_base.specs.SortedPaths.{HasSameMembers}
 use Rattle.rx_base.specs.declared.digests.Digest.{Digest}
 use Rattle.rx_tree.specs.declared.blobs.Blob.{Blob}
-use Rattle.rx_tree.specs.Blobs.{HasNoRepeats, by_blob, by_blob_total}
+use Rattle.rx_tree.specs.Blobs.{HasNoRepeats, by_blob, by_blob_total, by_digest}
 use Rattle.rx_tree.proofs.Members.{All-weaken}
 use Rattle.rx_tree.proofs.NameOrder.{equal_then, is_equal}
 
--- blobs that tie are one
-blob_is : (x y : Blob) → x.digest.hash ≡ y.digest.hash → x.digest.size ≡ y.digest.size → x.bytes ≡ y.bytes → x ≡ y
-blob_is x y h s b =
-    ap (λ (hash : List ℕ). let blob : Blob = record { digest = record { hash = hash; size = x.digest.size }; bytes = x.bytes } in blob) h
-    ∙ ap (λ (size : ℕ). let blob : Blob = record { digest = record { hash = y.digest.hash; size = size }; bytes = x.bytes } in blob) s
-    ∙ ap (λ (bytes : List ℕ). let blob : Blob = record { digest = y.digest; bytes = bytes } in blob) b
+-- what ties is one
+pub digest_is : (x y : Digest) → by_digest x y ≡ Equal → x ≡ y
+digest_is x y e =
+    let parts = equal_then (slice_cmp nat_cmp x.hash y.hash) (nat_cmp x.size y.size) e in
+    ap (λ (hash : List ℕ). let d : Digest = record { hash = hash; size = x.size } in d) (is_equal x.hash y.hash parts.0)
+    ∙ ap (λ (size : ℕ). let d : Digest = record { hash = y.hash; size = size } in d) (nat_cmp-IsAntisymmetric x.size y.size parts.1)
 
 tied_is : (x y : Blob) → by_blob x y ≡ Equal → x ≡ y
 tied_is x y e =
-    let hash = slice_cmp nat_cmp x.digest.hash y.digest.hash in
-    let size = nat_cmp x.digest.size y.digest.size in
-    let bytes = slice_cmp nat_cmp x.bytes y.bytes in
-    let first = equal_then (ordering_then hash size) bytes e in
-    let second = equal_then hash size first.0 in
-    blob_is x y (is_equal x.digest.hash y.digest.hash second.0) (nat_cmp-IsAntisymmetric x.digest.size y.digest.size second.1) (is_equal x.bytes y.bytes first.1)
+    let parts = equal_then (by_digest x.digest y.digest) (slice_cmp nat_cmp x.bytes y.bytes) e in
+    ap (λ (digest : Digest). let b : Blob = record { digest = digest; bytes = x.bytes } in b) (digest_is x.digest y.digest parts.0)
+    ∙ ap (λ (bytes : List ℕ). let b : Blob = record { digest = y.digest; bytes = bytes } in b) (is_equal x.bytes y.bytes parts.1)
 
-equal_from : (o : Ordering) → is_eq o ≡ true → o ≡ Equal
+pub equal_from : (o : Ordering) → is_eq o ≡ true → o ≡ Equal
 equal_from Less e = absurd (cc e)
 equal_from Equal e = refl
 equal_from Greater e = absurd (cc e)

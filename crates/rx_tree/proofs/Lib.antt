@@ -12,3 +12,4 @@ pub mod ReadyLemmas
 pub mod StartLemmas
 pub mod BlobLemmas
 pub mod EntryLemmas
+pub mod ShelfLemmas

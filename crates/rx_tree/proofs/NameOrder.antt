@@ -69,7 +69,7 @@ equal_then Less p e = absurd (cc e)
 equal_then Equal p e = (refl, e)
 equal_then Greater p e = absurd (cc e)
 
-neither_less : (o : Ordering) → is_lt o ≡ false → is_lt (ordering_reverse o) ≡ false → o ≡ Equal
+pub neither_less : (o : Ordering) → is_lt o ≡ false → is_lt (ordering_reverse o) ≡ false → o ≡ Equal
 neither_less Less e f = absurd (cc e)
 neither_less Equal e f = refl
 neither_less Greater e f = absurd (cc f)

@@ -4,4 +4,5 @@ pub mod Places
 pub mod Planting
 pub mod Refusals
 pub mod Search
+pub mod Shelves
 pub mod Trees

@@ -7,6 +7,7 @@ mod directories;
 mod entries;
 mod input_files;
 mod refusals;
+mod shelves;
 mod tree_fault;
 mod trees;
 
