@@ -13,3 +13,4 @@ pub mod StartLemmas
 pub mod BlobLemmas
 pub mod EntryLemmas
 pub mod ShelfLemmas
+pub mod WalkLemmas

@@ -6,3 +6,4 @@ pub mod Refusals
 pub mod Search
 pub mod Shelves
 pub mod Trees
+pub mod Walks

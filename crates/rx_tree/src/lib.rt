@@ -6,13 +6,16 @@ mod blobs;
 mod directories;
 mod entries;
 mod input_files;
+mod listings;
 mod refusals;
 mod shelves;
 mod tree_fault;
 mod trees;
+mod walks;
 
 pub use blobs::Blob;
 pub use input_files::InputFile;
+pub use listings::{Listed, TreeFile};
 pub use refusals::MAX_FILES;
 pub use tree_fault::TreeFault;
 pub use trees::{Built, build};
