@@ -1,0 +1,11 @@
+use Rattle.std.proofs.Common.{refl}
+use Rattle.std.proofs.lemmas.List.{append-nil}
+use Rattle.rx_messages.specs.Batches.{blob_read_fields, blob_read_from}
+use Rattle.rx_messages.proofs.ContentLaws.{contents-append, contents-numbered, some_unit, text_again}
+use Rattle.rx_messages.proofs.batches.BlobReadMessage.write.Goals as goal
+
+pub returns-clause-again : goal.returns-clause-again
+unfolding blob_read_fields blob_read_from
+returns-clause-again c = λ ok can.
+    let x = c.args.self.now in
+    simp (contents-append, contents-numbered, append-nil) (rw (c.in_ok-message.ensures.again refl can, text_again x.body, c.message-2.ensures.again ok (some_unit x.status)) refl)

@@ -1,0 +1,11 @@
+use Rattle.std.proofs.Common.{refl}
+use Rattle.std.proofs.lemmas.List.{append-nil}
+use Rattle.rx_messages.specs.Blobs.{find_missing_blobs_response_fields, find_missing_blobs_response_from}
+use Rattle.rx_messages.proofs.ContentLaws.{contents-append, contents-numbered}
+use Rattle.rx_messages.proofs.blobs.FindMissingBlobsResponseMessage.write.Goals as goal
+
+pub returns-clause-again : goal.returns-clause-again
+unfolding find_missing_blobs_response_fields find_missing_blobs_response_from
+returns-clause-again c = λ ok can.
+    let x = c.args.self.now in
+    simp (contents-append, contents-numbered, append-nil) (rw (c.messages.ensures.again ok can) refl)

@@ -1,0 +1,11 @@
+use Rattle.std.proofs.Common.{refl}
+use Rattle.std.proofs.lemmas.List.{append-nil}
+use Rattle.rx_messages.specs.Nodes.{symlink_node_fields, symlink_node_from}
+use Rattle.rx_messages.proofs.ContentLaws.{contents-append, contents-numbered, text_again}
+use Rattle.rx_messages.proofs.nodes.SymlinkNodeMessage.write.Goals as goal
+
+pub returns-clause-again : goal.returns-clause-again
+unfolding symlink_node_fields symlink_node_from
+returns-clause-again c = λ ok can.
+    let x = c.args.self.now in
+    simp (contents-append, contents-numbered, append-nil) (rw (text_again x.name, text_again x.target) refl)
