@@ -5,10 +5,10 @@ use Rattle.std.specs.Str.{bytes_eq}
 use Rattle.rx_base.specs.Digests.{digest_of}
 use Rattle.rx_base.specs.SortedPaths.{sorted_paths}
 use Rattle.rx_base.specs.declared.digests.Digest.{Digest}
-use Rattle.rx_messages.specs.Nodes.{directory_bytes}
+use Rattle.rx_messages.specs.Directories.{directory_bytes}
 use Rattle.rx_messages.specs.declared.nodes.FileNode.{FileNode}
 use Rattle.rx_messages.specs.declared.nodes.DirectoryNode.{DirectoryNode}
-use Rattle.rx_messages.specs.declared.nodes.Directory.{Directory}
+use Rattle.rx_messages.specs.declared.directories.Directory.{Directory}
 use Rattle.rx_tree.specs.Entries.{Content, Entry, names_of}
 
 -- ---- a tree

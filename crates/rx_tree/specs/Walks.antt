@@ -7,8 +7,9 @@ use Rattle.rx_base.specs.Results.{◌>>=◌}
 use Rattle.rx_messages.specs.declared.faults.MessageFault.{MessageFault}
 use Rattle.rx_messages.specs.declared.nodes.FileNode.{FileNode}
 use Rattle.rx_messages.specs.declared.nodes.DirectoryNode.{DirectoryNode}
-use Rattle.rx_messages.specs.declared.nodes.Directory.{Directory}
-use Rattle.rx_messages.specs.Nodes.{decoded}
+use Rattle.rx_messages.specs.declared.directories.Directory.{Directory}
+use Rattle.rx_messages.specs.Decoding.{decoded}
+use Rattle.rx_messages.specs.Directories.{directory_from, directory_has_one_form, directory_parts}
 use Rattle.rx_tree.specs.declared.blobs.Blob.{Blob}
 use Rattle.rx_tree.specs.declared.listings.TreeFile.{TreeFile}
 use Rattle.rx_tree.specs.declared.walks.Seen.{Seen}
@@ -22,7 +23,7 @@ use Rattle.rx_tree.specs.Refusals.{most_files}
 
 -- the Directory of some bytes, which only its canonical form is
 abbrev pub read_directory : List ℕ → Result Directory MessageFault
-read_directory bytes = decoded bytes
+read_directory bytes = decoded directory_parts directory_from directory_has_one_form bytes
 
 abbrev pub canonical : {A : Type 0} → Digest → Result A MessageFault → Result A TreeFault
 canonical digest (Ok x) = Ok x

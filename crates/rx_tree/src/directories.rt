@@ -11,7 +11,7 @@ use crate::blobs::Blob;
 use crate::entries::Entry;
 use crate::input_files::InputFile;
 use rx_base::{Digest, Items, NoMemory, Text};
-use rx_messages::{Directory, DirectoryNode, FileNode};
+use rx_messages::{Directory, DirectoryNode, FileNode, Message};
 use std::alloc::Global;
 
 /// How many entries in front go on alike with the first.

@@ -11,7 +11,7 @@ use crate::refusals::MAX_FILES;
 use crate::shelves::Shelf;
 use crate::tree_fault::TreeFault;
 use rx_base::{Digest, Items, PathFault, RelPath, Text, TryClone};
-use rx_messages::{Directory, DirectoryNode, FileNode, MessageFault};
+use rx_messages::{Directory, DirectoryNode, FileNode, Message, MessageFault};
 use std::alloc::Global;
 
 /// What a walk has seen: how many directories it entered, the files, and the directories without any

@@ -3,8 +3,8 @@ use Rattle.std.proofs.lemmas.List.{map-append}
 use Rattle.rx_base.specs.Digests.{digest_of}
 use Rattle.rx_messages.specs.declared.nodes.FileNode.{FileNode}
 use Rattle.rx_messages.specs.declared.nodes.DirectoryNode.{DirectoryNode}
-use Rattle.rx_messages.specs.Nodes.{directory_bytes}
-use Rattle.rx_messages.specs.declared.nodes.Directory.{Directory}
+use Rattle.rx_messages.specs.Directories.{directory_bytes}
+use Rattle.rx_messages.specs.declared.directories.Directory.{Directory}
 use Rattle.rx_tree.specs.declared.blobs.Blob.{Blob}
 use Rattle.rx_tree.specs.Blobs.{blob_of}
 use Rattle.rx_tree.specs.Entries.{content_of}
