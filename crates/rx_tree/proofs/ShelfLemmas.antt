@@ -50,10 +50,10 @@ below_too {K} {R} o x y z low less =
 
 pub partitioned : (refs : List (Bor Blob)) (digest : Digest) → IsOrdered refs → IsPartitionedBy (λ blob. is_lt (by_digest blob.now.digest digest)) refs
 partitioned refs digest up = λ i j d le lt less.
-  let far = sorted_far (λ (x y : Bor Blob). is_lt (by_blob x.now y.now)) (ranks_by by_blob_total (λ (x : Bor Blob). x.now)) refs up i j d le lt in
-  let x = (get_or refs i d).now in
-  let y = (get_or refs j d).now in
-  below_too by_digest_total x.digest y.digest digest (not_less_then (by_digest y.digest x.digest) (slice_cmp nat_cmp y.bytes x.bytes) far) less
+    let far = sorted_far (λ (x y : Bor Blob). is_lt (by_blob x.now y.now)) (ranks_by by_blob_total (λ (x : Bor Blob). x.now)) refs up i j d le lt in
+    let x = (get_or refs i d).now in
+    let y = (get_or refs j d).now in
+    below_too by_digest_total x.digest y.digest digest (not_less_then (by_digest y.digest x.digest) (slice_cmp nat_cmp y.bytes x.bytes) far) less
 
 at_mapped : (P : Blob → Type 0) (refs : List (Bor Blob)) (k : ℕ) (d : Blob) → k < length (blobs_of refs) → ((e : Bor Blob) → P (get_or refs k e).now) → P (get_or (blobs_of refs) k d)
 at_mapped P [] k d lt h = absurd (omega arith)
@@ -164,17 +164,17 @@ module _ (blobs : List Blob) (refs : List (Bor Blob)) (shelf : IsShelf blobs ref
       let size = size_is in
       at_mapped (λ b. is_lt (by_blob b x) ≡ false) refs k d in_k
       (λ e. subst (λ (y : Blob). is_lt (by_blob (get_or refs k e).now y) ≡ false) (is e)
-        (sorted_far (λ (x y : Bor Blob). is_lt (by_blob x.now y.now)) (ranks_by by_blob_total (λ (x : Bor Blob). x.now)) refs shelf.ordered at k e le (omega arith)))
+      (sorted_far (λ (x y : Bor Blob). is_lt (by_blob x.now y.now)) (ranks_by by_blob_total (λ (x : Bor Blob). x.now)) refs shelf.ordered at k e le (omega arith)))
 
   pub past_all : length refs ≤ at → None ≡ blob_at digest blobs
   past_all past =
       let size = size_is in
       sym (least_none _ (λ y c.
-        let b = named-from digest blobs y c in
-        let k = behind_at b.0 b.1 b.2 in
-        let le : at ≤ k.0 = k.1 in
-        let lt : k.0 < length (blobs_of refs) = k.2 in
-        omega arith))
+      let b = named-from digest blobs y c in
+      let k = behind_at b.0 b.1 b.2 in
+      let le : at ≤ k.0 = k.1 in
+      let lt : k.0 < length (blobs_of refs) = k.2 in
+      omega arith))
 
   module _ (x : Bor Blob) (within : at < length refs) (x_is : x ≡ get_or refs at x) where
     x_at : (e : Bor Blob) → (get_or refs at e).now ≡ x.now
@@ -189,12 +189,12 @@ module _ (blobs : List Blob) (refs : List (Bor Blob)) (shelf : IsShelf blobs ref
     pub at_other : is_eq (by_digest x.now.digest digest) ≡ false → None ≡ blob_at digest blobs
     at_other differs =
         sym (least_none _ (λ y c.
-          let b = named-from digest blobs y c in
-          let low : is_lt (by_digest b.0.digest x.now.digest) ≡ false = not_less_then (by_digest b.0.digest x.now.digest) (slice_cmp nat_cmp b.0.bytes x.now.bytes) (behind b.0 b.1 b.2) in
-          let is : b.0.digest ≡ digest = digest_is b.0.digest digest (equal_from (by_digest b.0.digest digest) b.2) in
-          let back : is_lt (by_digest digest x.now.digest) ≡ false = subst (λ (d : Digest). is_lt (by_digest d x.now.digest) ≡ false) is low in
-          let here : is_lt (by_digest x.now.digest digest) ≡ false = subst (λ (b : Blob). is_lt (by_digest b.digest digest) ≡ false) (x_at x) (point.1 at x (omega arith) within) in
-          false≢true (sym differs ∙ ap is_eq (neither_less (by_digest x.now.digest digest) here (ap is_lt (sym (by_digest_total.antisymm digest x.now.digest)) ∙ back)))))
+        let b = named-from digest blobs y c in
+        let low : is_lt (by_digest b.0.digest x.now.digest) ≡ false = not_less_then (by_digest b.0.digest x.now.digest) (slice_cmp nat_cmp b.0.bytes x.now.bytes) (behind b.0 b.1 b.2) in
+        let is : b.0.digest ≡ digest = digest_is b.0.digest digest (equal_from (by_digest b.0.digest digest) b.2) in
+        let back : is_lt (by_digest digest x.now.digest) ≡ false = subst (λ (d : Digest). is_lt (by_digest d x.now.digest) ≡ false) is low in
+        let here : is_lt (by_digest x.now.digest digest) ≡ false = subst (λ (b : Blob). is_lt (by_digest b.digest digest) ≡ false) (x_at x) (point.1 at x (omega arith) within) in
+        false≢true (sym differs ∙ ap is_eq (neither_less (by_digest x.now.digest digest) here (ap is_lt (sym (by_digest_total.antisymm digest x.now.digest)) ∙ back)))))
 
     pub at_found : is_eq (by_digest x.now.digest digest) ≡ true → Some x.now.bytes ≡ blob_at digest blobs
     at_found tie =
@@ -204,8 +204,8 @@ module _ (blobs : List Blob) (refs : List (Bor Blob)) (shelf : IsShelf blobs ref
         let here : Contains (blobs_of refs) x.now = (at, lt, at_mapped (λ b. b ≡ x.now) refs at x.now lt x_at) in
         let in_blobs = Contains-permutation (blobs_of refs) blobs x.now (IsPermutation-sym blobs (blobs_of refs) shelf.all) here in
         sym (least_first _ x.now.bytes (named-to digest blobs x.now in_blobs tie) (λ y c.
-          let b = named-from digest blobs y c in
-          let b_is : b.0.digest ≡ digest = digest_is b.0.digest digest (equal_from (by_digest b.0.digest digest) b.2) in
-          let same : by_digest b.0.digest x.now.digest ≡ Equal = rw (b_is, is) (tied_itself by_digest_total digest) in
-          let low : is_lt (by_bytes b.0.bytes x.now.bytes) ≡ false = rw same at (behind b.0 b.1 b.2) in
-          subst (λ (z : List ℕ). is_lt (by_bytes z x.now.bytes) ≡ false) b.3 low))
+        let b = named-from digest blobs y c in
+        let b_is : b.0.digest ≡ digest = digest_is b.0.digest digest (equal_from (by_digest b.0.digest digest) b.2) in
+        let same : by_digest b.0.digest x.now.digest ≡ Equal = rw (b_is, is) (tied_itself by_digest_total digest) in
+        let low : is_lt (by_bytes b.0.bytes x.now.bytes) ≡ false = rw same at (behind b.0 b.1 b.2) in
+        subst (λ (z : List ℕ). is_lt (by_bytes z x.now.bytes) ≡ false) b.3 low))

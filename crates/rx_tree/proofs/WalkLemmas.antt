@@ -17,7 +17,7 @@ use Rattle.rx_tree.specs.Walks.{child_of, each, entered, entered_with, named_by,
 pub with_nodes-drop : {N T : Type 0} (name : N → List ℕ) (content : N → Option Digest) (told : N → List ℕ → Digest → T) (digest : Digest) (path : List ℕ) (nodes : List N) (items : List T) (i : ℕ) (node : N)
     → i < length nodes → node ≡ get_or nodes i node
     → with_nodes name content told digest path (drop i nodes) items
-      ≡ (child_of digest path (name node) >>= λ child. named_by digest (content node) >>= λ named. with_nodes name content told digest path (drop (i + 1) nodes) (items ++ told node child named ∷ []))
+    ≡ (child_of digest path (name node) >>= λ child. named_by digest (content node) >>= λ named. with_nodes name content told digest path (drop (i + 1) nodes) (items ++ told node child named ∷ []))
 unfolding with_nodes
 with_nodes-drop name content told digest path nodes items i node lt is =
     at_drop_more (λ ns. with_nodes name content told digest path ns items) nodes i node lt

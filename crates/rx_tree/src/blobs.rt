@@ -71,7 +71,10 @@ impl Ord for Blob {
 pub(crate) fn compare_digests(digest: &Digest, other: &Digest) -> Ordering
     ensures { result ≡ by_digest digest.now other.now }
 {
-    digest.hash.cmp(&other.hash).then(digest.size.cmp(&other.size))
+    digest
+        .hash
+        .cmp(&other.hash)
+        .then(digest.size.cmp(&other.size))
 }
 
 /// These blobs in their order, each once.

@@ -15,7 +15,7 @@ mod walks;
 
 pub use blobs::Blob;
 pub use input_files::InputFile;
-pub use listings::{Listed, TreeFile};
+pub use listings::{Listed, TreeFile, list_of};
 pub use refusals::MAX_FILES;
 pub use tree_fault::TreeFault;
 pub use trees::{Built, build};

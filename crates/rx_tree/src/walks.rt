@@ -48,11 +48,7 @@ fn child_of(
 }
 
 /// The Directory that a digest names.
-fn directory_at(
-    alloc: Global,
-    shelf: &Shelf<'_>,
-    digest: &Digest,
-) -> Result<Directory, TreeFault>
+fn directory_at(alloc: Global, shelf: &Shelf<'_>, digest: &Digest) -> Result<Directory, TreeFault>
     ensures { Gives fault.NoMemory (λ directory. directory) result (directory_at digest.now shelf.now) }
 {
     let Some(bytes) = shelf.get(digest) else {
@@ -116,9 +112,7 @@ fn subs_of(
 fn is_bare(directory: &Directory) -> bool
     ensures { result ≡ is_bare directory.now }
 {
-    directory.files.is_empty()
-        && directory.directories.is_empty()
-        && directory.symlinks.is_empty()
+    directory.files.is_empty() && directory.directories.is_empty() && directory.symlinks.is_empty()
 }
 
 /// Enters a directory, and gives those that are to be entered next.
@@ -138,7 +132,13 @@ fn enter(
     }
     seen.entered += 1;
     let directory = directory_at(alloc, shelf, digest)?;
-    add_files(alloc, digest, path, directory.files.as_slice(), &mut seen.files)?;
+    add_files(
+        alloc,
+        digest,
+        path,
+        directory.files.as_slice(),
+        &mut seen.files,
+    )?;
     let subs = subs_of(alloc, digest, path, directory.directories.as_slice())?;
     if seen.files.len() > MAX_FILES {
         return Err(TreeFault::TooManyFiles);

@@ -9,6 +9,6 @@ use Rattle.rx_tree.proofs.shelves.sort_blobs.Goals as goal
 pub returns : goal.returns
 returns c = record {
   all = subst (λ (bs : List Blob). IsPermutation bs (blobs_of c.sort.new.self.items)) c.in_ok-sorted.ensures
-    (IsPermutation-map (λ (b : Bor Blob). b.now) c.in_ok-sorted.sorted.items c.sort.new.self.items c.in_ok-sort.ensures.permutation);
+      (IsPermutation-map (λ (b : Bor Blob). b.now) c.in_ok-sorted.sorted.items c.sort.new.self.items c.in_ok-sort.ensures.permutation);
   ordered = c.in_ok-sort.ensures.sorted;
 }

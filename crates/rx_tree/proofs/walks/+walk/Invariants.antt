@@ -11,5 +11,5 @@ invariant-loop-sub l = record {
   room : l.fn.seen.entered < most_files;
   more : l.fn.seen.entered < l.seen.entered;
   goes_on : (most : ℕ) → most_files < suc most + l.fn.seen.entered
-    → walked (suc most) l.shelf l.digest l.path l.fn.seen ≡ each (λ sub next. walked most l.shelf sub.digest sub.path next) (drop l.sub-index l.sub-items) l.seen;
+      → walked (suc most) l.shelf l.digest l.path l.fn.seen ≡ each (λ sub next. walked most l.shelf sub.digest sub.path next) (drop l.sub-index l.sub-items) l.seen;
 }

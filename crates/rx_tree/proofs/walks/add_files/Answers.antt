@@ -19,8 +19,8 @@ returns-in_err-child c =
 
 pub returns-in_default : goal.returns-in_default
 returns-in_default c = λ other.
-  let step = with_nodes-drop (λ (node : FileNode). node.name) (λ (node : FileNode). node.digest) (λ (node : FileNode) (child : List ℕ) (named : Digest). let file : TreeFile = record { path = child; digest = named; executable = node.is_executable } in file) c.args.digest.now c.args.path.now c.args.nodes.now c.loop-node.files c.loop-node.node-index c.node-item.result c.loop-node-test.true c.node-item.is in
-  sym c.loop-node.invariant ∙ step ∙ rw (c.in_ok-child.ensures, c.in_default.is) refl
+    let step = with_nodes-drop (λ (node : FileNode). node.name) (λ (node : FileNode). node.digest) (λ (node : FileNode) (child : List ℕ) (named : Digest). let file : TreeFile = record { path = child; digest = named; executable = node.is_executable } in file) c.args.digest.now c.args.path.now c.args.nodes.now c.loop-node.files c.loop-node.node-index c.node-item.result c.loop-node-test.true c.node-item.is in
+    sym c.loop-node.invariant ∙ step ∙ rw (c.in_ok-child.ensures, c.in_default.is) refl
 
 pub loop-node-preserved : goal.loop-node-preserved
 loop-node-preserved c =
