@@ -1,0 +1,16 @@
+pub mod LeastLemmas
+pub mod Members
+pub mod NameOrder
+pub mod NamesLemmas
+pub mod Neighbours
+pub mod RefusalLemmas
+pub mod TreeLemmas
+pub mod TreeRuns
+pub mod TreeMembers
+pub mod PlantingLemmas
+pub mod ReadyLemmas
+pub mod StartLemmas
+pub mod BlobLemmas
+pub mod EntryLemmas
+pub mod ShelfLemmas
+pub mod WalkLemmas

@@ -1,0 +1,24 @@
+use Rattle.std.proofs.Common.{◌≡◌, ◌∙◌, List, map, ap, subst, sym}
+use Rattle.rx_base.specs.Digests.{digest_of}
+use Rattle.rx_base.specs.SortedPaths.{HasSameMembers}
+use Rattle.rx_tree.specs.declared.blobs.Blob.{Blob}
+use Rattle.rx_tree.specs.Blobs.{blob_of}
+use Rattle.rx_tree.specs.Entries.{entries_of}
+use Rattle.rx_tree.specs.Trees.{Tree, all_bytes, tree_bytes}
+use Rattle.rx_tree.proofs.StartLemmas.{ready_sorted, tree_sorted}
+use Rattle.rx_tree.proofs.trees.build.Goals as goal
+
+pub add_directories-requires : goal.add_directories-requires
+add_directories-requires c =
+    rw c.deref.ensures.value (ready_sorted (entries_of c.args.files.now c.args.dirs.now) c.in_ok-entries.entries.items c.in_ok-entries.ensures.all c.in_ok-entries.ensures.sorted c.in_ok-entries.ensures.judged.1)
+
+pub returns-clause-root : goal.returns-clause-root
+returns-clause-root c =
+    let same = tree_sorted (entries_of c.args.files.now c.args.dirs.now) c.in_ok-entries.entries.items c.in_ok-entries.ensures.all c.in_ok-entries.ensures.sorted c.in_ok-entries.ensures.judged.1 in
+    rw c.deref.ensures.value at c.in_ok-root.ensures.root ∙ ap (λ (t : Tree). digest_of (tree_bytes t)) same
+
+pub returns-clause-blobs : goal.returns-clause-blobs
+returns-clause-blobs c =
+    let same = tree_sorted (entries_of c.args.files.now c.args.dirs.now) c.in_ok-entries.entries.items c.in_ok-entries.ensures.all c.in_ok-entries.ensures.sorted c.in_ok-entries.ensures.judged.1 in
+    let pushed = rw (c.deref.ensures.value, c.new-blobs.ensures.items) at c.in_ok-root.ensures.blobs in
+    subst (λ (bs : List Blob). HasSameMembers bs c.in_ok-blobs.blobs) (pushed ∙ ap (λ (t : Tree). map blob_of (all_bytes t)) same) c.in_ok-blobs.ensures.members

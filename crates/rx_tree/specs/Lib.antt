@@ -1,0 +1,10 @@
+pub mod Blobs
+pub mod Entries
+pub mod Lists
+pub mod Places
+pub mod Planting
+pub mod Refusals
+pub mod Search
+pub mod Shelves
+pub mod Trees
+pub mod Walks

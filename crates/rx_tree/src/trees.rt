@@ -1,0 +1,40 @@
+//! From a list of paths to the digest of its tree's root and to all its Directories.
+
+ghost use Rattle.std.specs.Prelude.{◌≡◌, IfOk, map};
+ghost use Rattle.rx_base.specs.Digests.{digest_of};
+ghost use Rattle.rx_base.specs.SortedPaths.{HasSameMembers};
+ghost use Rattle.rx_tree.specs.Blobs.{HasNoRepeats, blob_of};
+ghost use Rattle.rx_tree.specs.Entries.{entries_of};
+ghost use Rattle.rx_tree.specs.Refusals.{Judges};
+ghost use Rattle.rx_tree.specs.Trees.{all_bytes, tree, tree_bytes};
+
+use crate::blobs::{Blob, once_each};
+use crate::directories::add_directories;
+use crate::input_files::InputFile;
+use crate::refusals::take_entries;
+use crate::tree_fault::TreeFault;
+use rx_base::{Digest, Items, RelPath};
+use std::alloc::Global;
+
+/// A tree: the digest of its root's Directory, and each distinct Directory once, in no stated order.
+#[derive(Debug, Drop)]
+pub struct Built {
+    pub root: Digest,
+    pub blobs: Items<Blob>,
+}
+
+/// The tree of these files and directories, with every directory above one of them. An entry of
+/// `dirs` may stand there twice; the root there adds nothing. A file whose path is the root is in no
+/// Directory.
+pub fn build(alloc: Global, files: &[InputFile], dirs: &[RelPath]) -> Result<Built, TreeFault>
+    ensures judged { Judges files.now dirs.now result }
+    ensures root { IfOk result (λ built. built.root ≡ digest_of (tree_bytes (tree (entries_of files.now dirs.now)))) }
+    ensures blobs { IfOk result (λ built. HasSameMembers (map blob_of (all_bytes (tree (entries_of files.now dirs.now)))) built.blobs) }
+    ensures once { IfOk result (λ built. HasNoRepeats built.blobs) }
+{
+    let entries = take_entries(alloc, files, dirs)?;
+    let mut blobs = Vec::new(alloc);
+    let root = add_directories(alloc, &entries, 0, &mut blobs)?;
+    let blobs = once_each(blobs)?;
+    Ok(Built { root, blobs })
+}
