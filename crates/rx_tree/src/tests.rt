@@ -1,0 +1,210 @@
+use crate::{Blob, InputFile, MAX_FILES, TreeFault, build, list_of};
+use rx_base::{Bytes, Items, RelPath, Text, digest_of};
+use rx_messages::{Directory, DirectoryNode, Message};
+use rx_world::Stamp;
+use std::alloc::{AllocError, Global};
+use std::test::Fail;
+
+/// A path; the empty text is the root.
+fn path(alloc: Global, text: &str) -> Result<RelPath, Fail> {
+    if text.is_empty() {
+        return Ok(RelPath::root(alloc));
+    }
+    Ok(RelPath::read(alloc, text)?)
+}
+
+/// Files with these paths, all holding `abc`.
+fn files(alloc: Global, paths: &[&str]) -> Result<Vec<InputFile>, Fail> {
+    let mut files = Vec::new(alloc);
+    for text in paths {
+        files.push(InputFile {
+            path: path(alloc, text)?,
+            digest: digest_of(b"abc"),
+            stamp: Stamp { size: 3, mark: 1 },
+            executable: text.ends_with('z'),
+        })?;
+    }
+    Ok(files)
+}
+
+/// Directories with these paths.
+fn dirs(alloc: Global, paths: &[&str]) -> Result<Vec<RelPath>, Fail> {
+    let mut dirs = Vec::new(alloc);
+    for text in paths {
+        dirs.push(path(alloc, text)?)?;
+    }
+    Ok(dirs)
+}
+
+#[test]
+fn builds_trees(rt: HostRuntime) -> Result<(), Fail> {
+    let alloc = rt.alloc();
+    for (paths, above, size, hash, count) in [
+        // A sort of whole paths would have `a.b/y` before `a/x`.
+        (
+            &["b", "a/x", "a.c", "a.b/y"][..],
+            &[][..],
+            304,
+            "82c3f2f027bec7f164d4d0b92394aec3d462353c2726bd8d64090aea8d2d3d95",
+            3,
+        ),
+        (
+            &[],
+            &["w", "", "w"],
+            73,
+            "7c4d294b032a9169a32f8ce0b8062c2e3ba83f566f2a293a05ddf39b2b46ed0e",
+            2,
+        ),
+        // Two equal directories, each with one below it.
+        (
+            &["q/m/z", "p/m/z"],
+            &["p"],
+            150,
+            "b490d420ad20b1cbd4c4b400a87a3070c0328bb4d16cf9e557eb5596c9bceefc",
+            3,
+        ),
+        (
+            &[""],
+            &[],
+            0,
+            "e3b0c44298fc1c149afbf4c8996fb92427ae41e4649b934ca495991b7852b855",
+            1,
+        ),
+    ] {
+        let built = build(alloc, &files(alloc, paths)?, &dirs(alloc, above)?)?;
+        assert_eq!(rt; built.root.size, size);
+        assert_eq!(rt; built.root.hash_text(alloc)?.as_str(), hash);
+        assert_eq!(rt; built.blobs.len(), count);
+    }
+    Ok(())
+}
+
+/// What a refusal says, if there is one.
+fn told(alloc: Global, fault: Option<&TreeFault>) -> Result<String, AllocError> {
+    match fault {
+        None => String::from_str(alloc, "none"),
+        Some(TreeFault::TooManyFiles) => String::from_str(alloc, "too many"),
+        Some(TreeFault::DuplicatePath(path)) => format!(in alloc; "twice {}", path.as_str()),
+        Some(TreeFault::FileUnderFile(file, below)) => {
+            format!(in alloc; "{} above {}", file.as_str(), below.as_str())
+        }
+        Some(TreeFault::MissingBlob(digest)) => format!(in alloc; "missing {}", digest.size),
+        Some(TreeFault::NotCanonical(digest)) => format!(in alloc; "bad {}", digest.size),
+        Some(TreeFault::NoMemory) => String::from_str(alloc, "no memory"),
+    }
+}
+
+#[test]
+fn refuses_in_order(rt: HostRuntime) -> Result<(), Fail> {
+    let alloc = rt.alloc();
+    for (paths, above, want) in [
+        (&["a", "a"][..], &[][..], "twice a"),
+        (&["b", "a", "a/x", "b", "a"], &[], "twice a"),
+        (&["a", "a/b"], &[], "a above a/b"),
+        (&["a"], &["a"], "a above a"),
+        (&["a"], &["a/b"], "a above a/b"),
+        (&["a.b/y", "a", "a.b", "a/x"], &[], "a above a/x"),
+        (&["", "x"], &[], " above x"),
+        (&[""], &[""], " above "),
+    ] {
+        let built = build(alloc, &files(alloc, paths)?, &dirs(alloc, above)?);
+        assert_eq!(rt; told(alloc, built.err().as_ref())?.as_str(), want);
+    }
+    Ok(())
+}
+
+#[test]
+fn bounds_trees(rt: HostRuntime) -> Result<(), Fail> {
+    let alloc = rt.alloc();
+    let mut files = files(alloc, &["a"])?;
+    while files.len() <= MAX_FILES {
+        files.push(InputFile {
+            path: RelPath::root(alloc),
+            digest: digest_of(b""),
+            stamp: Stamp { size: 0, mark: 0 },
+            executable: false,
+        })?;
+    }
+    assert!(rt; matches!(build(alloc, &files, &[]), Err(TreeFault::TooManyFiles)));
+    Ok(())
+}
+
+#[test]
+fn lists_back(rt: HostRuntime) -> Result<(), Fail> {
+    let alloc = rt.alloc();
+    let built = build(
+        alloc,
+        &files(alloc, &["b", "a/x", "a.c", "a.b/y", "v/w/z"])?,
+        &dirs(alloc, &["w", "v/u", "a"])?,
+    )?;
+    let listed = list_of(alloc, &built.root, built.blobs.as_slice())?;
+    assert_eq!(rt; listed.files.len(), 5);
+    for (file, want) in listed
+        .files
+        .as_slice()
+        .iter()
+        .zip(["a.b/y", "a.c", "a/x", "b", "v/w/z"])
+    {
+        assert_eq!(rt; file.path.as_str(), want);
+        assert_eq!(rt; file.digest, digest_of(b"abc"));
+        assert_eq!(rt; file.executable, want == "v/w/z");
+    }
+    assert_eq!(rt; listed.dirs.len(), 2);
+    for (dir, want) in listed.dirs.as_slice().iter().zip(["v/u", "w"]) {
+        assert_eq!(rt; dir.as_str(), want);
+    }
+    Ok(())
+}
+
+#[test]
+fn refuses_blobs(rt: HostRuntime) -> Result<(), Fail> {
+    let alloc = rt.alloc();
+    let root = digest_of(b"?");
+    // Neither the root nor a directory below it is there; a blob isn't canonical.
+    for (bytes, want) in [
+        (None, "missing 1"),
+        (Some(&b"\x0a\x01"[..]), "bad 1"),
+        (Some(b"\x12\x02\x0a\x00"), "bad 1"),
+    ] {
+        let mut blobs = Vec::new(alloc);
+        if let Some(bytes) = bytes {
+            blobs.push(Blob {
+                digest: root,
+                bytes: Bytes::copy_of(alloc, bytes)?,
+            })?;
+        }
+        let listed = list_of(alloc, &root, &blobs);
+        assert_eq!(rt; told(alloc, listed.err().as_ref())?.as_str(), want);
+    }
+    Ok(())
+}
+
+#[test]
+fn walks_end(rt: HostRuntime) -> Result<(), Fail> {
+    let alloc = rt.alloc();
+    // A directory that is its own only one: its third path has more than 4,096 bytes.
+    let root = digest_of(b"?");
+    let mut name = String::new(alloc);
+    while name.len() < 2_000 {
+        name.push('a')?;
+    }
+    let node = DirectoryNode {
+        name: Text::from_string(name),
+        digest: Some(root),
+    };
+    let mut directories = Items::new(alloc);
+    directories.push(node)?;
+    let directory = Directory {
+        files: Items::new(alloc),
+        directories,
+        symlinks: Items::new(alloc),
+    };
+    let mut blobs = Vec::new(alloc);
+    blobs.push(Blob {
+        digest: root,
+        bytes: Bytes::from_vec(directory.encode(alloc)?),
+    })?;
+    let listed = list_of(alloc, &root, &blobs);
+    assert_eq!(rt; told(alloc, listed.err().as_ref())?.as_str(), "bad 1");
+    Ok(())
+}
