@@ -70,10 +70,6 @@ is_canonical directory = if not (lists_hold directory) then false else are_disti
 unfoldable pub directory_has_one_form : List ℕ → Directory → Bool
 directory_has_one_form bytes directory = if not (is_canonical directory) then false else bytes_eq bytes (directory_bytes directory)
 
--- each size is below 2^63
-abbrev pub HasSizes : Directory → Type 0
-HasSizes directory = AllByRecursion file_node_is_readable directory.files × AllByRecursion directory_node_is_readable directory.directories
-
--- what is read again as it was written
+-- what is read again as it was written: it is canonical, and each size is below 2^63
 abbrev pub directory_is_readable : Directory → Type 0
 directory_is_readable directory = (is_canonical directory ≡ true) × AllByRecursion file_node_is_readable directory.files × AllByRecursion directory_node_is_readable directory.directories

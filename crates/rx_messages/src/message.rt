@@ -4,10 +4,10 @@
 ghost use Rattle.std.specs.Prelude.{◌≡◌, ◌++◌, ℕ, List, Bool, true, Result, Ok, IfOk, IsOk, OnOk};
 ghost use Rattle.rx_base.specs.Results.{Gives};
 ghost use Rattle.rx_wire.specs.Values.{Field};
-ghost use Rattle.rx_wire.specs.Fields.{placed_before};
-ghost use Rattle.rx_messages.specs.Decoding.{decoded};
+ghost use Rattle.rx_wire.specs.Fields.{SpellsFields, placed_before};
+ghost use Rattle.rx_messages.specs.Decoding.{Means, decoded, formed};
 ghost use Rattle.rx_messages.specs.FieldBytes.{fields_bytes, fields_in};
-ghost use Rattle.rx_messages.specs.Parts.{Part, field_checked};
+ghost use Rattle.rx_messages.specs.Parts.{HasParts, Part, field_checked};
 ghost use Rattle.rx_messages.specs.declared.faults.MessageFault.{MessageFault};
 ghost use Rattle.rx_messages.specs.declared.faults.MessageFault.TheVariants.{NoMemory};
 
@@ -70,15 +70,26 @@ pub trait Message: Shape + Sized + Drop {
 
     /// The message of some bytes.
     final fn decode(alloc: Global, bytes: &[u8]) -> Result<Self, MessageFault>
-        ensures { Gives NoMemory (λ x. x) result (decoded Self.parts from is_canonical bytes.now) }
+        ensures exact { Gives NoMemory (λ x. x) result (decoded Self.parts from is_canonical bytes.now) }
+        // What is read is spelled so.
+        ensures spelled { IfOk result (λ message. Means Self.parts from bytes.now message) }
+        // Fields in any spelling are read by what they mean.
+        ensures any { (list : List Field) → SpellsFields list bytes.now → HasParts Self.parts list → Gives NoMemory (λ x. x) result (formed is_canonical bytes.now (from list)) }
     {
-        check_all::<Self>(Fields::new(bytes))?;
-        let fields = FieldList::read(alloc, bytes)?;
-        let message = Self::from_fields(alloc, &fields)?;
-        if message.has_one_form(alloc, bytes)? {
-            Ok(message)
-        } else {
-            Err(MessageFault::NotCanonical)
-        }
+        decode_exactly(alloc, bytes)
+    }
+}
+
+/// The message of some bytes, or the first refusal: that of the wire format, a value, the form.
+fn decode_exactly<M: Message>(alloc: Global, bytes: &[u8]) -> Result<M, MessageFault>
+    ensures { Gives NoMemory (λ x. x) result (decoded M.parts M.from M.is_canonical bytes.now) }
+{
+    check_all::<M>(Fields::new(bytes))?;
+    let fields = FieldList::read(alloc, bytes)?;
+    let message = M::from_fields(alloc, &fields)?;
+    if message.has_one_form(alloc, bytes)? {
+        Ok(message)
+    } else {
+        Err(MessageFault::NotCanonical)
     }
 }
