@@ -236,7 +236,10 @@ fn full_journal(rt: HostRuntime) -> Result<(), Fail> {
     };
     let desk = desk(alloc, &DONE)?;
     let (transcript, desk) = serve_session::<Toy<Brand>, _, _>(alloc, 1, desk, &mut shared);
-    assert_eq!(rt; desk.output.bytes.as_slice(), b"\x02\0\0\0\x02\x08\x0a");
+    assert_eq!(rt;
+        desk.output.bytes.as_slice(),
+        b"\x02\0\0\0\x02\x08\x0a".as_slice()
+    );
     assert!(rt; transcript.receipt.is_none());
     Ok(())
 }
