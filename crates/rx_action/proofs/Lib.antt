@@ -1,0 +1,2 @@
+pub mod PathsBehind
+pub mod InOrder

@@ -1,0 +1,47 @@
+-- The Action message of a command and an input root, and the key that its digest is (remote_execution.proto, Action).
+use Rattle.std.specs.Prelude.{ℕ, pos, false, ◌==◌, List, [], Option, Some, None, Result, Ok, if◌then◌else◌}
+use Rattle.rx_base.specs.Digests.{digest_of}
+use Rattle.rx_base.specs.Results.{◌>>=◌}
+use Rattle.rx_base.specs.declared.digests.Digest.{Digest}
+use Rattle.rx_messages.specs.Actions.{action_fields}
+use Rattle.rx_messages.specs.FieldBytes.{fields_bytes}
+use Rattle.rx_messages.specs.declared.actions.Action.{Action}
+use Rattle.rx_messages.specs.declared.actions.Duration.{Duration}
+use Rattle.rx_world.specs.declared.commands.Command.{Command}
+use Rattle.rx_action.specs.Commands.{command_bytes, platform_of}
+use Rattle.rx_action.specs.OutputPaths.{checked, misplaced}
+use Rattle.rx_action.specs.declared.action_fault.ActionFault.{ActionFault}
+use Rattle.rx_action.specs.declared.action_keys.ActionKey.{ActionKey}
+
+-- a timeout, where there is one
+abbrev pub timeout_of : ℕ → Option Duration
+timeout_of seconds = if seconds == 0 then None else Some (record { seconds = pos seconds })
+
+-- The result may always be cached, and there is no salt.
+abbrev pub action_message : Command → Digest → Action
+action_message command root = record {
+  command_digest = Some (digest_of (command_bytes command));
+  input_root_digest = Some root;
+  timeout = timeout_of command.timeout_seconds;
+  do_not_cache = false;
+  salt = [];
+  platform = platform_of command.platform;
+}
+
+abbrev pub action_bytes : Command → Digest → List ℕ
+action_bytes command root = fields_bytes (action_fields (action_message command root))
+
+-- both messages with their digests
+abbrev pub key_of : Command → Digest → ActionKey
+key_of command root = record {
+  digest = digest_of (action_bytes command root);
+  command_digest = digest_of (command_bytes command);
+  command_blob = command_bytes command;
+  action_blob = action_bytes command root;
+}
+
+-- First an output that isn't below the working directory is refused.
+unfoldable pub action_of : Command → Digest → Result ActionKey ActionFault
+action_of command root = do
+  _ ← checked (misplaced command.working_directory command.outputs)
+  Ok (key_of command root)

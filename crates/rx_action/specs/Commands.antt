@@ -1,0 +1,38 @@
+-- The Command message of a command (remote_execution.proto, Command, Platform).
+use Rattle.std.specs.Prelude.{ℕ, List, [], ◌∷◌, map, Option, Some, None}
+use Rattle.rx_messages.specs.Commands.{command_fields}
+use Rattle.rx_messages.specs.FieldBytes.{fields_bytes}
+use Rattle.rx_messages.specs.declared.commands.EnvironmentVariable.{EnvironmentVariable}
+use Rattle.rx_messages.specs.declared.commands.Platform.{Platform}
+use Rattle.rx_messages.specs.declared.commands.Property.{Property}
+use Rattle.rx_messages.specs.declared.commands.Command.{Command as Message}
+use Rattle.rx_world.specs.declared.commands.Command.{Command}
+use Rattle.rx_world.specs.declared.commands.Pair.{Pair}
+use Rattle.rx_action.specs.OutputPaths.{output_paths}
+use Rattle.rx_action.specs.Pairs.{sorted_pairs}
+
+abbrev pub variable_of : Pair → EnvironmentVariable
+variable_of pair = record { name = pair.name; value = pair.value }
+
+abbrev pub property_of : Pair → Property
+property_of pair = record { name = pair.name; value = pair.value }
+
+-- a platform, where there is a property
+abbrev pub platform_of : List Pair → Option Platform
+platform_of [] = None
+platform_of (pair ∷ pairs) = Some (record { properties = map property_of (sorted_pairs (pair ∷ pairs)) })
+
+-- The outputs are told by output_paths alone.
+abbrev pub command_message : Command → Message
+command_message command = record {
+  arguments = command.words;
+  environment_variables = map variable_of (sorted_pairs command.environment);
+  output_files = [];
+  output_directories = [];
+  platform = platform_of command.platform;
+  working_directory = command.working_directory;
+  output_paths = output_paths command.working_directory command.outputs;
+}
+
+abbrev pub command_bytes : Command → List ℕ
+command_bytes command = fields_bytes (command_fields (command_message command))

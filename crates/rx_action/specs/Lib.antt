@@ -1,0 +1,4 @@
+pub mod ActionKeys
+pub mod Commands
+pub mod OutputPaths
+pub mod Pairs

@@ -1,0 +1,72 @@
+//! The Command message of a command.
+
+ghost use Rattle.std.specs.Prelude.{◌≡◌, IfOk, map};
+ghost use Rattle.rx_action.specs.Commands.{command_message, platform_of, property_of, variable_of};
+
+use crate::output_paths::output_paths;
+use crate::pairs::sort_pairs;
+use rx_base::{Items, NoMemory, Text, TryClone};
+use rx_messages::{EnvironmentVariable, Platform, Property};
+use rx_world::{Command, Pair};
+use std::alloc::Global;
+
+/// The message of a command, whose outputs are below its working directory.
+pub(crate) fn command_message(
+    alloc: Global,
+    command: &Command,
+) -> Result<rx_messages::Command, NoMemory>
+    ensures { IfOk result (λ message. message ≡ command_message command.now) }
+{
+    let directory = &command.working_directory;
+    let environment = sort_pairs(alloc, command.environment.as_slice())?;
+    let platform = platform_of(alloc, command.platform.as_slice())?;
+    Ok(rx_messages::Command {
+        arguments: command.words.try_clone(alloc)?,
+        environment_variables: variables_of(alloc, environment)?,
+        output_files: Items::new(alloc),
+        output_directories: Items::new(alloc),
+        platform,
+        working_directory: Text::copy_of(alloc, directory.as_str())?,
+        output_paths: output_paths(alloc, directory, command.outputs.as_slice())?,
+    })
+}
+
+/// A platform of these properties in their order, or none where there is no property.
+fn platform_of(alloc: Global, pairs: &[Pair]) -> Result<Option<Platform>, NoMemory>
+    ensures { IfOk result (λ platform. platform ≡ platform_of pairs.now) }
+{
+    if pairs.is_empty() {
+        return Ok(None);
+    }
+    let pairs = sort_pairs(alloc, pairs)?;
+    let properties = properties_of(alloc, pairs)?;
+    Ok(Some(Platform { properties }))
+}
+
+/// These pairs as variables of an environment, in the same order.
+fn variables_of(alloc: Global, pairs: Vec<Pair>) -> Result<Items<EnvironmentVariable>, NoMemory>
+    ensures { IfOk result (λ variables. variables ≡ map variable_of pairs.items) }
+{
+    let mut variables = Items::new(alloc);
+    for pair in pairs {
+        variables.push(EnvironmentVariable {
+            name: pair.name,
+            value: pair.value,
+        })?;
+    }
+    Ok(variables)
+}
+
+/// These pairs as properties of a platform, in the same order.
+fn properties_of(alloc: Global, pairs: Vec<Pair>) -> Result<Items<Property>, NoMemory>
+    ensures { IfOk result (λ properties. properties ≡ map property_of pairs.items) }
+{
+    let mut properties = Items::new(alloc);
+    for pair in pairs {
+        properties.push(Property {
+            name: pair.name,
+            value: pair.value,
+        })?;
+    }
+    Ok(properties)
+}
