@@ -5,6 +5,7 @@ use std::alloc::Global;
 use std::test::Fail;
 
 /// What the rows write of a command.
+#[derive(Drop)]
 struct Row {
     environment: &'static [(&'static str, &'static str)],
     directory: &'static str,
