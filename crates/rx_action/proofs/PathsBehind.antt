@@ -1,6 +1,6 @@
 -- What `strip_prefix` leaves of a path.
-use Rattle.std.proofs.Common.{◌≡◌, ℕ, zero, suc, ◌+◌, true, false, ◌&&◌, List, [], ◌∷◌, ◌++◌, length, drop, Some, None, refl, sym, ap, ◌∙◌, subst, arith}
-use Rattle.std.specs.Prelude.{nat_eq, if◌then◌else◌}
+use Rattle.std.proofs.Common.{◌≡◌, ℕ, zero, suc, ◌+◌, true, false, List, [], ◌∷◌, ◌++◌, length, drop, Some, None, refl, sym, ap, ◌∙◌, subst, arith}
+use Rattle.std.specs.Prelude.{nat_eq}
 use Rattle.std.specs.List.{starts_with}
 use Rattle.std.specs.Str.{IsCharBoundary}
 use Rattle.std.specs.Str.Pattern.{FindsTextPrefix}
