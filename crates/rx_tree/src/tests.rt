@@ -5,33 +5,29 @@ use rx_world::Stamp;
 use std::alloc::{AllocError, Global};
 use std::test::Fail;
 
-/// A path; the empty text is the root.
-fn path(alloc: Global, text: &str) -> Result<RelPath, Fail> {
-    if text.is_empty() {
-        return Ok(RelPath::root(alloc));
-    }
-    Ok(RelPath::read(alloc, text)?)
-}
-
-/// Files with these paths, all holding `abc`.
-fn files(alloc: Global, paths: &[&str]) -> Result<Vec<InputFile>, Fail> {
+/// Files with these paths, all holding `abc`. A space stands between two paths, and `.` is the root.
+fn files(alloc: Global, paths: &str) -> Result<Vec<InputFile>, Fail> {
     let mut files = Vec::new(alloc);
-    for text in paths {
-        files.push(InputFile {
-            path: path(alloc, text)?,
-            digest: digest_of(b"abc"),
-            stamp: Stamp { size: 3, mark: 1 },
-            executable: text.ends_with('z'),
-        })?;
+    for text in paths.split(' ') {
+        if !text.is_empty() {
+            files.push(InputFile {
+                path: RelPath::read(alloc, text)?,
+                digest: digest_of(b"abc"),
+                stamp: Stamp { size: 3, mark: 1 },
+                executable: text.ends_with('z'),
+            })?;
+        }
     }
     Ok(files)
 }
 
 /// Directories with these paths.
-fn dirs(alloc: Global, paths: &[&str]) -> Result<Vec<RelPath>, Fail> {
+fn dirs(alloc: Global, paths: &str) -> Result<Vec<RelPath>, Fail> {
     let mut dirs = Vec::new(alloc);
-    for text in paths {
-        dirs.push(path(alloc, text)?)?;
+    for text in paths.split(' ') {
+        if !text.is_empty() {
+            dirs.push(RelPath::read(alloc, text)?)?;
+        }
     }
     Ok(dirs)
 }
@@ -39,38 +35,39 @@ fn dirs(alloc: Global, paths: &[&str]) -> Result<Vec<RelPath>, Fail> {
 #[test]
 fn builds_trees(rt: HostRuntime) -> Result<(), Fail> {
     let alloc = rt.alloc();
-    for (paths, above, size, hash, count) in [
+    let rows: [(&str, &str, u64, &str, usize); 4] = [
         // A sort of whole paths would have `a.b/y` before `a/x`.
         (
-            &["b", "a/x", "a.c", "a.b/y"][..],
-            &[][..],
+            "b a/x a.c a.b/y",
+            "",
             304,
             "82c3f2f027bec7f164d4d0b92394aec3d462353c2726bd8d64090aea8d2d3d95",
             3,
         ),
         (
-            &[],
-            &["w", "", "w"],
+            "",
+            "w . w",
             73,
             "7c4d294b032a9169a32f8ce0b8062c2e3ba83f566f2a293a05ddf39b2b46ed0e",
             2,
         ),
         // Two equal directories, each with one below it.
         (
-            &["q/m/z", "p/m/z"],
-            &["p"],
+            "q/m/z p/m/z",
+            "p",
             150,
             "b490d420ad20b1cbd4c4b400a87a3070c0328bb4d16cf9e557eb5596c9bceefc",
             3,
         ),
         (
-            &[""],
-            &[],
+            ".",
+            "",
             0,
             "e3b0c44298fc1c149afbf4c8996fb92427ae41e4649b934ca495991b7852b855",
             1,
         ),
-    ] {
+    ];
+    for (paths, above, size, hash, count) in rows {
         let built = build(alloc, &files(alloc, paths)?, &dirs(alloc, above)?)?;
         assert_eq!(rt; built.root.size, size);
         assert_eq!(rt; built.root.hash_text(alloc)?.as_str(), hash);
@@ -97,16 +94,17 @@ fn told(alloc: Global, fault: Option<&TreeFault>) -> Result<String, AllocError> 
 #[test]
 fn refuses_in_order(rt: HostRuntime) -> Result<(), Fail> {
     let alloc = rt.alloc();
-    for (paths, above, want) in [
-        (&["a", "a"][..], &[][..], "twice a"),
-        (&["b", "a", "a/x", "b", "a"], &[], "twice a"),
-        (&["a", "a/b"], &[], "a above a/b"),
-        (&["a"], &["a"], "a above a"),
-        (&["a"], &["a/b"], "a above a/b"),
-        (&["a.b/y", "a", "a.b", "a/x"], &[], "a above a/x"),
-        (&["", "x"], &[], " above x"),
-        (&[""], &[""], " above "),
-    ] {
+    let rows: [(&str, &str, &str); 8] = [
+        ("a a", "", "twice a"),
+        ("b a a/x b a", "", "twice a"),
+        ("a a/b", "", "a above a/b"),
+        ("a", "a", "a above a"),
+        ("a", "a/b", "a above a/b"),
+        ("a.b/y a a.b a/x", "", "a above a/x"),
+        (". x", "", " above x"),
+        (".", ".", " above "),
+    ];
+    for (paths, above, want) in rows {
         let built = build(alloc, &files(alloc, paths)?, &dirs(alloc, above)?);
         assert_eq!(rt; told(alloc, built.err().as_ref())?.as_str(), want);
     }
@@ -116,8 +114,8 @@ fn refuses_in_order(rt: HostRuntime) -> Result<(), Fail> {
 #[test]
 fn bounds_trees(rt: HostRuntime) -> Result<(), Fail> {
     let alloc = rt.alloc();
-    let mut files = files(alloc, &["a"])?;
-    while files.len() <= MAX_FILES {
+    let mut files = Vec::new(alloc);
+    for _ in 0..=MAX_FILES {
         files.push(InputFile {
             path: RelPath::root(alloc),
             digest: digest_of(b""),
@@ -134,8 +132,8 @@ fn lists_back(rt: HostRuntime) -> Result<(), Fail> {
     let alloc = rt.alloc();
     let built = build(
         alloc,
-        &files(alloc, &["b", "a/x", "a.c", "a.b/y", "v/w/z"])?,
-        &dirs(alloc, &["w", "v/u", "a"])?,
+        &files(alloc, "b a/x a.c a.b/y v/w/z")?,
+        &dirs(alloc, "w v/u a")?,
     )?;
     let listed = list_of(alloc, &built.root, built.blobs.as_slice())?;
     assert_eq!(rt; listed.files.len(), 5);
@@ -185,7 +183,7 @@ fn walks_end(rt: HostRuntime) -> Result<(), Fail> {
     // A directory that is its own only one: its third path has more than 4,096 bytes.
     let root = digest_of(b"?");
     let mut name = String::new(alloc);
-    while name.len() < 2_000 {
+    for _ in 0..2_000 {
         name.push('a')?;
     }
     let node = DirectoryNode {
