@@ -9,7 +9,7 @@ use Rattle.std.proofs.lemmas.Cmp.{lists_total, nat_list_cmp_total, tied_itself, 
 use Rattle.std.specs.Cmp.Lexicographic.{slice_cmp}
 use Rattle.std.specs.FinMap.{nat_cmp-IsAntisymmetric, slice_cmp-IsAntisymmetric}
 use Rattle.rx_base.specs.Texts.{texts}
-use Rattle.rx_tree.specs.declared.input_files.InputFile.{InputFile}
+use Rattle.rx_world.specs.declared.input_files.InputFile.{InputFile}
 use Rattle.rx_tree.specs.Entries.{Entry, content_of, names_of}
 use Rattle.rx_tree.specs.Places.{by_names, by_place, by_place_total}
 

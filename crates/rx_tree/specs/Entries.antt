@@ -2,7 +2,7 @@
 use Rattle.std.specs.Prelude.{ℕ, Bool, List, [], ◌∷◌, ◌++◌, Option, Some, None, map}
 use Rattle.rx_base.specs.Paths.{parts}
 use Rattle.rx_base.specs.declared.digests.Digest.{Digest}
-use Rattle.rx_tree.specs.declared.input_files.InputFile.{InputFile}
+use Rattle.rx_world.specs.declared.input_files.InputFile.{InputFile}
 
 -- the names on a path, from the root down; the root has none
 abbrev pub names_of : List ℕ → List (List ℕ)

@@ -4,7 +4,7 @@ use Rattle.std.specs.Borrow.{Bor}
 use Rattle.std.specs.List.{AllByRecursion, prefix_len}
 use Rattle.std.specs.Ordering.{is_lt}
 use Rattle.std.specs.Str.{bytes_eq}
-use Rattle.rx_tree.specs.declared.input_files.InputFile.{InputFile}
+use Rattle.rx_world.specs.declared.input_files.InputFile.{InputFile}
 use Rattle.rx_tree.specs.Entries.{Content, Entry, content_of, names_of}
 use Rattle.rx_tree.specs.Places.{by_names}
 use Rattle.rx_tree.specs.Trees.{Rest}

@@ -8,7 +8,7 @@ use Rattle.std.specs.Str.{bytes_eq}
 use Rattle.rx_base.specs.Paths.{is_below}
 use Rattle.rx_tree.specs.declared.tree_fault.TreeFault.{TreeFault}
 use Rattle.rx_tree.specs.declared.tree_fault.TreeFault.TheVariants.{TooManyFiles, DuplicatePath, FileUnderFile, MissingBlob, NotCanonical, NoMemory}
-use Rattle.rx_tree.specs.declared.input_files.InputFile.{InputFile}
+use Rattle.rx_world.specs.declared.input_files.InputFile.{InputFile}
 use Rattle.rx_tree.specs.Entries.{Entry, entries_of}
 
 -- the most files of a tree

@@ -9,9 +9,9 @@ ghost use Rattle.rx_tree.specs.Trees.{all_bytes, directory_node, file_node, rest
 
 use crate::blobs::Blob;
 use crate::entries::Entry;
-use crate::input_files::InputFile;
 use rx_base::{Digest, Items, NoMemory, Text};
 use rx_messages::{Directory, DirectoryNode, FileNode, Message};
+use rx_world::InputFile;
 use std::alloc::Global;
 
 /// How many entries in front go on alike with the first.

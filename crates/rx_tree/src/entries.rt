@@ -12,8 +12,8 @@ ghost use Rattle.rx_tree.specs.Refusals.{is_same_file, is_under, stands_under};
 ghost use Rattle.rx_tree.specs.Search.{place};
 ghost use Rattle.rx_tree.specs.Trees.{file_at_end, first_name};
 
-use crate::input_files::InputFile;
 use rx_base::{NoMemory, RelPath};
+use rx_world::InputFile;
 use std::alloc::Global;
 use std::cmp::Ordering;
 use std::marker::Model;

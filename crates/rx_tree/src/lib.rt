@@ -5,7 +5,6 @@
 mod blobs;
 mod directories;
 mod entries;
-mod input_files;
 mod listings;
 mod refusals;
 mod shelves;
@@ -14,7 +13,6 @@ mod trees;
 mod walks;
 
 pub use blobs::Blob;
-pub use input_files::InputFile;
 pub use listings::{Listed, TreeFile, list_of};
 pub use refusals::MAX_FILES;
 pub use tree_fault::TreeFault;

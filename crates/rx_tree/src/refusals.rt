@@ -9,9 +9,9 @@ ghost use Rattle.rx_tree.specs.Refusals.{Judges, by_bytes, is_same_file, is_unde
 ghost use Rattle.rx_tree.specs.Search.{HasBelow, HasNeighbours, IsLeastOr, lesser_of, place};
 
 use crate::entries::{Entry, sort_entries};
-use crate::input_files::InputFile;
 use crate::tree_fault::TreeFault;
 use rx_base::{RelPath, TryClone};
+use rx_world::InputFile;
 use std::alloc::Global;
 
 /// The most files of a tree.

@@ -1,7 +1,7 @@
-use crate::{Blob, InputFile, MAX_FILES, TreeFault, build, list_of};
+use crate::{Blob, MAX_FILES, TreeFault, build, list_of};
 use rx_base::{Bytes, Items, RelPath, Text, digest_of};
 use rx_messages::{Directory, DirectoryNode, Message};
-use rx_world::Stamp;
+use rx_world::{InputFile, Stamp};
 use std::alloc::{AllocError, Global};
 use std::test::Fail;
 

@@ -10,10 +10,10 @@ ghost use Rattle.rx_tree.specs.Trees.{all_bytes, tree, tree_bytes};
 
 use crate::blobs::{Blob, once_each};
 use crate::directories::add_directories;
-use crate::input_files::InputFile;
 use crate::refusals::take_entries;
 use crate::tree_fault::TreeFault;
 use rx_base::{Digest, Items, RelPath};
+use rx_world::InputFile;
 use std::alloc::Global;
 
 /// A tree: the digest of its root's Directory, and each distinct Directory once, in no stated order.

@@ -15,6 +15,19 @@ pub enum Attempt {
     Remote,
 }
 
+/// Which attempts a session makes of a command, and when.
+#[derive(Clone, Copy, Debug, PartialEq, Eq)]
+pub enum Plan {
+    /// The local attempt alone.
+    LocalOnly,
+    /// The remote attempt alone.
+    RemoteOnly,
+    /// The remote attempt, and the local one where that ended without what may be published.
+    Fallback,
+    /// Both at once.
+    Both,
+}
+
 /// Where an outcome comes from.
 #[derive(Clone, Copy, Debug, PartialEq, Eq)]
 pub enum Origin {

@@ -1,7 +1,7 @@
 //! The files of an input tree, as they were found.
 
+use crate::Stamp;
 use rx_base::{Digest, RelPath};
-use rx_world::Stamp;
 
 /// A file of an input tree: its path, the digest of its bytes, its stamp when it was read, and
 /// whether its owner may execute it. A tree doesn't hold the stamp.
