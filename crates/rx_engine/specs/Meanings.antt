@@ -6,6 +6,11 @@ use Rattle.rx_world.specs.declared.outcomes.Outcome.{Outcome}
 use Rattle.rx_world.specs.declared.sources.Given.{Given}
 use Rattle.rx_world.specs.declared.sources.SourceEntry.{SourceEntry}
 use Rattle.rx_world.specs.declared.trees.Tree.{Tree}
+use Rattle.rx_world.specs.declared.benches.BenchMaker as maker
+use Rattle.rx_world.specs.declared.sources.Sources as sources
+use Rattle.rx_world.specs.declared.streams.Sink as sink
+use Rattle.rx_world.specs.declared.streams.Source as source
+use Rattle.rx_world.specs.declared.world.World as world
 
 pub record Meanings (I O T B : Type 0) : Type 0 where
   pub left : I → Option (List ℕ)
@@ -18,3 +23,18 @@ pub record Meanings (I O T B : Type 0) : Type 0 where
   pub bench_faults : B → ℕ
   pub content : List ℕ → Stamp → List ℕ
   pub tool : Command → Tree → Outcome
+
+-- the meanings that a world and the traits of a desk's parts have
+abbrev pub meanings : {W I O T B C : Type 0} → world.Ghosts W → source.Ghosts I → sink.Ghosts O → sources.Ghosts T W → maker.Ghosts B W C → Meanings I O T B
+meanings w i o t b = record {
+  left = i.left;
+  input_faults = i.faults;
+  taken = o.taken;
+  output_faults = o.faults;
+  listed = t.listed;
+  given = t.given;
+  tree_faults = t.faults;
+  bench_faults = b.faults;
+  content = w.content;
+  tool = w.tool;
+}

@@ -3,6 +3,7 @@
 ghost use Rattle.std.specs.Prelude.{◌≡◌, ◌≤◌, ◌↔◌, [], IfSome, None, length};
 ghost use Rattle.std.specs.List.{list_any};
 ghost use Rattle.rx_board.specs.Journal.{HoldsLast, IsKeptBy, count_short};
+ghost use Rattle.rx_engine.specs.Meanings.{meanings};
 ghost use Rattle.rx_engine.specs.Proxy.{HasStatus, IsLegal, IsStop, Runs, is_sink_lost, is_source_lost, status_of, status_over};
 ghost use Rattle.rx_engine.specs.Serves.{RunsDone, Serves};
 ghost use Rattle.rx_engine.specs.Words.{root_in};
@@ -55,18 +56,8 @@ fn serve_all<W: World, F: Front<W>, P: Place>(
     requires transcripts { transcripts.old.items ≡ [] }
     requires desks { desks.old.items ≡ [] }
     ensures runs { Runs (F.coming front.old) (F.coming front.new)
-        (Serves (record {
-          left = F.D.I.left;
-          input_faults = F.D.I.faults;
-          taken = F.D.O.taken;
-          output_faults = F.D.O.faults;
-          listed = F.D.T.listed;
-          given = F.D.T.given;
-          tree_faults = F.D.T.faults;
-          bench_faults = F.D.B.faults;
-          content = W.content;
-          tool = W.tool;
-        }) F.D.T.keeps F.D.parts W.stamps_honest W.tools_honest shared.old.root shared.old.board.limit)
+        (Serves (meanings W.World F.D.I.Source F.D.O.Sink F.D.T.Sources F.D.B.BenchMaker)
+        F.D.T.keeps F.D.parts W.stamps_honest W.tools_honest shared.old.root shared.old.board.limit)
         shared.old.board.journal shared.new.board.journal (P.faults shared.old.board.place) (P.faults shared.new.board.place) desks.new.items transcripts.new.items }
     ensures stop { IsStop (F.coming front.old) (F.coming front.new) (F.faults front.old) (F.faults front.new) (length transcripts.new.items) result }
     ensures opening { P.opening shared.new.board.place ≡ P.opening shared.old.board.place }
@@ -157,18 +148,8 @@ fn serve_words<W: World, F: Front<W>, P: Place>(
     requires transcripts { transcripts.old.items ≡ [] }
     requires desks { desks.old.items ≡ [] }
     ensures runs { Runs (F.coming front.old) (F.coming front.new)
-        (Serves (record {
-          left = F.D.I.left;
-          input_faults = F.D.I.faults;
-          taken = F.D.O.taken;
-          output_faults = F.D.O.faults;
-          listed = F.D.T.listed;
-          given = F.D.T.given;
-          tree_faults = F.D.T.faults;
-          bench_faults = F.D.B.faults;
-          content = W.content;
-          tool = W.tool;
-        }) F.D.T.keeps F.D.parts W.stamps_honest W.tools_honest root.now board.limit)
+        (Serves (meanings W.World F.D.I.Source F.D.O.Sink F.D.T.Sources F.D.B.BenchMaker)
+        F.D.T.keeps F.D.parts W.stamps_honest W.tools_honest root.now board.limit)
         board.journal result.1.journal (P.faults board.place) (P.faults result.1.place) desks.new.items transcripts.new.items }
     ensures status { HasStatus (F.coming front.old) (F.coming front.new) (F.faults front.old) (F.faults front.new) result.0 transcripts.new.items }
     ensures opening { P.opening result.1.place ≡ P.opening board.place }
@@ -198,18 +179,9 @@ pub fn run_proxy<W: World, F: Front<W>, P: Place>(
     ensures unused { root_in words.now ≡ None → (result.front ≡ front) × (result.place ≡ place) × (result.transcripts.items ≡ []) }
     // Each desk that left the front has its transcript, with its own part and its part of the journal.
     // Where nothing fails in an honest world, the request that its input tells is done, unless memory runs out.
-    ensures sessions { IfSome (root_in words.now) (λ root. RunsDone (F.coming front) (F.coming result.front) (record {
-      left = F.D.I.left;
-      input_faults = F.D.I.faults;
-      taken = F.D.O.taken;
-      output_faults = F.D.O.faults;
-      listed = F.D.T.listed;
-      given = F.D.T.given;
-      tree_faults = F.D.T.faults;
-      bench_faults = F.D.B.faults;
-      content = W.content;
-      tool = W.tool;
-    }) F.D.T.keeps F.D.parts W.stamps_honest W.tools_honest root JOURNAL_LIMIT
+    ensures sessions { IfSome (root_in words.now) (λ root. RunsDone (F.coming front) (F.coming result.front)
+        (meanings W.World F.D.I.Source F.D.O.Sink F.D.T.Sources F.D.B.BenchMaker)
+        F.D.T.keeps F.D.parts W.stamps_honest W.tools_honest root JOURNAL_LIMIT
         result.journal.items (P.faults result.place) result.desks.items result.transcripts.items) }
     // The journal is the sessions' entries, in their order.
     ensures legal { IsLegal 1 result.journal.items result.transcripts.items }

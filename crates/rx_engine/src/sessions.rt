@@ -11,6 +11,7 @@ ghost use Rattle.rx_engine.specs.Answered.{IsPlain, reply_no_memory};
 ghost use Rattle.rx_world.specs.Answers.{Gives};
 ghost use Rattle.rx_engine.specs.Journal.{IsBoardAfter, IsJournalled};
 ghost use Rattle.rx_session.specs.declared.requests.Request.{Request};
+ghost use Rattle.rx_engine.specs.Meanings.{meanings};
 ghost use Rattle.rx_engine.specs.Quiet.{HasRoom, IsDoneOr, IsQuiet};
 ghost use Rattle.rx_engine.specs.Ready.{EntersReady, Finishes, IsLost, IsOrGivenUp, IsReady, IsRefusalOf};
 ghost use Rattle.rx_engine.specs.Session.{IsSession};
@@ -181,18 +182,8 @@ fn converse<W: World, I: Source, O: Sink, S: Sources<W>, M: BenchMaker<W>, P: Pl
     parts: &mut Parts<I, O, S, M>,
     shared: &mut Shared<P>,
 ) -> Transcript
-    ensures session { IsSession (record {
-      left = I.left;
-      input_faults = I.faults;
-      taken = O.taken;
-      output_faults = O.faults;
-      listed = S.listed;
-      given = S.given;
-      tree_faults = S.faults;
-      bench_faults = M.faults;
-      content = W.content;
-      tool = W.tool;
-    }) S.keeps W.stamps_honest W.tools_honest shared.old.root parts.old parts.new result }
+    ensures session { IsSession (meanings W.World I.Source O.Sink S.Sources M.BenchMaker)
+        S.keeps W.stamps_honest W.tools_honest shared.old.root parts.old parts.new result }
     ensures number { result.number ≡ number }
     ensures journal { IsJournalled shared.old.board.limit shared.old.board.journal shared.new.board.journal (P.faults shared.old.board.place) (P.faults shared.new.board.place) result }
     ensures root { shared.new.root ≡ shared.old.root }
@@ -229,35 +220,15 @@ pub fn serve_session<W: World, D: Desk<W>, P: Place>(
     shared: &mut Shared<P>,
 ) -> (Transcript, D)
     // The session's own part: what was read, done and written, and the reply with its cause.
-    ensures session { IsSession (record {
-      left = D.I.left;
-      input_faults = D.I.faults;
-      taken = D.O.taken;
-      output_faults = D.O.faults;
-      listed = D.T.listed;
-      given = D.T.given;
-      tree_faults = D.T.faults;
-      bench_faults = D.B.faults;
-      content = W.content;
-      tool = W.tool;
-    }) D.T.keeps W.stamps_honest W.tools_honest shared.old.root (D.parts desk) (D.parts result.1) result.0 }
+    ensures session { IsSession (meanings W.World D.I.Source D.O.Sink D.T.Sources D.B.BenchMaker)
+        D.T.keeps W.stamps_honest W.tools_honest shared.old.root (D.parts desk) (D.parts result.1) result.0 }
     ensures number { result.0.number ≡ number }
     // The journal's part: at most one entry, of this session's files.
     ensures journal { IsJournalled shared.old.board.limit shared.old.board.journal shared.new.board.journal (P.faults shared.old.board.place) (P.faults shared.new.board.place) result.0 }
     // Where nothing fails in an honest world, the request that the input tells is done, unless memory runs out.
     ensures complete { (bytes : List ℕ) (asked : Request) →
-        IsQuiet (record {
-          left = D.I.left;
-          input_faults = D.I.faults;
-          taken = D.O.taken;
-          output_faults = D.O.faults;
-          listed = D.T.listed;
-          given = D.T.given;
-          tree_faults = D.T.faults;
-          bench_faults = D.B.faults;
-          content = W.content;
-          tool = W.tool;
-        }) D.T.keeps W.stamps_honest W.tools_honest shared.old.root (D.parts desk) (D.parts result.1) bytes asked →
+        IsQuiet (meanings W.World D.I.Source D.O.Sink D.T.Sources D.B.BenchMaker)
+        D.T.keeps W.stamps_honest W.tools_honest shared.old.root (D.parts desk) (D.parts result.1) bytes asked →
         HasRoom shared.old.board.limit shared.old.board.journal (P.faults shared.old.board.place) (P.faults shared.new.board.place) →
         IsDoneOr result.0.ending result.0.reply }
     ensures root { shared.new.root ≡ shared.old.root }

@@ -1,4 +1,5 @@
 use Rattle.std.proofs.Common.{◌≡◌, ◌≤◌, length}
+use Rattle.rx_engine.specs.Meanings.{meanings}
 use Rattle.rx_engine.specs.Proxy.{Runs}
 use Rattle.rx_engine.specs.Serves.{Serves}
 use Rattle.rx_engine.proofs.proxy.serve_all.Given as goal
@@ -10,18 +11,8 @@ invariant-loop-served g l =
     let place = g.P.Place.faults in
     record {
       runs : Runs (coming l.fn.front) (coming l.front)
-          (Serves (record {
-            left = g.F.D.I.Source.left;
-            input_faults = g.F.D.I.Source.faults;
-            taken = g.F.D.O.Sink.taken;
-            output_faults = g.F.D.O.Sink.faults;
-            listed = g.F.D.T.Sources.listed;
-            given = g.F.D.T.Sources.given;
-            tree_faults = g.F.D.T.Sources.faults;
-            bench_faults = g.F.D.B.BenchMaker.faults;
-            content = g.W.World.content;
-            tool = g.W.World.tool;
-          }) g.F.D.T.Sources.keeps g.F.D.Desk.parts g.W.World.stamps_honest g.W.World.tools_honest l.fn.shared.root l.fn.shared.board.limit)
+          (Serves (meanings g.W.World g.F.D.I.Source g.F.D.O.Sink g.F.D.T.Sources g.F.D.B.BenchMaker)
+          g.F.D.T.Sources.keeps g.F.D.Desk.parts g.W.World.stamps_honest g.W.World.tools_honest l.fn.shared.root l.fn.shared.board.limit)
           l.fn.shared.board.journal l.shared.board.journal (place l.fn.shared.board.place) (place l.shared.board.place) l.desks.items l.transcripts.items;
       served_is : l.served ≡ length l.transcripts.items;
       later : faults l.fn.front ≤ faults l.front;
