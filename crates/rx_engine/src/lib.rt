@@ -14,3 +14,6 @@ pub use proxy::{Ran, run_proxy};
 pub use sessions::{Shared, serve_session};
 pub use transcripts::{Ending, Transcript};
 pub use words::root_in;
+
+#[cfg(test)]
+mod tests;
