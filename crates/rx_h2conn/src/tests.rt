@@ -166,15 +166,16 @@ fn takes(conn: &mut Conn, id: u32, bytes: &[u8], piece: &[u8]) -> Result<usize, 
 fn takes_what_is_allowed(rt: HostRuntime) -> Result<(), Fail> {
     let (mut conn, id) = with_stream(rt.alloc(), false)?;
     let piece = vec![in rt.alloc(); 7; 65_536]?;
-    assert_eq!(rt; takes(&mut conn, id, b"", &piece)?, 65_535);
-    let on_stream = b"\0\0\x04\x08\0\0\0\0\x01\0\0\0\x0a";
-    assert_eq!(rt; takes(&mut conn, id, on_stream, &piece)?, 0);
-    let on_connection = b"\0\0\x04\x08\0\0\0\0\0\0\0\0\x04";
-    assert_eq!(rt; takes(&mut conn, id, on_connection, &piece)?, 4);
-    let more = b"\0\0\x04\x08\0\0\0\0\0\0\0\x01\0";
-    assert_eq!(rt; takes(&mut conn, id, more, &piece)?, 6);
-    let settings = b"\0\0\x06\x04\0\0\0\0\0\0\x04\0\x01\0\x02";
-    assert_eq!(rt; takes(&mut conn, id, settings, &piece)?, 3);
+    let rows: [(&[u8], usize); 5] = [
+        (b"", 65_535),
+        (b"\0\0\x04\x08\0\0\0\0\x01\0\0\0\x0a", 0),
+        (b"\0\0\x04\x08\0\0\0\0\0\0\0\0\x04", 4),
+        (b"\0\0\x04\x08\0\0\0\0\0\0\0\x01\0", 6),
+        (b"\0\0\x06\x04\0\0\0\0\0\0\x04\0\x01\0\x02", 3),
+    ];
+    for (bytes, want) in rows {
+        assert_eq!(rt; takes(&mut conn, id, bytes, &piece)?, want, "{bytes:?}");
+    }
     Ok(())
 }
 
