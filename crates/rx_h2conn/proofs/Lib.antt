@@ -14,5 +14,7 @@ pub mod EmittedLemmas
 pub mod ChosenLemmas
 pub mod PartLemmas
 pub mod CarriedLemmas
+pub mod StaysLemmas
 pub mod GrantLemmas
+pub mod LeftLemmas
 pub mod StartLemmas

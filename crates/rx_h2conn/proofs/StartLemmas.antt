@@ -1,15 +1,17 @@
 -- What holds of a new connection, and of every run from there.
-use Rattle.std.proofs.Common.{◌≡◌, ◌+◌, ◌≤◌, ℕ, List, ◌++◌, length, Result, Ok, Err, IfOk, refl, arith}
+use Rattle.std.proofs.Common.{◌≡◌, ◌+◌, ◌≤◌, ℕ, List, ◌++◌, ◌∷◌, [], length, Result, Ok, Err, IfOk, refl, arith}
 use Rattle.rx_h2conn.specs.Session.{Reading}
 use Rattle.rx_h2conn.specs.Emitted.{bytes_of}
 use Rattle.rx_h2conn.specs.Conn.{started}
 use Rattle.rx_h2conn.specs.Sound.{IsSound}
 use Rattle.rx_h2conn.specs.Reader.{IsConn}
-use Rattle.rx_h2conn.specs.History.{Call, run, bytewise, SameRuns, all_given, all_emitted}
+use Rattle.rx_h2conn.specs.History.{Call, run, bytewise, SameRuns, all_given, emitted, all_emitted}
 use Rattle.rx_h2conn.specs.Parts.{part_of, all_parts}
-use Rattle.rx_h2conn.specs.Carried.{bytes_on, all_written, bytes_in, all_granted}
+use Rattle.rx_h2conn.specs.Carried.{bytes_on, all_written, bytes_in}
+use Rattle.rx_h2conn.specs.Granted.{all_granted, window_left, AllSendHeld}
 use Rattle.rx_h2conn.proofs.CarriedLemmas.{all_carried}
 use Rattle.rx_h2conn.proofs.GrantLemmas.{all_within}
+use Rattle.rx_h2conn.proofs.LeftLemmas.{all_left}
 use Rattle.rx_h2conn.proofs.HistoryLemmas.{any_runs}
 use Rattle.rx_h2conn.proofs.EmittedLemmas.{all_added}
 use Rattle.rx_h2conn.proofs.PartLemmas.{part_all}
@@ -37,6 +39,10 @@ pub started_bytes : {E : Type 0} (r : Result Reading E) → IfOk r (λ conn. (id
 started_bytes (Ok conn) = all_carried conn
 started_bytes (Err e) = tt
 
-pub started_window : {E : Type 0} (r : Result Reading E) → IfOk r (λ conn. (calls : List Call) → length (bytes_in (all_emitted conn calls)) ≤ conn.state.send + all_granted conn calls)
+pub started_window : {E : Type 0} (r : Result Reading E) → IfOk r (λ conn. (calls : List Call) → length (bytes_in (all_emitted conn calls)) ≤ conn.state.send + all_granted conn 0 calls)
 started_window (Ok conn) = λ calls. omega (arith, all_within conn calls)
 started_window (Err e) = tt
+
+pub started_stream_window : {E : Type 0} (r : Result Reading E) → IfOk r (λ conn. conn ≡ started) → IfOk r (λ conn. (id : ℕ) (calls : List Call) (last : Call) → AllSendHeld conn (calls ++ last ∷ []) → length (bytes_on id (emitted (run conn calls) last)) ≤ window_left conn id calls)
+started_stream_window (Ok conn) new = λ id calls last held. all_left conn id calls last new held
+started_stream_window (Err e) new = tt

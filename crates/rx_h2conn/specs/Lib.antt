@@ -20,3 +20,4 @@ pub mod Conn
 pub mod History
 pub mod Parts
 pub mod Carried
+pub mod Granted

@@ -1,27 +1,28 @@
 //! A connection as its user sees it.
 
-ghost use Rattle.std.specs.Prelude.{◌≡◌, ◌+◌, ◌≤◌, ◌++◌, ◌&&◌, ◌==◌, true, false, List, ℕ, length, None, IfOk, OnOk, OnErr};
+ghost use Rattle.std.specs.Prelude.{◌≡◌, ◌+◌, ◌≤◌, ◌++◌, ◌∷◌, [], ◌&&◌, ◌==◌, true, false, List, ℕ, length, None, IfOk, OnOk, OnErr};
 ghost use Rattle.std.specs.List.{All};
 ghost use Rattle.rx_hpack.specs.Header.{views};
 ghost use Rattle.rx_hpack.specs.Encoder.{IsWritable};
 ghost use Rattle.rx_h2conn.specs.Conn.{started};
 ghost use Rattle.rx_h2conn.specs.Emitted.{bytes_of};
 ghost use Rattle.rx_h2conn.specs.Event.{Hands};
-ghost use Rattle.rx_h2conn.specs.History.{Call, run, bytewise, SameRuns, all_given, all_emitted};
+ghost use Rattle.rx_h2conn.specs.History.{Call, run, bytewise, SameRuns, all_given, emitted, all_emitted};
 ghost use Rattle.rx_h2conn.specs.Open.{refusal, next_id, opened};
 ghost use Rattle.rx_h2conn.specs.Output.{AnswersAt, allowed, sent, reset, output, emptied};
 ghost use Rattle.rx_h2conn.specs.Parts.{part_of, all_parts};
-ghost use Rattle.rx_h2conn.specs.Carried.{bytes_on, all_written, bytes_in, all_granted};
+ghost use Rattle.rx_h2conn.specs.Carried.{bytes_on, all_written, bytes_in};
+ghost use Rattle.rx_h2conn.specs.Granted.{all_granted, window_left, AllSendHeld};
 ghost use Rattle.rx_h2conn.specs.Steps.{Feeds, first, after_event};
 ghost use Rattle.rx_h2conn.specs.Streams.{is_open, stream_at, IsHeld, KeepsHeld};
 
 use crate::event::ConnEvent;
 use crate::fault::ConnFault;
 use crate::machine::Machine;
-use crate::reader::{HEADER_SIZE, Reader};
+use crate::reader::Reader;
 use crate::settings::SizeUpdate;
 use crate::streams::Streams;
-use rx_h2frame::{FrameOut, Kind, write_frame};
+use rx_h2frame::{FrameOut, HEADER_SIZE, Kind, write_frame};
 use rx_hpack::{Decoder, Header};
 use std::alloc::{AllocError, Global};
 use std::collections::VecDeque;
@@ -122,7 +123,11 @@ impl Conn {
         ensures bytes { IfOk result (λ conn. (id : ℕ) (calls : List Call) → bytes_on id (all_emitted conn calls) ≡ all_written conn id calls) }
 
         // Those of all streams never pass the window of the connection: what it is at first, and what the server allowed more.
-        ensures window { IfOk result (λ conn. (calls : List Call) → length (bytes_in (all_emitted conn calls)) ≤ conn.state.send + all_granted conn calls) }
+        ensures window { IfOk result (λ conn. (calls : List Call) → length (bytes_in (all_emitted conn calls)) ≤ conn.state.send + all_granted conn 0 calls) }
+
+        // What a call writes of a stream never passes what the stream's own window then lets through, in each run whose
+        // calls of `send` are on streams that are held.
+        ensures stream_window { IfOk result (λ conn. (id : ℕ) (calls : List Call) (last : Call) → AllSendHeld conn (calls ++ last ∷ []) → length (bytes_on id (emitted (run conn calls) last)) ≤ window_left conn id calls) }
     {
         start(alloc)
     }
@@ -170,8 +175,9 @@ impl Conn {
     /// Takes the bytes that the server sent next, in whatever piece they came. A byte of DATA is copied twice.
     ///
     /// Of bytes of streams no more than 65,535 wait as events, since the credit for them is given when they are handed out.
-    /// Header lists have no window, and one may count 65,536 bytes: a user that takes all events before it feeds more keeps
-    /// no more of them than one piece brings.
+    /// Header lists and GOAWAY have no window, and no number of them is refused: any number of interim answers may come, and
+    /// a list may count 65,536 bytes where its block has few. So a user takes all events before it feeds more, and then
+    /// keeps of these no more than one piece brings.
     ///
     /// Errors: `Protocol` with the code of the rule that the server broke, where several are broken by one frame the first
     /// of 6, 3, 9, 11 and 1; `NoMemory`, and then none of the piece counts.

@@ -20,15 +20,19 @@ use rx_hpack::Decoder;
 use std::alloc::Global;
 use std::collections::VecDeque;
 
-/// The error codes of RFC 9113 7 that this side tells.
+/// A rule was broken that has no code of its own (RFC 9113 7, as those below).
 pub const PROTOCOL_ERROR: u32 = 1;
 
+/// More bytes came than a window allowed, or a window grew past the largest.
 pub const FLOW_CONTROL_ERROR: u32 = 3;
 
+/// A frame is of a size that it can't have.
 pub const FRAME_SIZE_ERROR: u32 = 6;
 
+/// A header block can't be decoded.
 pub const COMPRESSION_ERROR: u32 = 9;
 
+/// The server asks for more work or memory than is given.
 pub const ENHANCE_YOUR_CALM: u32 = 11;
 
 /// All that a connection knows but the bytes since the last whole frame.

@@ -18,15 +18,12 @@ use crate::event::{ConnEvent, Waiting};
 use crate::fault::ConnFault;
 use crate::machine::{FRAME_SIZE_ERROR, Machine, PROTOCOL_ERROR};
 use crate::settings::SizeUpdate;
-use rx_h2frame::{FrameFault, Next, next_frame};
+use rx_h2frame::{FrameFault, HEADER_SIZE, Next, next_frame};
 use rx_hpack::{Decoder, Header};
 use std::alloc::AllocError;
 
 /// No payload that comes in may be larger: SETTINGS_MAX_FRAME_SIZE is left as it is at first (RFC 9113 4.2).
 const LARGEST_FRAME: u32 = 16_384;
-
-/// The bytes of a frame's header.
-pub const HEADER_SIZE: usize = 9;
 
 /// A machine, and the bytes that it hasn't taken yet.
 #[derive(Drop)]

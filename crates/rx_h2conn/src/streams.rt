@@ -77,6 +77,7 @@ impl Streams {
         self.list.len()
     }
 
+    /// The one at a place, by value.
     pub fn get(&self, at: usize) -> Stream
         requires { at < length self.now }
         ensures { result ≡ slice_index_or self.now at fresh }

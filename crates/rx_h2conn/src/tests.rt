@@ -1,6 +1,6 @@
 //! Bytes of a server, and what a connection makes of them.
 
-ghost use Rattle.std.specs.Prelude.{IfOk};
+ghost use Rattle.std.specs.Prelude.{false, IfOk};
 ghost use Rattle.rx_h2conn.specs.Streams.{IsHeld};
 
 use super::*;
@@ -148,6 +148,52 @@ fn sends(rt: HostRuntime) -> Result<(), Fail> {
     assert_eq!(rt; out.len(), 65_535 + 4 * 9);
     let (front, _) = out.split_at(9);
     assert_eq!(rt; front, b"\0\x40\0\0\0\0\0\0\x01".as_slice());
+    Ok(())
+}
+
+/// Feeds bytes that break no rule, and tells how many of a piece the stream then takes.
+fn takes(conn: &mut Conn, id: u32, bytes: &[u8], piece: &[u8]) -> Result<usize, ConnFault>
+    requires { IsHeld conn.old.state id false }
+    ensures { IfOk result (λ _. IsHeld conn.new.state id false) }
+{
+    conn.feed(bytes)?;
+    conn.send(id, piece, false)
+}
+
+/// Once both windows are used up, a stream takes what WINDOW_UPDATE allows on the stream and on the connection, and what a
+/// larger SETTINGS_INITIAL_WINDOW_SIZE adds.
+#[test]
+fn takes_what_is_allowed(rt: HostRuntime) -> Result<(), Fail> {
+    let (mut conn, id) = with_stream(rt.alloc(), false)?;
+    let piece = vec![in rt.alloc(); 7; 65_536]?;
+    let rows: [(&[u8], usize); 5] = [
+        (b"", 65_535),
+        (b"\0\0\x04\x08\0\0\0\0\x01\0\0\0\x0a", 0),
+        (b"\0\0\x04\x08\0\0\0\0\0\0\0\0\x04", 4),
+        (b"\0\0\x04\x08\0\0\0\0\0\0\0\x01\0", 6),
+        (b"\0\0\x06\x04\0\0\0\0\0\0\x04\0\x01\0\x02", 3),
+    ];
+    for (bytes, want) in rows {
+        assert_eq!(rt; takes(&mut conn, id, bytes, &piece)?, want, "{bytes:?}");
+    }
+    Ok(())
+}
+
+/// Neither bytes nor the end that `send` takes after the server's RST_STREAM are written; its code is 8.
+#[test]
+fn drops_after_reset(rt: HostRuntime) -> Result<(), Fail> {
+    let (mut conn, id) = with_stream(rt.alloc(), false)?;
+    let reset = b"\0\0\x04\x03\0\0\0\0\x01\0\0\0\x08";
+    assert_eq!(rt; takes(&mut conn, id, reset, b"hi")?, 2);
+    assert_eq!(rt; conn.send(id, b"hi", true)?, 2);
+    assert!(rt;
+        matches!(
+            conn.next_event(),
+            Some(ConnEvent::Reset { stream: 1, code: 8 })
+        )
+    );
+    assert_eq!(rt; conn.next_event().is_none(), true);
+    assert_eq!(rt; conn.take_output()?.len(), 0);
     Ok(())
 }
 

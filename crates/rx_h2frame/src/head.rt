@@ -7,7 +7,7 @@ ghost use Rattle.rx_h2frame.specs.Head.{header_of, is_padded, pad_length_size, p
 use crate::flags::{ACK, PADDED, PRIORITY, is_set};
 use crate::kind::Kind;
 
-/// The bytes of a frame's header.
+/// The bytes of a frame's header (RFC 9113 4.1).
 pub const HEADER_SIZE: usize = 9;
 
 /// The bytes of a HEADERS frame's priority: four of a stream that it depends on, and a weight (RFC 9113 6.2).

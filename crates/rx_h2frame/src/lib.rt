@@ -11,5 +11,6 @@ mod write;
 
 pub use flags::{ACK, END_HEADERS, END_STREAM, PADDED, PRIORITY, is_set};
 pub use frame::{Frame, FrameFault, Next, next_frame};
+pub use head::HEADER_SIZE;
 pub use kind::Kind;
 pub use write::{FrameOut, write_frame};

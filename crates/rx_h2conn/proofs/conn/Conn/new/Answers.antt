@@ -1,4 +1,4 @@
-use Rattle.rx_h2conn.proofs.StartLemmas.{started_cutting, started_output, started_streams, started_bytes, started_window}
+use Rattle.rx_h2conn.proofs.StartLemmas.{started_cutting, started_output, started_streams, started_bytes, started_window, started_stream_window}
 use Rattle.rx_h2conn.proofs.conn.Conn.new.Goals as goal
 
 pub returns-clause-any_cutting : goal.returns-clause-any_cutting
@@ -15,3 +15,6 @@ returns-clause-bytes c = started_bytes c.start.result
 
 pub returns-clause-window : goal.returns-clause-window
 returns-clause-window c = started_window c.start.result
+
+pub returns-clause-stream_window : goal.returns-clause-stream_window
+returns-clause-stream_window c = started_stream_window c.start.result c.start.ensures
