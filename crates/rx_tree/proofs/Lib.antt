@@ -11,6 +11,17 @@ pub mod PlantingLemmas
 pub mod ReadyLemmas
 pub mod StartLemmas
 pub mod BlobLemmas
+pub mod BytesLaws
 pub mod EntryLemmas
+pub mod ForestLaws
 pub mod ShelfLemmas
 pub mod WalkLemmas
+pub mod ListingLaws
+pub mod JoinLaws
+pub mod TreeHolds
+pub mod TreeWalks
+pub mod CanonicalLaws
+pub mod SeenLaws
+pub mod FoundLaws
+pub mod CountLaws
+pub mod BackLaws

@@ -2,8 +2,10 @@
 //! file's, among neighbours in the order of the names.
 
 ghost use Rattle.std.specs.Prelude.{◌≡◌, IfOk, Some, length};
+ghost use Rattle.std.specs.List.{AllByRecursion};
 ghost use Rattle.std.specs.List.Sorted.{IsPermutation, IsSorted};
 ghost use Rattle.rx_tree.specs.Entries.{entries_of};
+ghost use Rattle.rx_tree.specs.Listings.{IsEntry};
 ghost use Rattle.rx_tree.specs.Places.{by_place};
 ghost use Rattle.rx_tree.specs.Refusals.{Judges, by_bytes, is_same_file, is_under};
 ghost use Rattle.rx_tree.specs.Search.{HasBelow, HasNeighbours, IsLeastOr, lesser_of, place};
@@ -26,6 +28,7 @@ pub(crate) fn take_entries<'a>(
     ensures judged { Judges files.now dirs.now result }
     ensures all { IfOk result (λ entries. IsPermutation (entries_of files.now dirs.now) entries.items) }
     ensures sorted { IfOk result (λ entries. IsSorted by_place entries.items) }
+    ensures sound { IfOk result (λ _. AllByRecursion IsEntry (entries_of files.now dirs.now)) }
 {
     if files.len() > MAX_FILES {
         return Err(TreeFault::TooManyFiles);

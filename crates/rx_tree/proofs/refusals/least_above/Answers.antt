@@ -1,4 +1,4 @@
-use Rattle.std.proofs.Common.{◌≡◌, ◌∙◌, ℕ, List, Option, Some, ap, arith, sym}
+use Rattle.std.proofs.Common.{◌∙◌, ℕ, List, Some, ap, sym}
 use Rattle.rx_tree.proofs.LeastLemmas.{all_neighbours, found_neighbours, no_neighbours}
 use Rattle.rx_tree.specs.Refusals.{is_under}
 use Rattle.rx_tree.specs.Search.{lesser_of, place}

@@ -1,6 +1,6 @@
-use Rattle.std.proofs.Common.{◌≡◌, ◌≤◌, List, ℕ, None, Some, arith, length, subst, sym}
+use Rattle.std.proofs.Common.{List, ℕ, None, Some, arith, subst, sym}
 use Rattle.rx_tree.proofs.RefusalLemmas.{apart, least_clash, least_twice, some_below}
-use Rattle.rx_tree.specs.Refusals.{IsLeast, by_bytes, by_pair, IsClash, IsTwice}
+use Rattle.rx_tree.specs.Refusals.{IsLeast, by_bytes, IsTwice}
 use Rattle.rx_tree.specs.Entries.{entries_of}
 use Rattle.rx_tree.proofs.refusals.take_entries.Goals.{in-Some-least_above+in_default-least_below, in_default-least_above}
 use Rattle.rx_tree.proofs.refusals.take_entries.Goals as goal
