@@ -1,7 +1,9 @@
 -- What is listed of a built tree is its list again.
-use Rattle.std.proofs.Common.{◌≡◌, ◌≢◌, ◌∙◌, ℕ, suc, ◌+◌, ◌<◌, ◌≤◌, inl, inr, Bool, true, List, [], ◌∷◌, ◌++◌, length, map, Option, Some, None, Result, Ok, Err, refl, sym, ap, subst, arith}
-use Rattle.std.specs.Prelude.{IfSome}
-use Rattle.std.specs.List.{Contains}
+use Rattle.std.proofs.Common.{◌≡◌, ◌≢◌, ◌∙◌, ℕ, suc, ◌+◌, ◌<◌, ◌≤◌, ◌&&◌, inl, inr, Bool, true, cond, List, [], ◌∷◌, ◌++◌, length, map, Option, Some, None, Result, Ok, Err, refl, sym, ap, subst, arith}
+use Rattle.std.specs.Prelude.{IfSome, is_some}
+use Rattle.std.specs.List.{Contains, count_by}
+use Rattle.std.specs.Str.{bytes_eq}
+use Rattle.std.proofs.lemmas.Bool.{cases_lt}
 use Rattle.std.proofs.lemmas.List.Sorted.{Contains-permutation, IsPermutation-sym}
 use Rattle.rx_base.specs.Digests.{digest_of}
 use Rattle.rx_base.specs.Paths.{IsName, joined, longest}
@@ -19,14 +21,16 @@ use Rattle.rx_tree.specs.Entries.{Content, Entry, dir_entry, entries_of, names_o
 use Rattle.rx_tree.specs.Listings.{GivesBack, HasNoRootFile, HasSmallSizes, HasTree, IsEntry, IsGivenBack, IsListOf, ListsDir, ListsFile, listed_file}
 use Rattle.rx_tree.specs.Lists.{IsInOrder, ListsTree, walked_from}
 use Rattle.rx_tree.specs.Planting.{ReadsAgain, ReadsAgainBelow}
-use Rattle.rx_tree.specs.Refusals.{most_files}
+use Rattle.rx_tree.specs.Refusals.{is_file_at, most_files}
 use Rattle.rx_tree.specs.Trees.{Tree, Rest, all_bytes, levels, rests, tree, tree_bytes, tree_of}
 use Rattle.rx_tree.proofs.CanonicalLaws.{IsSmall, in_order}
-use Rattle.rx_tree.proofs.CountLaws.{rests_passing, seen_at_most, tally}
+use Rattle.rx_tree.proofs.CountLaws.{passes, rests_passing, seen_at_most, tally}
 use Rattle.rx_tree.proofs.FoundLaws.{FitsOn, finds_all, has_paths, names_are}
 use Rattle.rx_tree.proofs.ListingLaws.{goes_on, rest_at, under_all}
 use Rattle.rx_tree.proofs.Members.{All-member, All-members}
 use Rattle.rx_tree.proofs.NamesLemmas.{below-from_names, below-names, joined-names_of, joined_parts, some_part}
+use Rattle.rx_tree.proofs.Neighbours.{counted}
+use Rattle.rx_tree.proofs.OnceLaws.{IsOnce, dirs_once, once-permutation, strictly_sorted}
 use Rattle.rx_tree.proofs.SeenLaws.{dirs-from, dirs-to, files-from, files-to, files_seen}
 use Rattle.rx_tree.proofs.ShelfLemmas.{map-to}
 use Rattle.rx_tree.proofs.StartLemmas.{map-from, one_file, rest_of}
@@ -42,6 +46,12 @@ seen_of t = more start (suc (count_below t)) (files_seen [] t) (below bare_in []
 
 walk_sees : (blobs : List Blob) (t : Tree) → HasPaths [] t → IsFound blobs t → FindsBelow blobs t → length (files_seen [] t) ≤ most_files → Sees (seen_of t) (walked_from (digest_of (tree_bytes t)) blobs)
 walk_sees blobs t p found finds fits = sees_directory blobs t found (sees_below blobs t finds) (most_files + 1) [] start tt p (omega arith) (omega arith) fits
+
+abbrev as_number : Bool → ℕ
+as_number b = cond b 1 0
+
+abbrev file_at : List ℕ → TreeFile → Bool
+file_at path file = bytes_eq file.path path
 
 module _ (es : List Entry) (e : HasTree es) where
   entry_names_are : (q : Rest) → Contains (rests 0 es) q → FitsOn [] q
@@ -136,6 +146,29 @@ module _ (es : List Entry) (e : HasTree es) where
             d.last (rest_of y) (map-to rest_of es y c) on.0 on.1 (on.2 ∙ ap (λ (ns : List (List ℕ)). ns ++ on.0 ∷ on.1) names);
       }
 
+  -- ---- each once
+
+  entry_passes : (path : List ℕ) (x : Entry) → passes (file_at path) [] x.file (names_of x.path) ≡ is_file_at path x
+  entry_passes path x =
+      elim (x.file) as (λ o. passes (file_at path) [] o (names_of x.path) ≡ (is_some o && bytes_eq x.path path)) [ None ↦ refl | Some c ↦ ap (λ (p : List ℕ). bytes_eq p path) (joined-names_of x.path) ]
+
+  file_count : (path : List ℕ) (xs : List Entry) → rests_passing (file_at path) [] (rests 0 xs) ≡ count_by (is_file_at path) xs
+  file_count path [] = refl
+  file_count path (x ∷ xs) =
+      ap (λ (b : Bool). as_number b + rests_passing (file_at path) [] (rests 0 xs)) (entry_passes path x)
+      ∙ ap (λ (n : ℕ). as_number (is_file_at path x) + n) (file_count path xs)
+      ∙ sym (counted (is_file_at path) x xs (is_file_at path x) refl)
+
+  each_file_once : IsOnce (λ (f : TreeFile). f.path) (files_seen [] (tree es))
+  unfolding tree_of
+  each_file_once = λ path.
+      let seen = seen_at_most (file_at path) (levels (rests 0 es)) (rests 0 es) [] in
+      let count = file_count path es in
+      elim (cases_lt 1 (count_by (is_file_at path) es)) [ inl twice ↦ absurd (e.apart.once path twice) | inr once ↦ omega arith ]
+
+  each_dir_once : IsOnce (λ (p : List ℕ). p) (below bare_in [] (tree es))
+  each_dir_once = λ path. dirs_once path (levels (rests 0 es)) (rests 0 es) [] (omega arith) tt (λ q c. (entry_names_are q c).names)
+
   -- ---- the list
 
   list_of_seen : (listed : Listed) → HasNoRootFile es → IsInOrder (seen_of (tree es)) listed → IsListOf es listed
@@ -147,12 +180,12 @@ module _ (es : List Entry) (e : HasTree es) where
           λ h. Contains-permutation files listed.files (listed_file path content) o.files (file-to path content no_root h),
           λ h. file-from path content (Contains-permutation listed.files files (listed_file path content) (IsPermutation-sym files listed.files o.files) h),
         );
-        files_ordered = o.files_ordered;
+        files_ordered = strictly_sorted (λ (f : TreeFile). f.path) listed.files o.files_ordered (once-permutation (λ (f : TreeFile). f.path) files listed.files o.files each_file_once);
         dirs = λ path. (
           λ h. Contains-permutation dirs listed.dirs path o.dirs (dir-to path h),
           λ h. dir-from path (Contains-permutation listed.dirs dirs path (IsPermutation-sym dirs listed.dirs o.dirs) h),
         );
-        dirs_ordered = o.dirs_ordered;
+        dirs_ordered = strictly_sorted (λ (p : List ℕ). p) listed.dirs o.dirs_ordered (once-permutation (λ (p : List ℕ). p) dirs listed.dirs o.dirs each_dir_once);
       }
 
   count_is : length (all_bytes (tree es)) ≡ suc (count_below (tree es))

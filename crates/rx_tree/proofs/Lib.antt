@@ -24,4 +24,5 @@ pub mod CanonicalLaws
 pub mod SeenLaws
 pub mod FoundLaws
 pub mod CountLaws
+pub mod OnceLaws
 pub mod BackLaws

@@ -28,7 +28,7 @@ record IsForestFile (file : List ℕ → Option Content) (names at : List (List 
   pub is : f ≡ file_in (at ++ name ∷ []) content
 
 -- what is told of a directory of one of the names, or of one below
-record IsForestTold {A : Type 0} (told : List (List ℕ) → Tree → List A) (file : List ℕ → Option Content) (sub : List ℕ → Tree) (names at : List (List ℕ)) (x : A) : Type 0 where
+pub record IsForestTold {A : Type 0} (told : List (List ℕ) → Tree → List A) (file : List ℕ → Option Content) (sub : List ℕ → Tree) (names at : List (List ℕ)) (x : A) : Type 0 where
   pub name : List ℕ
   pub here : Contains names name
   pub none : file name ≡ None
@@ -71,7 +71,7 @@ module _ (file : List ℕ → Option Content) (sub : List ℕ → Tree) (at : Li
     abbrev told_at : List ℕ → List A
     told_at n = told (at ++ n ∷ []) (sub n) ++ below told (at ++ n ∷ []) (sub n)
 
-    forest_told-from : (names : List (List ℕ)) (x : A) → Contains (below told at (forest file sub names)) x → IsForestTold told file sub names at x
+    pub forest_told-from : (names : List (List ℕ)) (x : A) → Contains (below told at (forest file sub names)) x → IsForestTold told file sub names at x
     forest_told-from [] x h = absurd (not_in_nothing x h)
     forest_told-from (m ∷ ms) x h =
         elim (file m) as (λ o. file m ≡ o → Contains (below told at (planted m o (sub m) (forest file sub ms))) x → IsForestTold told file sub (m ∷ ms) at x) [
@@ -114,6 +114,13 @@ dir_rest n ms = record { names = n ∷ ms; file = None }
 names_on : (at : List (List ℕ)) (n : List ℕ) (ms : List (List ℕ)) → (at ++ n ∷ []) ++ ms ≡ at ++ n ∷ ms
 names_on at n ms = append_assoc at (n ∷ []) ms
 
+-- a path of such names
+pub path_on : (at : List (List ℕ)) (n : List ℕ) (ms : List (List ℕ)) (path : List ℕ) → path ≡ joined ((at ++ n ∷ []) ++ ms) → path ≡ joined (at ++ n ∷ ms)
+path_on at n ms path is = is ∙ ap joined (names_on at n ms)
+
+file_on : (at : List (List ℕ)) (n : List ℕ) (ms : List (List ℕ)) (c : Content) (f : TreeFile) → f ≡ file_in ((at ++ n ∷ []) ++ ms) c → f ≡ file_in (at ++ n ∷ ms) c
+file_on at n ms c f is = is ∙ ap (λ (names : List (List ℕ)). file_in names c) (names_on at n ms)
+
 pub files-to : (ms : List (List ℕ)) (n : List ℕ) (rs : List Rest) (at : List (List ℕ)) (c : Content) → HasOneFile rs → HasNoneUnder rs → Contains rs (record { names = n ∷ ms; file = Some c })
     → Contains (files_seen at (tree_of rs)) (file_in (at ++ n ∷ ms) c)
 files-to [] n rs at c one none h =
@@ -155,7 +162,7 @@ files-from (suc most) rs at f h =
             others = d.first ∷ d.others;
             content = d.content;
             listed = within-from r.name rs (file_rest d.first d.others d.content) d.listed;
-            is = d.is ∙ ap (λ (names : List (List ℕ)). file_in names d.content) (names_on at r.name (d.first ∷ d.others));
+            is = file_on at r.name (d.first ∷ d.others) d.content f d.is;
           }
     ]
 
@@ -168,13 +175,13 @@ no_items : {A : Type 0} (xs : List A) → (length xs == 0) ≡ true → xs ≡ [
 no_items [] e = refl
 no_items (x ∷ xs) e = let none : length (x ∷ xs) ≡ 0 = eqb-true (length (x ∷ xs)) 0 e in absurd (omega arith)
 
-is_bare-from : (t : Tree) → is_bare (directory_of t) ≡ true → IsBare t
+pub is_bare-from : (t : Tree) → is_bare (directory_of t) ≡ true → IsBare t
 is_bare-from t e =
     let first = and_parts (length (file_nodes t) == 0) (length (directory_nodes t) == 0 && true) e in
     let second = and_parts (length (directory_nodes t) == 0) true first.1 in
     (no_items (file_nodes t) first.0, no_items (directory_nodes t) second.0)
 
-bare_path-from : (path : List ℕ) (t : Tree) (p : List ℕ) → Contains (with_bare path (directory_of t) []) p → (is_bare (directory_of t) ≡ true) × (path ≡ p)
+pub bare_path-from : (path : List ℕ) (t : Tree) (p : List ℕ) → Contains (with_bare path (directory_of t) []) p → (is_bare (directory_of t) ≡ true) × (path ≡ p)
 bare_path-from path t p h =
     elim (not (length path == 0) && is_bare (directory_of t)) as (λ b. (not (length path == 0) && is_bare (directory_of t)) ≡ b → Contains (cond b (path ∷ []) []) p → (is_bare (directory_of t) ≡ true) × (path ≡ p)) [
       | true ↦ λ e h.
@@ -246,6 +253,6 @@ dirs-from (suc most) rs at path le h =
             others = d.first ∷ d.others;
             listed = within-from n rs (dir_rest d.first d.others) d.listed;
             last = λ q c x xs f. d.last (record { names = (d.first ∷ d.others) ++ x ∷ xs; file = q.file }) (within_more n rs q ((d.first ∷ d.others) ++ x ∷ xs) c f) x xs refl;
-            is = d.is ∙ ap joined (names_on at n (d.first ∷ d.others));
+            is = path_on at n (d.first ∷ d.others) path d.is;
           }
     ]

@@ -1,7 +1,7 @@
 -- What a list of paths lists, and when two trees have the same bytes throughout.
 use Rattle.std.specs.Prelude.{◌≡◌, ◌≢◌, ◌↔◌, ◌<◌, ◌≤◌, ◌^◌, ℕ, true, List, [], ◌∷◌, length, Option, None, Some, option_and_then, option_map, IfSome, Result, Ok, Err, if◌then◌else◌}
 use Rattle.std.specs.List.{AllByRecursion, Contains}
-use Rattle.std.specs.List.Sorted.{IsSorted}
+use Rattle.std.specs.List.Sorted.{IsStrictlySortedBy}
 use Rattle.std.specs.Str.{bytes_eq}
 use Rattle.hex.specs.Hex.{IsBytes}
 use Rattle.rx_base.specs.Digests.{digest_of}
@@ -100,9 +100,9 @@ listed_file path content = record { path = path; digest = content.digest; execut
 -- just the files and the directories without entries, each once, in the order of the paths' bytes
 pub record IsListOf (entries : List Entry) (listed : Listed) : Type 0 where
   pub files : (path : List ℕ) (content : Content) → ListsFile entries path content ↔ Contains listed.files (listed_file path content)
-  pub files_ordered : IsSorted by_path listed.files
+  pub files_ordered : IsStrictlySortedBy by_path listed.files
   pub dirs : (path : List ℕ) → ListsDir entries path ↔ Contains listed.dirs path
-  pub dirs_ordered : IsSorted by_bytes listed.dirs
+  pub dirs_ordered : IsStrictlySortedBy by_bytes listed.dirs
 
 -- The answer is the list, or there are more directories than a walk may enter, or memory is wanting.
 abbrev pub GivesBack : List Entry → Result Listed TreeFault → Type 0
