@@ -57,7 +57,8 @@ fn split_path(alloc: Global, path: &RelPath) -> Result<Vec<&str>, NoMemory>
     Ok(names)
 }
 
-/// A digest, which has a hash of 32 bytes and a size of 64 bits.
+/// The digest itself. Of one that is passed by value its clause can say what the type keeps: 32
+/// bytes, and a size of 64 bits.
 fn read_digest(digest: Digest) -> Digest
     ensures same { result ≡ digest }
     ensures sound { IsDigest digest }
@@ -71,7 +72,7 @@ impl<'a> Entry<'a> {
         ensures entry { IfOk result (λ entry. entry ≡ file_entry file.now) }
         ensures sound { IfOk result (λ _. IsEntry (file_entry file.now)) }
     {
-        // It is read for what every digest keeps.
+        // For what its clause says of the digest.
         let _digest = read_digest(file.digest);
         let names = split_path(alloc, &file.path)?;
         Ok(Entry {
