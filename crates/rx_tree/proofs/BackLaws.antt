@@ -78,9 +78,6 @@ module _ (es : List Entry) (e : HasTree es) where
         ] refl;
       })))
 
-  some_path : (path : List ℕ) → (names : List (List ℕ)) → path ≡ joined names → path ≢ [] → joined names ≢ []
-  some_path path names e ne = λ none. ne (e ∙ none)
-
   -- ---- files
 
   file-to : (path : List ℕ) (content : Content) → HasNoRootFile es → ListsFile es path content → Contains (files_seen [] (tree es)) (listed_file path content)

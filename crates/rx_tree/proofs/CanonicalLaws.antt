@@ -8,7 +8,6 @@ use Rattle.std.specs.FinMap.{nat_cmp-IsAntisymmetric, slice_cmp-IsAntisymmetric}
 use Rattle.std.specs.List.{AllByRecursion, Contains, list_all, list_any}
 use Rattle.std.specs.List.Sorted.{IsStrictlySortedBy}
 use Rattle.std.proofs.lemmas.Bool.{eqb-true}
-use Rattle.std.proofs.lemmas.Bool.Decides.{nat_tests}
 use Rattle.std.proofs.lemmas.Cmp.{nat_list_cmp_total}
 use Rattle.std.proofs.lemmas.List.Elements.{Contains-append_cases, Contains-append_left, Contains-append_right}
 use Rattle.rx_base.specs.Paths.{IsName, Lacks}
@@ -25,6 +24,7 @@ use Rattle.rx_tree.specs.Entries.{Content}
 use Rattle.rx_tree.specs.Planting.{directory_of}
 use Rattle.rx_tree.specs.Trees.{Tree, End, File, Dir, Rest, bytes_below, directory_nodes, file_here, file_nodes, forest, names_in, planted, tree_at, tree_bytes, within}
 use Rattle.rx_tree.proofs.Members.{Contains-cons_cases, Contains-head, Contains-later}
+use Rattle.rx_tree.proofs.NamesLemmas.{some_bytes}
 use Rattle.rx_tree.proofs.TreeHolds.{HoldsEach}
 use Rattle.rx_tree.proofs.TreeRuns.{firsts, other_name}
 
@@ -37,14 +37,10 @@ any_none : (c : ℕ) (text : List ℕ) → Lacks c text → list_any (λ b. b ==
 any_none c [] h = refl
 any_none c (x ∷ xs) h = rw (is_not x c h.0, any_none c xs h.1) refl
 
-some_length : (name : List ℕ) → name ≢ [] → (length name == 0) ≡ false
-some_length [] ne = absurd (ne refl)
-some_length (b ∷ bs) ne = grind (arith, nat_tests)
-
 name_passes : (name : List ℕ) → IsName name → is_name name ≡ true
 unfolding is_name
 name_passes name one =
-    rw (some_length name one.some, other_name name (codes ".") one.not_here, other_name name (codes "..") one.not_up, any_none 47 name one.no_slash, any_none 0 name one.no_zero) refl
+    rw (some_bytes name one.some, other_name name (codes ".") one.not_here, other_name name (codes "..") one.not_up, any_none 47 name one.no_slash, any_none 0 name one.no_zero) refl
 
 sorted_passes : (names : List (List ℕ)) → IsStrictlySortedBy (slice_cmp nat_cmp) names → are_sorted names ≡ true
 unfolding are_sorted IsStrictlySortedBy

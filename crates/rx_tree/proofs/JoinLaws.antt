@@ -1,5 +1,5 @@
 -- A name on from a path.
-use Rattle.std.proofs.Common.{◌≡◌, ◌∙◌, ℕ, ◌≤◌, ◌≢◌, ◌==◌, false, List, [], ◌∷◌, ◌++◌, length, nat_lt, Ok, append-nil, append_assoc, length-append, refl, ap, arith}
+use Rattle.std.proofs.Common.{◌≡◌, ◌∙◌, ℕ, ◌≤◌, false, List, [], ◌∷◌, ◌++◌, length, nat_lt, Ok, append-nil, append_assoc, length-append, refl, ap, arith}
 use Rattle.std.specs.List.{AllByRecursion}
 use Rattle.std.proofs.lemmas.Bool.Decides.{nat_tests}
 use Rattle.rx_base.specs.Results.{◌>>=◌}
@@ -9,10 +9,7 @@ use Rattle.rx_base.proofs.PathAgain.{parts-joined, read_of-path}
 use Rattle.rx_base.proofs.PathLemmas.{joined_push, with_part_name}
 use Rattle.rx_base.proofs.ResultLemmas.{bind_ok}
 use Rattle.rx_tree.specs.Walks.{child_of}
-
-some_bytes : (bytes : List ℕ) → bytes ≢ [] → (length bytes == 0) ≡ false
-some_bytes [] ne = absurd (ne refl)
-some_bytes (b ∷ bs) ne = grind (arith, nat_tests)
+use Rattle.rx_tree.proofs.NamesLemmas.{some_bytes}
 
 not_longer : (n : ℕ) → n ≤ longest → nat_lt longest n ≡ false
 not_longer n le = grind (arith, nat_tests)

@@ -1,11 +1,16 @@
 -- The names of a path, and of what lies below it.
-use Rattle.std.proofs.Common.{◌≡◌, ◌∙◌, ℕ, ◌==◌, Bool, true, false, nat_eq, List, [], ◌∷◌, ◌++◌, length, cond, refl, ap, sym, subst, append_assoc, arith}
+use Rattle.std.proofs.Common.{◌≡◌, ◌≢◌, ◌∙◌, ℕ, ◌==◌, Bool, true, false, nat_eq, List, [], ◌∷◌, ◌++◌, length, cond, refl, ap, sym, subst, append_assoc, arith}
 use Rattle.std.specs.List.{starts_with, onto_first}
 use Rattle.std.proofs.lemmas.Bool.{and_parts, eqb-true}
 use Rattle.std.proofs.lemmas.Bool.Decides.{nat_tests}
 use Rattle.std.proofs.lemmas.List.Splits.{join_with_byte-slice_split}
 use Rattle.rx_base.specs.Paths.{is_below, joined, parts}
 use Rattle.rx_tree.specs.Entries.{names_of}
+
+-- a text that isn't empty has a byte
+pub some_bytes : (text : List ℕ) → text ≢ [] → (length text == 0) ≡ false
+some_bytes [] ne = absurd (ne refl)
+some_bytes (b ∷ bs) ne = grind (arith, nat_tests)
 
 -- ---- a path is its names
 

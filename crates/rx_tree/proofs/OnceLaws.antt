@@ -26,7 +26,7 @@ use Rattle.rx_tree.specs.Walks.{is_bare}
 use Rattle.rx_tree.proofs.CanonicalLaws.{IsLower}
 use Rattle.rx_tree.proofs.CountLaws.{tally, tally-append, tally-some}
 use Rattle.rx_tree.proofs.ForestLaws.{IsBare, file_of, names_in-from, sub_of}
-use Rattle.rx_tree.proofs.Members.{All-member, All-members, All-on, Contains-head, Contains-later}
+use Rattle.rx_tree.proofs.Members.{All-member, All-members, All-on, Contains-head, Contains-later, sorted_tail}
 use Rattle.rx_tree.proofs.NameOrder.{is_equal}
 use Rattle.rx_tree.proofs.SeenLaws.{bare_path-from, dirs-from, forest_told-from, is_bare-from, path_on}
 use Rattle.rx_tree.proofs.TreeLemmas.{levels-within, tree_of-at, tree_of-names}
@@ -61,11 +61,6 @@ once-permutation key xs ys same once path =
 once_tail : {A : Type 0} (key : A → List ℕ) (x : A) (xs : List A) → IsOnce key (x ∷ xs) → IsOnce key xs
 once_tail key x xs once path = let few = once path in omega arith
 
-sorted_tail : {A : Type 0} (key : A → List ℕ) (x : A) (xs : List A) → IsSorted (by_key key) (x ∷ xs) → IsSorted (by_key key) xs
-sorted_tail key x xs up = λ k d low lt.
-    let same : suc k + 1 ≡ suc (k + 1) = omega arith in
-    subst (λ (n : ℕ). is_lt (by_key key (get_or (x ∷ xs) n d) (get_or xs k d)) ≡ false) same (up (suc k) d (omega arith) (omega arith))
-
 same_twice : {A : Type 0} (key : A → List ℕ) (x y : A) (xs : List A) → IsOnce key (x ∷ xs) → Contains xs y → key x ≡ key y → ⊥
 same_twice key x y xs once c same =
     let few = once (key x) in
@@ -91,7 +86,7 @@ unfolding IsStrictlySortedBy
 strictly_sorted key [] up once = tt
 strictly_sorted key (x ∷ xs) up once = (
   All-members (λ y. by_key key x y ≡ Less) xs (λ y c. above_first key x y xs up once c),
-  strictly_sorted key xs (sorted_tail key x xs up) (once_tail key x xs once),
+  strictly_sorted key xs (sorted_tail (by_key key) x xs up) (once_tail key x xs once),
 )
 
 -- ---- names of a path

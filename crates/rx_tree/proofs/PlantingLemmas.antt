@@ -26,9 +26,6 @@ pub record IsPlanted (all left : List Rest) (files : List FileNode) (directories
   pub blobs_are : start ++ map blob_of (bytes_below (tree_of all)) ≡ blobs ++ map blob_of (bytes_below (tree_of left))
   pub again : ReadsAgainBelow (tree_of left) → ReadsAgainBelow (tree_of all)
 
-pub planted_none : (all : List Rest) (start : List Blob) → IsReady all → IsPlanted all all [] [] start start
-planted_none all start ready = record { ready = ready; fewer = omega arith; files_are = refl; directories_are = refl; blobs_are = refl; again = λ h. h }
-
 -- ---- a run and the others
 
 abbrev pub rest_after : ℕ → Entry → Rest
@@ -278,37 +275,34 @@ module _ (depth : ℕ) (entries rest : List Entry) (at : ℕ) (x : Entry) (rest_
 tree_of-nothing : tree_of [] ≡ End
 tree_of-nothing = tree_of-at 0 [] (omega arith)
 
-pub planted_all : {all : List Rest} (depth at : ℕ) (entries : List Entry) {files : List FileNode} {directories : List DirectoryNode} {start blobs : List Blob}
-    → IsPlanted all (rests depth (drop at entries)) files directories start blobs → length entries ≤ at
-    → (bytes_with files directories ≡ tree_bytes (tree_of all)) × (start ++ map blob_of (bytes_below (tree_of all)) ≡ blobs)
-planted_all {all} depth at entries {files} {directories} {start} {blobs} p le =
-    let gone : drop at entries ≡ [] = drop_all at entries le in
-    let nothing : tree_of (rests depth (drop at entries)) ≡ End = ap (λ (es : List Entry). tree_of (rests depth es)) gone ∙ tree_of-nothing in
-    let f : file_nodes (tree_of all) ≡ files = p.files_are ∙ ap (λ (t : Tree). files ++ file_nodes t) nothing ∙ append-nil files in
-    let d : directory_nodes (tree_of all) ≡ directories = p.directories_are ∙ ap (λ (t : Tree). directories ++ directory_nodes t) nothing ∙ append-nil directories in (
-      sym (ap (λ (ns : List FileNode). bytes_with ns (directory_nodes (tree_of all))) f ∙ ap (λ (ns : List DirectoryNode). bytes_with files ns) d),
-      p.blobs_are ∙ ap (λ (t : Tree). blobs ++ map blob_of (bytes_below t)) nothing ∙ append-nil blobs,
-    )
+left_nothing : (depth at : ℕ) (entries : List Entry) → length entries ≤ at → tree_of (rests depth (drop at entries)) ≡ End
+left_nothing depth at entries le = ap (λ (es : List Entry). tree_of (rests depth es)) (drop_all at entries le) ∙ tree_of-nothing
 
-abbrev directory_with : List FileNode → List DirectoryNode → Directory
-directory_with files directories = record { files = files; directories = directories; symlinks = [] }
+abbrev pub ReadsWith : List FileNode → List DirectoryNode → Type 0
+ReadsWith files directories =
+    let directory : Directory = record { files = files; directories = directories; symlinks = [] } in
+    directory_is_readable directory → read_directory (bytes_with files directories) ≡ Ok directory
 
-abbrev ReadsWith : List FileNode → List DirectoryNode → Type 0
-ReadsWith files directories = directory_is_readable (directory_with files directories) → read_directory (bytes_with files directories) ≡ Ok (directory_with files directories)
+module _ {all : List Rest} (depth at : ℕ) (entries : List Entry) {files : List FileNode} {directories : List DirectoryNode} {start blobs : List Blob}
+    (p : IsPlanted all (rests depth (drop at entries)) files directories start blobs) (le : length entries ≤ at) where
+  files_whole : file_nodes (tree_of all) ≡ files
+  files_whole = p.files_are ∙ ap (λ (t : Tree). files ++ file_nodes t) (left_nothing depth at entries le) ∙ append-nil files
 
--- and each Directory is read again
-pub planted_again : {all : List Rest} (depth at : ℕ) (entries : List Entry) {files : List FileNode} {directories : List DirectoryNode} {start blobs : List Blob}
-    → IsPlanted all (rests depth (drop at entries)) files directories start blobs → length entries ≤ at
-    → (directory_is_readable (directory_with files directories) → read_directory (bytes_with files directories) ≡ Ok (directory_with files directories))
-    → ReadsAgain (tree_of all) × ReadsAgainBelow (tree_of all)
-planted_again {all} depth at entries {files} {directories} {start} {blobs} p le reads =
-    let gone : drop at entries ≡ [] = drop_all at entries le in
-    let nothing : tree_of (rests depth (drop at entries)) ≡ End = ap (λ (es : List Entry). tree_of (rests depth es)) gone ∙ tree_of-nothing in
-    let f : file_nodes (tree_of all) ≡ files = p.files_are ∙ ap (λ (t : Tree). files ++ file_nodes t) nothing ∙ append-nil files in
-    let d : directory_nodes (tree_of all) ≡ directories = p.directories_are ∙ ap (λ (t : Tree). directories ++ directory_nodes t) nothing ∙ append-nil directories in (
-      subst (λ (fs : List FileNode). ReadsWith fs (directory_nodes (tree_of all))) (sym f) (subst (λ (ds : List DirectoryNode). ReadsWith files ds) (sym d) reads),
-      p.again (subst ReadsAgainBelow (sym nothing) tt),
-    )
+  directories_whole : directory_nodes (tree_of all) ≡ directories
+  directories_whole = p.directories_are ∙ ap (λ (t : Tree). directories ++ directory_nodes t) (left_nothing depth at entries le) ∙ append-nil directories
+
+  pub planted_all : (bytes_with files directories ≡ tree_bytes (tree_of all)) × (start ++ map blob_of (bytes_below (tree_of all)) ≡ blobs)
+  planted_all = (
+    sym (ap (λ (ns : List FileNode). bytes_with ns (directory_nodes (tree_of all))) files_whole ∙ ap (λ (ns : List DirectoryNode). bytes_with files ns) directories_whole),
+    p.blobs_are ∙ ap (λ (t : Tree). blobs ++ map blob_of (bytes_below t)) (left_nothing depth at entries le) ∙ append-nil blobs,
+  )
+
+  -- and each Directory is read again
+  pub planted_again : ReadsWith files directories → ReadsAgain (tree_of all) × ReadsAgainBelow (tree_of all)
+  planted_again reads = (
+    subst (λ (fs : List FileNode). ReadsWith fs (directory_nodes (tree_of all))) (sym files_whole) (subst (λ (ds : List DirectoryNode). ReadsWith files ds) (sym directories_whole) reads),
+    p.again (subst ReadsAgainBelow (sym (left_nothing depth at entries le)) tt),
+  )
 
 -- the blob of the directory itself comes last
 pub all_pushed : (start blobs : List Blob) (t : Tree) (bytes : List ℕ) → start ++ map blob_of (bytes_below t) ≡ blobs → bytes ≡ tree_bytes t → blobs ++ blob_of bytes ∷ [] ≡ start ++ map blob_of (all_bytes t)

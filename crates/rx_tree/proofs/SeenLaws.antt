@@ -2,7 +2,6 @@
 use Rattle.std.proofs.Common.{◌≡◌, ◌≢◌, ◌∙◌, ℕ, zero, suc, ◌≤◌, ◌==◌, ◌&&◌, inl, inr, true, false, not, List, [], ◌∷◌, ◌++◌, length, Option, Some, None, cond, append_assoc, refl, sym, ap, subst, arith}
 use Rattle.std.specs.List.{Contains}
 use Rattle.std.proofs.lemmas.Bool.{and_parts, eqb-true}
-use Rattle.std.proofs.lemmas.Bool.Decides.{nat_tests}
 use Rattle.std.proofs.lemmas.List.Elements.{Contains-append_cases, Contains-append_left, Contains-append_right}
 use Rattle.rx_base.specs.Paths.{joined}
 use Rattle.rx_tree.specs.declared.listings.TreeFile.{TreeFile}
@@ -13,6 +12,7 @@ use Rattle.rx_tree.specs.Walks.{is_bare, with_bare}
 use Rattle.rx_tree.proofs.ForestLaws.{HasNoneUnder, IsBare, bare-from, bare-to, file_here_is, file_of, names_in-from, names_in-to, no_file_here, none_under-within, sub_of}
 use Rattle.rx_tree.proofs.ListingLaws.{bare_entry, goes_on, no_names_of, within_more}
 use Rattle.rx_tree.proofs.Members.{Contains-cons_cases, Contains-head, Contains-later, not_in_nothing}
+use Rattle.rx_tree.proofs.NamesLemmas.{some_bytes}
 use Rattle.rx_tree.proofs.TreeLemmas.{levels-within, tree_of-at, tree_of-names}
 use Rattle.rx_tree.proofs.TreeMembers.{HasOneFile, file_alone, file_here-from, on_from, one_file-within, within-from, within-to}
 use Rattle.rx_tree.proofs.TreeWalks.{bare_in, below, file_in, files_in}
@@ -168,9 +168,6 @@ files-from (suc most) rs at f h =
 
 -- ---- directories without entries
 
-bare_is : (t : Tree) → IsBare t → is_bare (directory_of t) ≡ true
-bare_is t bare = rw (bare.0, bare.1) refl
-
 no_items : {A : Type 0} (xs : List A) → (length xs == 0) ≡ true → xs ≡ []
 no_items [] e = refl
 no_items (x ∷ xs) e = let none : length (x ∷ xs) ≡ 0 = eqb-true (length (x ∷ xs)) 0 e in absurd (omega arith)
@@ -189,12 +186,8 @@ bare_path-from path t p h =
       | false ↦ λ e h. absurd (not_in_nothing p h)
     ] refl h
 
-some_length : (path : List ℕ) → path ≢ [] → (length path == 0) ≡ false
-some_length [] ne = absurd (ne refl)
-some_length (b ∷ bs) ne = grind (arith, nat_tests)
-
 bare_path-to : (path : List ℕ) (t : Tree) → path ≢ [] → IsBare t → Contains (with_bare path (directory_of t) []) path
-bare_path-to path t ne bare = rw (some_length path ne, bare.0, bare.1) (Contains-head path [])
+bare_path-to path t ne bare = rw (some_bytes path ne, bare.0, bare.1) (Contains-head path [])
 
 pub dirs-to : (ms : List (List ℕ)) (n : List ℕ) (rs : List Rest) (at : List (List ℕ)) → HasNoneUnder rs → Contains rs (record { names = n ∷ ms; file = None }) → goes_on rs (n ∷ ms) → joined (at ++ n ∷ ms) ≢ []
     → Contains (below bare_in at (tree_of rs)) (joined (at ++ n ∷ ms))

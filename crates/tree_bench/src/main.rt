@@ -38,7 +38,7 @@ fn build_timed(rt: &HostRuntime, files: &[InputFile]) -> Result<Built, Fault> {
     Ok(built)
 }
 
-/// Builds the tree so many times, and tells what the last one is.
+/// Builds the tree so many times, and tells once what it is.
 fn measure(rt: &HostRuntime, count: u32, rounds: u32) -> Result<(), Fault> {
     let files = files_of(rt.alloc(), count)?;
     for round in 0..rounds {
