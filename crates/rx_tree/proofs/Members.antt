@@ -1,11 +1,12 @@
 -- Members of lists, one by one, and sorted lists with a new first item.
-use Rattle.std.proofs.Common.{◌≡◌, ◌∙◌, ℕ, zero, suc, ◌+◌, ◌<◌, ◌⊎◌, inl, inr, List, [], ◌∷◌, ◌++◌, length, get_or, take, drop, refl, sym, ap, subst, arith}
+use Rattle.std.proofs.Common.{◌≡◌, ◌∙◌, ℕ, zero, suc, ◌<◌, ◌⊎◌, inl, inr, List, [], ◌∷◌, ◌++◌, length, get_or, refl, sym, subst, arith, false, ◌+◌}
 use Rattle.std.specs.declared.cmp.Ordering.{Ordering}
 use Rattle.std.specs.declared.cmp.Ordering.TheVariants.{Less}
 use Rattle.std.specs.Cmp.{IsTotalOrder}
+use Rattle.std.specs.Ordering.{is_lt}
 use Rattle.std.specs.FinMap.{IsAntisymmetric}
-use Rattle.std.specs.List.{All, AllByRecursion, Contains}
-use Rattle.std.specs.List.Sorted.{IsStrictlySortedBy}
+use Rattle.std.specs.List.{AllByRecursion, Contains}
+use Rattle.std.specs.List.Sorted.{IsSorted, IsStrictlySortedBy}
 use Rattle.std.proofs.lemmas.List.Elements.{All-contains, All-from_recursion, Contains-append_cases, Contains-append_left, Contains-append_right, Contains-get_or, recursion_from_All}
 use Rattle.rx_base.specs.SortedPaths.{HasSameMembers, sorted_once}
 use Rattle.rx_base.proofs.Orders.{HasSameMembers-sorted_once, IsStrictlySortedBy-sorted_once, is_sorted_once}
@@ -54,6 +55,11 @@ All-weaken P Q [] f h = tt
 All-weaken P Q (x ∷ xs) f h = (f x h.0, All-weaken P Q xs f h.1)
 
 -- ---- sorted lists
+
+pub sorted_tail : {A : Type 0} (R : A → A → Ordering) (x : A) (xs : List A) → IsSorted R (x ∷ xs) → IsSorted R xs
+sorted_tail R x xs up = λ k d low lt.
+    let same : suc k + 1 ≡ suc (k + 1) = omega arith in
+    subst (λ (n : ℕ). is_lt (R (get_or (x ∷ xs) n d) (get_or xs k d)) ≡ false) same (up (suc k) d (omega arith) (omega arith))
 
 module _ {K : Type 0} {R : K → K → Ordering} (o : IsTotalOrder R) (same : IsAntisymmetric R) where
   -- lists with the same members are sorted alike

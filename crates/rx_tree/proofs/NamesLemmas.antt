@@ -1,11 +1,16 @@
 -- The names of a path, and of what lies below it.
-use Rattle.std.proofs.Common.{◌≡◌, ◌∙◌, ℕ, zero, suc, ◌+◌, ◌<◌, ◌≤◌, ◌==◌, ◌≢◌, Bool, true, false, ◌&&◌, nat_eq, nat_lt, List, [], ◌∷◌, ◌++◌, length, cond, refl, ap, sym, subst, append_assoc, arith}
-use Rattle.std.specs.List.{starts_with, onto_first, slice_split}
-use Rattle.std.proofs.lemmas.Bool.{and_parts, eqb-true, eqb-false, cond_both, ltb-true}
+use Rattle.std.proofs.Common.{◌≡◌, ◌≢◌, ◌∙◌, ℕ, ◌==◌, Bool, true, false, nat_eq, List, [], ◌∷◌, ◌++◌, length, cond, refl, ap, sym, subst, append_assoc, arith}
+use Rattle.std.specs.List.{starts_with, onto_first}
+use Rattle.std.proofs.lemmas.Bool.{and_parts, eqb-true}
 use Rattle.std.proofs.lemmas.Bool.Decides.{nat_tests}
 use Rattle.std.proofs.lemmas.List.Splits.{join_with_byte-slice_split}
 use Rattle.rx_base.specs.Paths.{is_below, joined, parts}
 use Rattle.rx_tree.specs.Entries.{names_of}
+
+-- a text that isn't empty has a byte
+pub some_bytes : (text : List ℕ) → text ≢ [] → (length text == 0) ≡ false
+some_bytes [] ne = absurd (ne refl)
+some_bytes (b ∷ bs) ne = grind (arith, nat_tests)
 
 -- ---- a path is its names
 
@@ -30,7 +35,7 @@ onto_first-append : (x : ℕ) (p : List ℕ) (ps qs : List (List ℕ)) → onto_
 onto_first-append x p ps qs = refl
 
 -- a text has a part
-some_part : (text : List ℕ) → (p : List ℕ) × (ps : List (List ℕ)) × (parts text ≡ p ∷ ps)
+pub some_part : (text : List ℕ) → (p : List ℕ) × (ps : List (List ℕ)) × (parts text ≡ p ∷ ps)
 some_part [] = ([], [], refl)
 some_part (x ∷ xs) =
     elim (x == 47) as (λ b. (p : List ℕ) × (ps : List (List ℕ)) × (cond b ([] ∷ parts xs) (onto_first x (parts xs)) ≡ p ∷ ps)) [
@@ -77,7 +82,7 @@ below-names p (c ∷ cs) e =
     let part = some_part rest.0 in
     (part.0, part.1, ap names_of text ∙ parts-slash (c ∷ cs) rest.0 ∙ ap (λ (ps : List (List ℕ)). parts (c ∷ cs) ++ ps) part.2)
 
-joined-append : (x : List ℕ) (xs : List (List ℕ)) (n : List ℕ) (ns : List (List ℕ)) → joined ((x ∷ xs) ++ n ∷ ns) ≡ joined (x ∷ xs) ++ 47 ∷ joined (n ∷ ns)
+pub joined-append : (x : List ℕ) (xs : List (List ℕ)) (n : List ℕ) (ns : List (List ℕ)) → joined ((x ∷ xs) ++ n ∷ ns) ≡ joined (x ∷ xs) ++ 47 ∷ joined (n ∷ ns)
 joined-append x [] n ns = refl
 joined-append x (y ∷ ys) n ns = rw (joined-append y ys n ns) (sym (append_assoc x (47 ∷ joined (y ∷ ys)) (47 ∷ joined (n ∷ ns))))
 

@@ -1,15 +1,18 @@
 -- The Directories of a list of entries, run by run.
-use Rattle.std.proofs.Common.{◌≡◌, ◌∙◌, ℕ, zero, suc, ◌+◌, ◌-◌, ◌<◌, ◌≤◌, Bool, true, false, List, [], ◌∷◌, ◌++◌, Option, Some, None, length, get_or, map, drop, take, cond, max, append-nil, append_assoc, refl, sym, ap, subst, arith}
+use Rattle.std.proofs.Common.{◌≡◌, ◌∙◌, ℕ, suc, ◌+◌, ◌<◌, ◌≤◌, Bool, true, false, List, [], ◌∷◌, ◌++◌, Option, Some, None, Ok, length, get_or, map, drop, take, cond, max, append-nil, append_assoc, refl, sym, ap, subst, arith}
 use Rattle.std.specs.List.{AllByRecursion, prefix_len}
 use Rattle.std.proofs.lemmas.List.{drop-drop, drop_all, length-take-le, map-append, take-append-drop}
 use Rattle.rx_base.specs.Digests.{digest_of}
+use Rattle.rx_messages.specs.Directories.{directory_is_readable}
+use Rattle.rx_messages.specs.declared.directories.Directory.{Directory}
 use Rattle.rx_messages.specs.declared.nodes.FileNode.{FileNode}
 use Rattle.rx_messages.specs.declared.nodes.DirectoryNode.{DirectoryNode}
 use Rattle.rx_tree.specs.declared.blobs.Blob.{Blob}
 use Rattle.rx_tree.specs.Blobs.{blob_of}
 use Rattle.rx_tree.specs.Entries.{Content, Entry, names_of}
-use Rattle.rx_tree.specs.Planting.{Follows, IsReady, goes_alike, run_length}
+use Rattle.rx_tree.specs.Planting.{IsReady, ReadsAgain, ReadsAgainBelow, goes_alike, run_length}
 use Rattle.rx_tree.specs.Trees.{Tree, End, File, Dir, Rest, all_bytes, bytes_below, bytes_with, directory_node, directory_nodes, file_at_end, file_here, file_node, file_nodes, first_name, levels, planted, rests, tree_bytes, tree_of, within}
+use Rattle.rx_tree.specs.Walks.{read_directory}
 use Rattle.rx_tree.proofs.ReadyLemmas.{dir_run, file_run, others_begin, ready-back, ready-front, ready-within, run_begins, some_names}
 use Rattle.rx_tree.proofs.TreeLemmas.{levels-append, levels-within, tree_of-at}
 use Rattle.rx_tree.proofs.TreeRuns.{BeginsWith, same_name, tree_of-here, tree_of-run}
@@ -21,9 +24,7 @@ pub record IsPlanted (all left : List Rest) (files : List FileNode) (directories
   pub files_are : file_nodes (tree_of all) ≡ files ++ file_nodes (tree_of left)
   pub directories_are : directory_nodes (tree_of all) ≡ directories ++ directory_nodes (tree_of left)
   pub blobs_are : start ++ map blob_of (bytes_below (tree_of all)) ≡ blobs ++ map blob_of (bytes_below (tree_of left))
-
-pub planted_none : (all : List Rest) (start : List Blob) → IsReady all → IsPlanted all all [] [] start start
-planted_none all start ready = record { ready = ready; fewer = omega arith; files_are = refl; directories_are = refl; blobs_are = refl }
+  pub again : ReadsAgainBelow (tree_of left) → ReadsAgainBelow (tree_of all)
 
 -- ---- a run and the others
 
@@ -94,8 +95,8 @@ cut_at depth x (y ∷ ys) some is = subst (λ (z : Entry). IsCut depth x (z ∷ 
 planted_on : {all left next : List Rest} {files more_files : List FileNode} {directories more_directories : List DirectoryNode} {start blobs more_blobs : List Blob}
     → IsPlanted all left files directories start blobs → (f : List FileNode) (d : List DirectoryNode) (b : List (List ℕ)) → IsReady next → levels next ≤ levels left
     → file_nodes (tree_of left) ≡ f ++ file_nodes (tree_of next) → directory_nodes (tree_of left) ≡ d ++ directory_nodes (tree_of next) → bytes_below (tree_of left) ≡ b ++ bytes_below (tree_of next)
-    → more_files ≡ files ++ f → more_directories ≡ directories ++ d → more_blobs ≡ blobs ++ map blob_of b → IsPlanted all next more_files more_directories start more_blobs
-planted_on {all} {left} {next} {files} {more_files} {directories} {more_directories} {start} {blobs} {more_blobs} p f d b ready fewer ff dd bb fs ds bs = record {
+    → (ReadsAgainBelow (tree_of next) → ReadsAgainBelow (tree_of left)) → more_files ≡ files ++ f → more_directories ≡ directories ++ d → more_blobs ≡ blobs ++ map blob_of b → IsPlanted all next more_files more_directories start more_blobs
+planted_on {all} {left} {next} {files} {more_files} {directories} {more_directories} {start} {blobs} {more_blobs} p f d b ready fewer ff dd bb again fs ds bs = record {
   ready = ready;
   fewer = let le : levels left ≤ levels all = p.fewer in omega arith;
   files_are = p.files_are ∙ ap (λ (ns : List FileNode). files ++ ns) ff ∙ sym (append_assoc files f (file_nodes (tree_of next))) ∙ ap (λ (ns : List FileNode). ns ++ file_nodes (tree_of next)) (sym fs);
@@ -103,6 +104,7 @@ planted_on {all} {left} {next} {files} {more_files} {directories} {more_director
       ∙ ap (λ (ns : List DirectoryNode). ns ++ directory_nodes (tree_of next)) (sym ds);
   blobs_are = p.blobs_are ∙ ap (λ (ns : List (List ℕ)). blobs ++ map blob_of ns) bb ∙ ap (λ (ns : List Blob). blobs ++ ns) (map-append blob_of b (bytes_below (tree_of next)))
       ∙ sym (append_assoc blobs (map blob_of b) (map blob_of (bytes_below (tree_of next)))) ∙ ap (λ (ns : List Blob). ns ++ map blob_of (bytes_below (tree_of next))) (sym bs);
+  again = λ h. p.again (again h);
 }
 
 -- the same tree is left
@@ -114,6 +116,7 @@ planted_same {all} {left} {next} p ready fewer e = record {
   files_are = rw (← e) p.files_are;
   directories_are = rw (← e) p.directories_are;
   blobs_are = rw (← e) p.blobs_are;
+  again = λ h. p.again (subst ReadsAgainBelow (sym e) h);
 }
 
 -- ---- one run, as the entries go on
@@ -228,14 +231,15 @@ module _ (depth : ℕ) (entries rest : List Entry) (at : ℕ) (x : Entry) (rest_
       let is : tree_of (rests depth rest) ≡ File name content others =
       tree_named c name first q.ready ∙ ap (λ (f : Option Content). planted name f sub others) (file_run name (drop (depth + 1) (names_of x.path)) content (rest_after depth x) (rests depth c.run) (names_on name first) file) in
       subst (λ (es : List Entry). IsPlanted (rests depth entries) (rests depth es) (files ++ file_node name content ∷ []) directories start blobs) (next_is c n e)
-      (planted_on q (file_node name content ∷ []) [] [] (ready_others c q.ready) (levels_fewer c) (ap file_nodes is) (ap directory_nodes is) (ap bytes_below is) refl (sym (append-nil directories)) (sym (append-nil blobs)))
+      (planted_on q (file_node name content ∷ []) [] [] (ready_others c q.ready) (levels_fewer c) (ap file_nodes is) (ap directory_nodes is) (ap bytes_below is)
+      (λ h. subst ReadsAgainBelow (sym is) h) refl (sym (append-nil directories)) (sym (append-nil blobs)))
 
   pub next_directory : (n : ℕ) → n ≡ run_length depth x rest → {files : List FileNode} {directories : List DirectoryNode} {start blobs more : List Blob}
       → IsPlanted (rests depth entries) (rests depth (drop at entries)) files directories start blobs → (name : List ℕ) → first_name (drop depth (names_of x.path)) ≡ name ∷ []
       → file_at_end (drop (depth + 1) (names_of x.path)) x.file ≡ None → (run : List Entry) → run ≡ take (run_length depth x rest) rest
-      → more ≡ blobs ++ map blob_of (all_bytes (tree_of (rests (depth + 1) run)))
+      → more ≡ blobs ++ map blob_of (all_bytes (tree_of (rests (depth + 1) run))) → ReadsAgain (tree_of (rests (depth + 1) run)) × ReadsAgainBelow (tree_of (rests (depth + 1) run))
       → IsPlanted (rests depth entries) (rests depth (drop (at + n) entries)) files (directories ++ directory_node name (digest_of (tree_bytes (tree_of (rests (depth + 1) run)))) ∷ []) start more
-  next_directory n e {files} {directories} {start} {blobs} {more} p name first file taken run_is more_is =
+  next_directory n e {files} {directories} {start} {blobs} {more} p name first file taken run_is more_is reads =
       let c = cut_at depth x rest some x_is in
       let q : IsPlanted (rests depth entries) (rests depth rest) files directories start blobs = rw rest_is p in
       let run = rest_after depth x ∷ rests depth c.run in
@@ -247,7 +251,8 @@ module _ (depth : ℕ) (entries rest : List Entry) (at : ℕ) (x : Entry) (rest_
       let down : tree_of (rests (depth + 1) taken) ≡ sub = ap (λ (es : List Entry). tree_of (rests (depth + 1) es)) (run_is ∙ c.taken) ∙ ap tree_of (rests_down depth name (x ∷ c.run) (run_named c name first)) in
       subst (λ (es : List Entry). IsPlanted (rests depth entries) (rests depth es) files (directories ++ directory_node name (digest_of (tree_bytes (tree_of (rests (depth + 1) taken)))) ∷ []) start more) (next_is c n e)
       (planted_on q [] (directory_node name (digest_of (tree_bytes (tree_of (rests (depth + 1) taken)))) ∷ []) (all_bytes sub) (ready_others c q.ready) (levels_fewer c) (ap file_nodes is)
-      (rw down (ap directory_nodes is)) (ap bytes_below is ∙ sym (append_assoc (bytes_below sub) (tree_bytes sub ∷ []) (bytes_below others))) (sym (append-nil files)) refl (rw (← down) more_is))
+      (rw down (ap directory_nodes is)) (ap bytes_below is ∙ sym (append_assoc (bytes_below sub) (tree_bytes sub ∷ []) (bytes_below others)))
+      (λ h. subst ReadsAgainBelow (sym is) (subst ReadsAgain down reads.0, subst ReadsAgainBelow down reads.1, h)) (sym (append-nil files)) refl (rw (← down) more_is))
 
   -- the run itself, one level down
   pub down_ready : {files : List FileNode} {directories : List DirectoryNode} {start blobs : List Blob} → IsPlanted (rests depth entries) (rests depth (drop at entries)) files directories start blobs
@@ -270,17 +275,34 @@ module _ (depth : ℕ) (entries rest : List Entry) (at : ℕ) (x : Entry) (rest_
 tree_of-nothing : tree_of [] ≡ End
 tree_of-nothing = tree_of-at 0 [] (omega arith)
 
-pub planted_all : {all : List Rest} (depth at : ℕ) (entries : List Entry) {files : List FileNode} {directories : List DirectoryNode} {start blobs : List Blob}
-    → IsPlanted all (rests depth (drop at entries)) files directories start blobs → length entries ≤ at
-    → (bytes_with files directories ≡ tree_bytes (tree_of all)) × (start ++ map blob_of (bytes_below (tree_of all)) ≡ blobs)
-planted_all {all} depth at entries {files} {directories} {start} {blobs} p le =
-    let gone : drop at entries ≡ [] = drop_all at entries le in
-    let nothing : tree_of (rests depth (drop at entries)) ≡ End = ap (λ (es : List Entry). tree_of (rests depth es)) gone ∙ tree_of-nothing in
-    let f : file_nodes (tree_of all) ≡ files = p.files_are ∙ ap (λ (t : Tree). files ++ file_nodes t) nothing ∙ append-nil files in
-    let d : directory_nodes (tree_of all) ≡ directories = p.directories_are ∙ ap (λ (t : Tree). directories ++ directory_nodes t) nothing ∙ append-nil directories in (
-      sym (ap (λ (ns : List FileNode). bytes_with ns (directory_nodes (tree_of all))) f ∙ ap (λ (ns : List DirectoryNode). bytes_with files ns) d),
-      p.blobs_are ∙ ap (λ (t : Tree). blobs ++ map blob_of (bytes_below t)) nothing ∙ append-nil blobs,
-    )
+left_nothing : (depth at : ℕ) (entries : List Entry) → length entries ≤ at → tree_of (rests depth (drop at entries)) ≡ End
+left_nothing depth at entries le = ap (λ (es : List Entry). tree_of (rests depth es)) (drop_all at entries le) ∙ tree_of-nothing
+
+abbrev pub ReadsWith : List FileNode → List DirectoryNode → Type 0
+ReadsWith files directories =
+    let directory : Directory = record { files = files; directories = directories; symlinks = [] } in
+    directory_is_readable directory → read_directory (bytes_with files directories) ≡ Ok directory
+
+module _ {all : List Rest} (depth at : ℕ) (entries : List Entry) {files : List FileNode} {directories : List DirectoryNode} {start blobs : List Blob}
+    (p : IsPlanted all (rests depth (drop at entries)) files directories start blobs) (le : length entries ≤ at) where
+  files_whole : file_nodes (tree_of all) ≡ files
+  files_whole = p.files_are ∙ ap (λ (t : Tree). files ++ file_nodes t) (left_nothing depth at entries le) ∙ append-nil files
+
+  directories_whole : directory_nodes (tree_of all) ≡ directories
+  directories_whole = p.directories_are ∙ ap (λ (t : Tree). directories ++ directory_nodes t) (left_nothing depth at entries le) ∙ append-nil directories
+
+  pub planted_all : (bytes_with files directories ≡ tree_bytes (tree_of all)) × (start ++ map blob_of (bytes_below (tree_of all)) ≡ blobs)
+  planted_all = (
+    sym (ap (λ (ns : List FileNode). bytes_with ns (directory_nodes (tree_of all))) files_whole ∙ ap (λ (ns : List DirectoryNode). bytes_with files ns) directories_whole),
+    p.blobs_are ∙ ap (λ (t : Tree). blobs ++ map blob_of (bytes_below t)) (left_nothing depth at entries le) ∙ append-nil blobs,
+  )
+
+  -- and each Directory is read again
+  pub planted_again : ReadsWith files directories → ReadsAgain (tree_of all) × ReadsAgainBelow (tree_of all)
+  planted_again reads = (
+    subst (λ (fs : List FileNode). ReadsWith fs (directory_nodes (tree_of all))) (sym files_whole) (subst (λ (ds : List DirectoryNode). ReadsWith files ds) (sym directories_whole) reads),
+    p.again (subst ReadsAgainBelow (sym (left_nothing depth at entries le)) tt),
+  )
 
 -- the blob of the directory itself comes last
 pub all_pushed : (start blobs : List Blob) (t : Tree) (bytes : List ℕ) → start ++ map blob_of (bytes_below t) ≡ blobs → bytes ≡ tree_bytes t → blobs ++ blob_of bytes ∷ [] ≡ start ++ map blob_of (all_bytes t)

@@ -1,11 +1,10 @@
 -- Entries that are in order and apart, from one directory down to the next.
-use Rattle.std.proofs.Common.{◌≡◌, ◌≢◌, ◌∙◌, ℕ, zero, suc, ◌+◌, ◌<◌, ◌≤◌, ◌⊎◌, inl, inr, Bool, true, false, List, [], ◌∷◌, ◌++◌, Option, Some, None, cond, length, drop, take, append-nil, refl, sym, ap, subst, arith}
+use Rattle.std.proofs.Common.{◌≡◌, ◌∙◌, ℕ, ◌⊎◌, inl, inr, true, false, List, [], ◌∷◌, ◌++◌, Option, Some, None, cond, refl, sym, ap, subst}
 use Rattle.std.specs.Prelude.{IsSome}
-use Rattle.std.specs.declared.cmp.Ordering.{Ordering}
 use Rattle.std.specs.declared.cmp.Ordering.TheVariants.{Less, Equal, Greater}
 use Rattle.std.specs.Ordering.{is_lt, nat_cmp, ordering_reverse, ordering_then}
 use Rattle.std.specs.Cmp.Lexicographic.{slice_cmp}
-use Rattle.std.specs.List.{AllByRecursion, Contains}
+use Rattle.std.specs.List.{AllByRecursion}
 use Rattle.std.specs.Str.{bytes_eq}
 use Rattle.std.proofs.lemmas.Bool.{false≢true}
 use Rattle.std.proofs.lemmas.Cmp.{nat_list_cmp_total, tied_itself}
@@ -13,7 +12,7 @@ use Rattle.std.proofs.lemmas.Slice.Eq.{bytes_eq-Decides}
 use Rattle.rx_tree.specs.Entries.{Content}
 use Rattle.rx_tree.specs.Places.{by_names}
 use Rattle.rx_tree.specs.Planting.{Follows, IsReady, goes_alike}
-use Rattle.rx_tree.specs.Trees.{Rest, after, file_at_end, file_here, first_name, or_file, within}
+use Rattle.rx_tree.specs.Trees.{Rest, after, file_at_end, file_here, first_name, within}
 use Rattle.rx_tree.proofs.Members.{All-back, All-front, All-members, All-weaken, All-member, Contains-cons_cases}
 use Rattle.rx_tree.proofs.NameOrder.{by_names-on, is_equal}
 use Rattle.rx_tree.proofs.TreeMembers.{file_alone, file_here-from, on_from, within-from}

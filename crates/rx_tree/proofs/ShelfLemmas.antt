@@ -1,15 +1,15 @@
 -- Blobs that are looked up by their digests.
-use Rattle.std.proofs.Common.{◌≡◌, ◌≢◌, ◌∙◌, ℕ, zero, suc, ◌+◌, ◌<◌, ◌≤◌, ◌⊎◌, inl, inr, Bool, true, false, List, [], ◌∷◌, Option, Some, None, cond, length, get_or, map, refl, sym, ap, subst, arith}
+use Rattle.std.proofs.Common.{◌≡◌, ◌∙◌, ℕ, zero, suc, ◌<◌, ◌≤◌, inl, inr, Bool, true, false, List, [], ◌∷◌, Some, None, cond, length, get_or, map, refl, sym, ap, subst, arith}
 use Rattle.std.specs.Prelude.{slice_get}
 use Rattle.std.specs.Borrow.{Bor}
 use Rattle.std.specs.declared.cmp.Ordering.{Ordering}
 use Rattle.std.specs.declared.cmp.Ordering.TheVariants.{Less, Equal, Greater}
-use Rattle.std.specs.Ordering.{is_eq, is_lt, nat_cmp, ordering_reverse, ordering_then}
+use Rattle.std.specs.Ordering.{is_eq, is_lt, nat_cmp, ordering_reverse}
 use Rattle.std.specs.Cmp.{IsTotalOrder}
 use Rattle.std.specs.Cmp.Lexicographic.{slice_cmp}
 use Rattle.std.specs.FinMap.{nat_cmp-IsAntisymmetric, slice_cmp-IsAntisymmetric}
 use Rattle.std.specs.List.{Contains, filter}
-use Rattle.std.specs.List.Sorted.{IsPartitionedBy, IsPartitionPoint, IsPermutation, IsSorted, IsStrictlySortedBy}
+use Rattle.std.specs.List.Sorted.{IsPartitionedBy, IsPartitionPoint, IsStrictlySortedBy}
 use Rattle.std.proofs.lemmas.Bool.{cases_lt, false≢true}
 use Rattle.std.proofs.lemmas.Cmp.{nat_list_cmp_total, tied_itself}
 use Rattle.std.proofs.lemmas.List.{get_or_default, length-map}
@@ -74,7 +74,7 @@ first_sorted : (ps : List (List ℕ)) (x : List ℕ) → IsStrictlySortedBy (sli
 first_sorted [] x s c h = absurd (not_in_nothing x c)
 first_sorted (p ∷ ps) x s c h = ap (λ (y : List ℕ). Some y) (first_of p ps x s c (h p (Contains-head p ps)))
 
-least_first : (xs : List (List ℕ)) (x : List ℕ) → Contains xs x → ((y : List ℕ) → Contains xs y → is_lt (by_bytes y x) ≡ false) → slice_get (sorted_paths xs) 0 ≡ Some x
+pub least_first : (xs : List (List ℕ)) (x : List ℕ) → Contains xs x → ((y : List ℕ) → Contains xs y → is_lt (by_bytes y x) ≡ false) → slice_get (sorted_paths xs) 0 ≡ Some x
 least_first xs x c h =
     let members = HasSameMembers-sorted_once nat_list_cmp_total (slice_cmp-IsAntisymmetric nat_cmp-IsAntisymmetric) xs in
     first_sorted (sorted_paths xs) x (IsStrictlySortedBy-sorted_once nat_list_cmp_total (slice_cmp-IsAntisymmetric nat_cmp-IsAntisymmetric) xs) ((members x).0 c) (λ y d. h y ((members y).1 d))

@@ -1,27 +1,26 @@
 -- A list of paths that has a tree, as its tree is built.
-use Rattle.std.proofs.Common.{◌≡◌, ◌∙◌, ℕ, zero, suc, ◌+◌, ◌<◌, ◌≤◌, ◌⊎◌, inl, inr, Bool, true, false, ◌&&◌, List, [], ◌∷◌, ◌++◌, Option, Some, None, length, get_or, map, append-nil, refl, sym, ap, subst, arith}
-use Rattle.std.specs.Prelude.{IsSome, is_some, is_none}
+use Rattle.std.proofs.Common.{◌≡◌, ◌∙◌, ℕ, zero, suc, ◌<◌, inl, inr, Bool, true, false, List, [], ◌∷◌, length, get_or, map, append-nil, refl, sym, ap, subst, arith}
+use Rattle.std.specs.Prelude.{is_some, is_none}
 use Rattle.std.specs.Ordering.{bool_cmp, is_lt}
-use Rattle.std.specs.List.{AllByRecursion, Contains, count_by}
+use Rattle.std.specs.List.{Contains, count_by}
 use Rattle.std.specs.List.Sorted.{IsPermutation, IsSorted}
 use Rattle.std.specs.Str.{bytes_eq}
 use Rattle.std.proofs.lemmas.Bool.{cases_lt}
 use Rattle.std.proofs.lemmas.List.{get_or_default}
 use Rattle.std.proofs.lemmas.List.Sorted.{Contains-permutation, IsPermutation-map, IsPermutation-sym, ranks_by, sorted_far}
-use Rattle.rx_base.specs.SortedPaths.{HasSameMembers}
 use Rattle.rx_tree.specs.Entries.{Entry, names_of}
 use Rattle.rx_tree.specs.Places.{by_names, by_place, by_place_total}
 use Rattle.rx_tree.specs.Planting.{Follows, IsReady}
-use Rattle.rx_tree.specs.Refusals.{IsApart, IsClash, IsTwice, is_file_at, is_same_file, is_under}
+use Rattle.rx_tree.specs.Refusals.{IsApart, IsTwice, is_file_at, is_same_file}
 use Rattle.rx_tree.specs.Trees.{Rest, rests, tree, tree_of}
-use Rattle.rx_tree.proofs.Members.{All-members, Contains-cons_cases, Contains-head, Contains-later, not_in_nothing}
+use Rattle.rx_tree.proofs.Members.{All-members, Contains-cons_cases, Contains-head, Contains-later, not_in_nothing, sorted_tail}
 use Rattle.rx_tree.proofs.NameOrder.{not_less_then}
 use Rattle.rx_tree.proofs.NamesLemmas.{names_of-same}
-use Rattle.rx_tree.proofs.Neighbours.{both, counted, is_path, same_file-parts, same_or_under, same_path, some_count}
+use Rattle.rx_tree.proofs.Neighbours.{both, counted, is_path, same_file-parts, same_or_under, some_count}
 use Rattle.rx_tree.proofs.RefusalLemmas.{clash-entries, twice-entries}
 use Rattle.rx_tree.proofs.TreeMembers.{HasOneFile, tree_of-members}
 
-abbrev rest_of : Entry → Rest
+abbrev pub rest_of : Entry → Rest
 rest_of entry = record { names = names_of entry.path; file = entry.file }
 
 -- ---- members
@@ -62,11 +61,6 @@ apart_tail x xs h = record {
   });
 }
 
-sorted_tail : (x : Entry) (xs : List Entry) → IsSorted by_place (x ∷ xs) → IsSorted by_place xs
-sorted_tail x xs up = λ k d low lt.
-    let same : suc k + 1 ≡ suc (k + 1) = omega arith in
-    subst (λ (n : ℕ). is_lt (by_place (get_or (x ∷ xs) n d) (get_or xs k d)) ≡ false) same (up (suc k) d (omega arith) (omega arith))
-
 follows : (x : Entry) (xs : List Entry) (y : Entry) → IsSorted by_place (x ∷ xs) → IsApart (x ∷ xs) → Contains xs y → Follows (rest_of x) (rest_of y)
 follows x xs y up h c = record {
   later =
@@ -106,7 +100,7 @@ ready_of [] up h = tt
 ready_of (x ∷ xs) up h = (
   All-members (Follows (rest_of x)) (rests 0 xs)
       (λ q c. let from = map-from rest_of xs q c in subst (λ (r : Rest). Follows (rest_of x) r) from.2 (follows x xs from.0 up h from.1)),
-  ready_of xs (sorted_tail x xs up) (apart_tail x xs h),
+  ready_of xs (sorted_tail by_place x xs up) (apart_tail x xs h),
 )
 
 -- ---- one file for each path
@@ -135,7 +129,7 @@ same_entry xs p once x y c d e f =
           ]
     ]
 
-one_file : (xs : List Entry) → IsApart xs → HasOneFile (rests 0 xs)
+pub one_file : (xs : List Entry) → IsApart xs → HasOneFile (rests 0 xs)
 one_file xs h a b c d e f g =
     let x = map-from rest_of xs a c in
     let y = map-from rest_of xs b d in

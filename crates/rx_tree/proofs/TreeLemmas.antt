@@ -1,12 +1,9 @@
 -- The tree of a list of paths: name by name, and for each order of the list.
-use Rattle.std.proofs.Common.{◌≡◌, ◌∙◌, ℕ, zero, suc, ◌+◌, ◌-◌, ◌<◌, ◌≤◌, ◌⊎◌, inl, inr, Bool, true, false, List, [], ◌∷◌, ◌++◌, Option, Some, None, cond, length, map, max, refl, sym, ap, subst, arith}
-use Rattle.std.specs.declared.cmp.Ordering.TheVariants.{Less, Equal, Greater}
-use Rattle.std.specs.Ordering.{nat_cmp}
-use Rattle.std.specs.Cmp.Lexicographic.{slice_cmp}
+use Rattle.std.proofs.Common.{◌≡◌, ◌∙◌, ℕ, zero, suc, ◌-◌, ◌≤◌, true, false, List, [], ◌∷◌, ◌++◌, Option, cond, length, max, refl, sym, ap, arith}
 use Rattle.std.specs.List.{flat_map}
 use Rattle.std.specs.Str.{bytes_eq}
-use Rattle.rx_tree.specs.Entries.{Content, Entry}
-use Rattle.rx_tree.specs.Trees.{Tree, End, File, Dir, Rest, after, file_at_end, file_here, first_name, forest, levels, names_in, or_file, planted, tree_at, tree_of, within}
+use Rattle.rx_tree.specs.Entries.{Content}
+use Rattle.rx_tree.specs.Trees.{Tree, End, Rest, after, file_here, first_name, forest, levels, names_in, planted, tree_at, tree_of, within}
 
 -- ---- as many levels as there are names
 

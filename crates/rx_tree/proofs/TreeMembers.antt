@@ -1,17 +1,15 @@
 -- The tree of a list of paths is that of its members, whatever their order.
-use Rattle.std.proofs.Common.{◌≡◌, ◌∙◌, ℕ, zero, suc, ◌<◌, ◌≤◌, ◌⊎◌, inl, inr, Bool, true, false, List, [], ◌∷◌, ◌++◌, Option, Some, None, cond, length, max, refl, sym, ap, subst, arith}
+use Rattle.std.proofs.Common.{◌≡◌, ◌∙◌, ℕ, zero, suc, inl, inr, true, false, List, [], ◌∷◌, Option, Some, None, cond, max, refl, sym, ap, subst, arith}
 use Rattle.std.specs.Prelude.{IsSome}
-use Rattle.std.specs.Ordering.{nat_cmp}
 use Rattle.std.specs.FinMap.{nat_cmp-IsAntisymmetric, slice_cmp-IsAntisymmetric}
-use Rattle.std.specs.Cmp.Lexicographic.{slice_cmp}
-use Rattle.std.specs.List.{Contains, flat_map}
+use Rattle.std.specs.List.{Contains}
 use Rattle.std.specs.Str.{bytes_eq}
 use Rattle.std.proofs.lemmas.Cmp.{nat_list_cmp_total}
 use Rattle.std.proofs.lemmas.List.Elements.{Contains-append_cases, Contains-append_left, Contains-append_right}
 use Rattle.std.proofs.lemmas.Slice.Eq.{bytes_eq-Decides}
-use Rattle.rx_base.specs.SortedPaths.{HasSameMembers, sorted_paths}
+use Rattle.rx_base.specs.SortedPaths.{HasSameMembers}
 use Rattle.rx_tree.specs.Entries.{Content}
-use Rattle.rx_tree.specs.Trees.{Tree, Rest, after, file_at_end, file_here, first_name, forest, levels, names_in, or_file, tree_at, tree_of, within}
+use Rattle.rx_tree.specs.Trees.{Rest, after, file_at_end, file_here, first_name, forest, levels, names_in, or_file, tree_at, tree_of, within}
 use Rattle.rx_tree.proofs.Members.{All-members, Contains-cons_cases, Contains-head, Contains-later, not_in_nothing, sorted_alike}
 use Rattle.rx_tree.proofs.TreeLemmas.{tree_of-at}
 use Rattle.rx_tree.proofs.TreeRuns.{forest-agree, firsts, same_name}
@@ -121,7 +119,7 @@ file_here-from (r ∷ rs) content e =
       | Some c ↦ λ is e. subst (λ (x : Rest). Contains (r ∷ rs) x) (at_end r r.names content refl (is ∙ e)) (Contains-head r rs)
     ] refl e
 
-file_here-none : (rs : List Rest) (content : Content) → file_here rs ≡ None → Contains rs (file_alone content) → ⊥
+pub file_here-none : (rs : List Rest) (content : Content) → file_here rs ≡ None → Contains rs (file_alone content) → ⊥
 file_here-none [] content e c = not_in_nothing (file_alone content) c
 file_here-none (r ∷ rs) content e c =
     elim (file_at_end r.names r.file) as (λ o. file_at_end r.names r.file ≡ o → or_file o (file_here rs) ≡ None → ⊥) [

@@ -1,6 +1,6 @@
 -- The tree of a list of paths, run by run: the entries of one name, and the others after it.
-use Rattle.std.proofs.Common.{◌≡◌, ◌≢◌, ◌∙◌, ℕ, zero, suc, ◌+◌, ◌-◌, ◌<◌, ◌≤◌, ◌⊎◌, inl, inr, Bool, true, false, List, [], ◌∷◌, ◌++◌, Option, Some, None, cond, length, append-nil, refl, sym, ap, subst, arith}
-use Rattle.std.specs.declared.cmp.Ordering.TheVariants.{Less, Equal, Greater}
+use Rattle.std.proofs.Common.{◌≡◌, ◌≢◌, ◌∙◌, ℕ, Bool, true, false, List, [], ◌∷◌, ◌++◌, Option, append-nil, refl, sym, ap}
+use Rattle.std.specs.declared.cmp.Ordering.TheVariants.{Less}
 use Rattle.std.specs.Ordering.{nat_cmp}
 use Rattle.std.specs.FinMap.{nat_cmp-IsAntisymmetric, slice_cmp-IsAntisymmetric}
 use Rattle.std.specs.Cmp.Lexicographic.{slice_cmp}
@@ -11,7 +11,7 @@ use Rattle.std.proofs.lemmas.Grind.{flat_map-append}
 use Rattle.std.proofs.lemmas.Slice.Eq.{bytes_eq-Decides}
 use Rattle.rx_base.proofs.Orders.{HasSameMembers-sorted_once}
 use Rattle.rx_tree.specs.Entries.{Content}
-use Rattle.rx_tree.specs.Trees.{Tree, End, File, Dir, Rest, after, file_at_end, file_here, first_name, forest, names_in, planted, tree_of, within}
+use Rattle.rx_tree.specs.Trees.{Tree, Rest, after, file_here, first_name, forest, names_in, planted, tree_of, within}
 use Rattle.rx_tree.proofs.Members.{All-both_members, All-members, All-weaken, Contains-head, sorted_first}
 use Rattle.rx_tree.proofs.TreeLemmas.{tree_of-names}
 

@@ -1,5 +1,6 @@
 pub mod Blobs
 pub mod Entries
+pub mod Listings
 pub mod Lists
 pub mod Places
 pub mod Planting

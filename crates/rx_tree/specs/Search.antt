@@ -5,7 +5,9 @@ use Rattle.std.specs.declared.cmp.Ordering.{Ordering}
 use Rattle.std.specs.List.{slice_index_or}
 use Rattle.std.specs.Ordering.{is_le}
 use Rattle.rx_tree.specs.Entries.{Entry}
-use Rattle.rx_tree.specs.Refusals.{IsLeast, by_bytes, stands_under}
+use Rattle.rx_tree.specs.declared.refusals.Conflict.{Conflict}
+use Rattle.rx_tree.specs.declared.refusals.Conflict.TheVariants.{SameFile, Under}
+use Rattle.rx_tree.specs.Refusals.{IsLeast, by_bytes, is_same_file, is_under, stands_under}
 
 -- the path that a reference points to
 abbrev pub place : Option (Bor (List ℕ)) → Option (List ℕ)
@@ -20,6 +22,11 @@ IsLeastOr {K} compare Fact (Some least) = IsLeast compare Fact least
 abbrev pub lesser_of : Option (List ℕ) → List ℕ → List ℕ
 lesser_of None path = path
 lesser_of (Some other) path = if is_le (by_bytes other path) then other else path
+
+-- whether two entries are in this conflict
+abbrev pub is_conflict : Conflict → Entry → Entry → Bool
+is_conflict SameFile first second = is_same_file first second
+is_conflict Under first second = is_under first second
 
 -- among the first entries, so many, two neighbours pass the test, the first of which has the path
 pub record HasNeighbours (test : Entry → Entry → Bool) (entries : List Entry) (count : ℕ) (path : List ℕ) : Type 0 where

@@ -1,5 +1,5 @@
 -- The tree of a list of paths, by recursion on the list, and its Directory messages (remote_execution.proto, Directory).
-use Rattle.std.specs.Prelude.{ℕ, zero, suc, Bool, List, [], ◌∷◌, ◌++◌, length, map, max, Option, Some, None, drop, if◌then◌else◌}
+use Rattle.std.specs.Prelude.{ℕ, zero, suc, List, [], ◌∷◌, ◌++◌, length, map, max, Option, Some, None, drop, if◌then◌else◌}
 use Rattle.std.specs.List.{flat_map}
 use Rattle.std.specs.Str.{bytes_eq}
 use Rattle.rx_base.specs.Digests.{digest_of}
@@ -8,7 +8,6 @@ use Rattle.rx_base.specs.declared.digests.Digest.{Digest}
 use Rattle.rx_messages.specs.Directories.{directory_bytes}
 use Rattle.rx_messages.specs.declared.nodes.FileNode.{FileNode}
 use Rattle.rx_messages.specs.declared.nodes.DirectoryNode.{DirectoryNode}
-use Rattle.rx_messages.specs.declared.directories.Directory.{Directory}
 use Rattle.rx_tree.specs.Entries.{Content, Entry, names_of}
 
 -- ---- a tree

@@ -1,5 +1,5 @@
 -- What blobs say of a tree: a walk from a digest down.
-use Rattle.std.specs.Prelude.{ℕ, zero, suc, ◌+◌, ◌==◌, ◌&&◌, ◌||◌, not, Bool, List, [], ◌∷◌, ◌++◌, length, nat_le, nat_lt, Option, Some, None, Result, Ok, Err, if◌then◌else◌}
+use Rattle.std.specs.Prelude.{ℕ, zero, suc, ◌+◌, ◌==◌, ◌&&◌, not, Bool, List, [], ◌∷◌, ◌++◌, length, nat_le, nat_lt, Option, Some, None, Result, Ok, Err, if◌then◌else◌}
 use Rattle.rx_base.specs.declared.digests.Digest.{Digest}
 use Rattle.rx_base.specs.declared.path_fault.PathFault.{PathFault}
 use Rattle.rx_base.specs.Paths.{join_of}

@@ -4,7 +4,7 @@ ghost use Rattle.std.specs.Prelude.{◌≡◌, ◌++◌, IfOk, OnOk, map};
 ghost use Rattle.rx_base.specs.Digests.{digest_of};
 ghost use Rattle.rx_tree.specs.Blobs.{blob_of};
 ghost use Rattle.rx_tree.specs.Entries.{content_of};
-ghost use Rattle.rx_tree.specs.Planting.{IsReady, run_length};
+ghost use Rattle.rx_tree.specs.Planting.{IsReady, ReadsAgain, ReadsAgainBelow, run_length};
 ghost use Rattle.rx_tree.specs.Trees.{all_bytes, directory_node, file_node, rests, tree_bytes, tree_of};
 
 use crate::blobs::Blob;
@@ -35,6 +35,7 @@ pub(crate) fn add_directories(
     requires { IsReady (rests depth entries.now) }
     ensures root { IfOk result (λ digest. digest ≡ digest_of (tree_bytes (tree_of (rests depth entries.now)))) }
     ensures blobs { OnOk result (blobs.new.items ≡ blobs.old.items ++ map blob_of (all_bytes (tree_of (rests depth entries.now)))) }
+    ensures again { IfOk result (λ _. ReadsAgain (tree_of (rests depth entries.now)) × ReadsAgainBelow (tree_of (rests depth entries.now))) }
 {
     let mut files = Vec::new(alloc);
     let mut directories = Vec::new(alloc);

@@ -3,16 +3,19 @@
 ghost use Rattle.std.specs.Prelude.{◌≡◌, ◌<◌, ◌+◌, ◌^◌, ◌++◌, IfOk, IsSome, Some, drop, map, option_to_list, refl};
 ghost use Rattle.std.specs.Cmp.{eq_by_cmp_equiv, partial_equiv_from_equiv, partial_order_from_total};
 ghost use Rattle.std.specs.Ordering.{eq_by_cmp};
+ghost use Rattle.std.specs.List.{AllByRecursion};
 ghost use Rattle.std.specs.List.Sorted.{IsPermutation, IsSorted};
+ghost use Rattle.rx_base.specs.Paths.{IsPath};
 ghost use Rattle.rx_base.specs.Texts.{texts};
 ghost use Rattle.rx_tree.specs.Entries.{dir_entry, entries_of, file_entry, names_of};
+ghost use Rattle.rx_tree.specs.Listings.{IsDigest, IsEntry};
 ghost use Rattle.rx_tree.specs.Places.{by_place, by_place_total};
 ghost use Rattle.rx_tree.specs.Planting.{contents, goes_alike};
 ghost use Rattle.rx_tree.specs.Refusals.{is_same_file, is_under, stands_under};
 ghost use Rattle.rx_tree.specs.Search.{place};
 ghost use Rattle.rx_tree.specs.Trees.{file_at_end, first_name};
 
-use rx_base::{NoMemory, RelPath};
+use rx_base::{Digest, NoMemory, RelPath};
 use rx_world::InputFile;
 use std::alloc::Global;
 use std::cmp::Ordering;
@@ -40,23 +43,37 @@ impl<'a> Model for Entry<'a> {
 
 /// The names on a path, from the root down; the root has none.
 fn split_path(alloc: Global, path: &RelPath) -> Result<Vec<&str>, NoMemory>
-    ensures { IfOk result (λ names. texts names.items ≡ names_of path.now) }
+    ensures names { IfOk result (λ names. texts names.items ≡ names_of path.now) }
+    ensures path { IsPath path.now }
 {
+    let text = path.as_str();
     let mut names = Vec::new(alloc);
     if path.is_root() {
         return Ok(names);
     }
-    for name in path.as_str().split('/') {
+    for name in text.split('/') {
         names.push(name)?;
     }
     Ok(names)
 }
 
+/// The digest itself. Of one that is passed by value its clause can say what the type keeps: 32
+/// bytes, and a size of 64 bits.
+fn read_digest(digest: Digest) -> Digest
+    ensures same { result ≡ digest }
+    ensures sound { IsDigest digest }
+{
+    digest
+}
+
 impl<'a> Entry<'a> {
     /// The entry of a file.
     pub(crate) fn of_file(alloc: Global, file: &'a InputFile) -> Result<Entry<'a>, NoMemory>
-        ensures { IfOk result (λ entry. entry ≡ file_entry file.now) }
+        ensures entry { IfOk result (λ entry. entry ≡ file_entry file.now) }
+        ensures sound { IfOk result (λ _. IsEntry (file_entry file.now)) }
     {
+        // For what its clause says of the digest.
+        let _digest = read_digest(file.digest);
         let names = split_path(alloc, &file.path)?;
         Ok(Entry {
             path: &file.path,
@@ -67,7 +84,8 @@ impl<'a> Entry<'a> {
 
     /// The entry of a directory.
     pub(crate) fn of_dir(alloc: Global, path: &'a RelPath) -> Result<Entry<'a>, NoMemory>
-        ensures { IfOk result (λ entry. entry ≡ dir_entry path.now) }
+        ensures entry { IfOk result (λ entry. entry ≡ dir_entry path.now) }
+        ensures sound { IfOk result (λ _. IsEntry (dir_entry path.now)) }
     {
         let names = split_path(alloc, path)?;
         Ok(Entry {
@@ -184,6 +202,7 @@ pub(crate) fn sort_entries<'a>(
 ) -> Result<Vec<Entry<'a>>, NoMemory>
     ensures all { IfOk result (λ entries. IsPermutation (entries_of files.now dirs.now) entries.items) }
     ensures sorted { IfOk result (λ entries. IsSorted by_place entries.items) }
+    ensures sound { IfOk result (λ _. AllByRecursion IsEntry (entries_of files.now dirs.now)) }
 {
     let entries = with_files(Vec::new(alloc), alloc, files)?;
     let mut entries = with_dirs(entries, alloc, dirs)?;
@@ -197,7 +216,8 @@ fn with_files<'a>(
     alloc: Global,
     files: &'a [InputFile],
 ) -> Result<Vec<Entry<'a>>, NoMemory>
-    ensures { IfOk result (λ all. all.items ≡ entries.entry.items ++ map file_entry files.now) }
+    ensures all { IfOk result (λ all. all.items ≡ entries.entry.items ++ map file_entry files.now) }
+    ensures sound { IfOk result (λ _. AllByRecursion IsEntry (map file_entry files.now)) }
 {
     let mut entries = entries;
     for file in files {
@@ -212,7 +232,8 @@ fn with_dirs<'a>(
     alloc: Global,
     dirs: &'a [RelPath],
 ) -> Result<Vec<Entry<'a>>, NoMemory>
-    ensures { IfOk result (λ all. all.items ≡ entries.entry.items ++ map dir_entry dirs.now) }
+    ensures all { IfOk result (λ all. all.items ≡ entries.entry.items ++ map dir_entry dirs.now) }
+    ensures sound { IfOk result (λ _. AllByRecursion IsEntry (map dir_entry dirs.now)) }
 {
     let mut entries = entries;
     for dir in dirs {

@@ -1,4 +1,4 @@
-use crate::{Blob, MAX_FILES, TreeFault, build, list_of};
+use crate::{Blob, MAX_FILES, TreeFault, TreeFile, build, list_of};
 use rx_base::{Bytes, Items, RelPath, Text, digest_of};
 use rx_messages::{Directory, DirectoryNode, Message};
 use rx_world::{InputFile, Stamp};
@@ -127,29 +127,93 @@ fn bounds_trees(rt: HostRuntime) -> Result<(), Fail> {
     Ok(())
 }
 
+/// Whether one of the blobs has just these bytes, under their digest.
+fn holds(blobs: &[Blob], bytes: &[u8]) -> bool {
+    let digest = digest_of(bytes);
+    blobs.iter().any(|blob| blob.digest == digest && blob.bytes.as_slice() == bytes)
+}
+
+#[test]
+fn holds_each_directory(rt: HostRuntime) -> Result<(), Fail> {
+    let alloc = rt.alloc();
+    let rows: [(&str, &str, &[u8]); 5] = [
+        ("", "", b""),
+        (
+            "b a/x a.c a.b/y",
+            "",
+            b"\x0a\x49\x0a\x01x\x12\x44\x0a\x40ba7816bf8f01cfea414140de5dae2223b00361a396177a9cb410ff61f20015ad\x10\x03",
+        ),
+        (
+            "b a/x a.c a.b/y",
+            "",
+            b"\x0a\x49\x0a\x01y\x12\x44\x0a\x40ba7816bf8f01cfea414140de5dae2223b00361a396177a9cb410ff61f20015ad\x10\x03",
+        ),
+        (
+            "",
+            "w",
+            b"\x12\x47\x0a\x01w\x12\x42\x0a\x40e3b0c44298fc1c149afbf4c8996fb92427ae41e4649b934ca495991b7852b855",
+        ),
+        ("", "w", b""),
+    ];
+    for (paths, above, bytes) in rows {
+        let built = build(alloc, &files(alloc, paths)?, &dirs(alloc, above)?)?;
+        assert!(rt; holds(built.blobs.as_slice(), bytes));
+    }
+    Ok(())
+}
+
+/// The paths of files, a space behind each and a star behind one that may be executed.
+fn files_text(alloc: Global, files: &[TreeFile]) -> Result<String, AllocError> {
+    let mut text = String::new(alloc);
+    for file in files {
+        text.push_str(file.path.as_str())?;
+        text.push_str(if file.executable { "* " } else { " " })?;
+    }
+    Ok(text)
+}
+
+/// The paths of directories, a space behind each.
+fn dirs_text(alloc: Global, dirs: &[RelPath]) -> Result<String, AllocError> {
+    let mut text = String::new(alloc);
+    for dir in dirs {
+        text.push_str(dir.as_str())?;
+        text.push(' ')?;
+    }
+    Ok(text)
+}
+
 #[test]
 fn lists_back(rt: HostRuntime) -> Result<(), Fail> {
     let alloc = rt.alloc();
-    let built = build(
-        alloc,
-        &files(alloc, "b a/x a.c a.b/y v/w/z")?,
-        &dirs(alloc, "w v/u a")?,
-    )?;
-    let listed = list_of(alloc, &built.root, built.blobs.as_slice())?;
-    assert_eq!(rt; listed.files.len(), 5);
-    for (file, want) in listed
-        .files
-        .as_slice()
-        .iter()
-        .zip(["a.b/y", "a.c", "a/x", "b", "v/w/z"])
-    {
-        assert_eq!(rt; file.path.as_str(), want);
-        assert_eq!(rt; file.digest, digest_of(b"abc"));
-        assert_eq!(rt; file.executable, want == "v/w/z");
-    }
-    assert_eq!(rt; listed.dirs.len(), 2);
-    for (dir, want) in listed.dirs.as_slice().iter().zip(["v/u", "w"]) {
-        assert_eq!(rt; dir.as_str(), want);
+    let rows: [(&str, &str, &str, &str); 5] = [
+        ("", "", "", ""),
+        ("b a/x a.c a.b/y", "", "a.b/y a.c a/x b ", ""),
+        ("", "w", "", "w "),
+        ("d/b a", "", "a d/b ", ""),
+        // A directory with something in it isn't told, nor is the root.
+        (
+            "b a/x a.c v/w/z",
+            "w v/u a . w",
+            "a.c a/x b v/w/z* ",
+            "v/u w ",
+        ),
+    ];
+    for (paths, above, want, want_dirs) in rows {
+        let built = build(alloc, &files(alloc, paths)?, &dirs(alloc, above)?)?;
+        let listed = list_of(alloc, &built.root, built.blobs.as_slice())?;
+        let abc = digest_of(b"abc");
+        assert!(rt;
+            listed
+                .files
+                .as_slice()
+                .iter()
+                .all(|file| file.digest == abc)
+        );
+        assert_eq!(rt; files_text(alloc, listed.files.as_slice())?.as_str(), want);
+        assert_eq!(rt;
+            dirs_text(alloc, listed.dirs.as_slice())?.as_str(),
+            want_dirs
+        );
     }
     Ok(())
 }

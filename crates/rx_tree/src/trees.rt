@@ -5,6 +5,7 @@ ghost use Rattle.rx_base.specs.Digests.{digest_of};
 ghost use Rattle.rx_base.specs.SortedPaths.{HasSameMembers};
 ghost use Rattle.rx_tree.specs.Blobs.{HasNoRepeats, blob_of};
 ghost use Rattle.rx_tree.specs.Entries.{entries_of};
+ghost use Rattle.rx_tree.specs.Listings.{IsGivenBack, IsToldByBytes};
 ghost use Rattle.rx_tree.specs.Refusals.{Judges};
 ghost use Rattle.rx_tree.specs.Trees.{all_bytes, tree, tree_bytes};
 
@@ -31,6 +32,8 @@ pub fn build(alloc: Global, files: &[InputFile], dirs: &[RelPath]) -> Result<Bui
     ensures root { IfOk result (λ built. built.root ≡ digest_of (tree_bytes (tree (entries_of files.now dirs.now)))) }
     ensures blobs { IfOk result (λ built. HasSameMembers (map blob_of (all_bytes (tree (entries_of files.now dirs.now)))) built.blobs) }
     ensures once { IfOk result (λ built. HasNoRepeats built.blobs) }
+    ensures told { IfOk result (λ _. IsToldByBytes (entries_of files.now dirs.now)) }
+    ensures back { IfOk result (λ built. IsGivenBack (entries_of files.now dirs.now) built.root built.blobs) }
 {
     let entries = take_entries(alloc, files, dirs)?;
     let mut blobs = Vec::new(alloc);

@@ -1,16 +1,9 @@
-use Rattle.std.proofs.Common.{◌≡◌, ◌<◌, ◌≤◌, ◌+◌, ◌∙◌, ℕ, List, [], ◌∷◌, ◌++◌, length, drop, take, map, append_assoc, refl, sym, ap, subst, arith}
-use Rattle.std.proofs.lemmas.List.{map-append}
+use Rattle.std.proofs.Common.{◌≡◌, ◌<◌, ◌∙◌, ℕ, length, take, sym, ap, arith}
 use Rattle.rx_base.specs.Digests.{digest_of}
-use Rattle.rx_messages.specs.declared.nodes.FileNode.{FileNode}
-use Rattle.rx_messages.specs.declared.nodes.DirectoryNode.{DirectoryNode}
-use Rattle.rx_messages.specs.Directories.{directory_bytes}
-use Rattle.rx_messages.specs.declared.directories.Directory.{Directory}
-use Rattle.rx_tree.specs.declared.blobs.Blob.{Blob}
-use Rattle.rx_tree.specs.Blobs.{blob_of}
 use Rattle.rx_tree.specs.Entries.{content_of}
 use Rattle.rx_tree.specs.Planting.{run_length}
-use Rattle.rx_tree.specs.Trees.{bytes_below, bytes_with, file_node, rests, tree_bytes, tree_of}
-use Rattle.rx_tree.proofs.PlantingLemmas.{all_pushed, down_ready, next_directory, next_ended, next_file, planted_all, planted_none, run_some, run_within}
+use Rattle.rx_tree.specs.Trees.{rests, tree_bytes, tree_of}
+use Rattle.rx_tree.proofs.PlantingLemmas.{all_pushed, down_ready, next_directory, next_ended, next_file, planted_again, planted_all, run_some, run_within}
 use Rattle.rx_tree.proofs.directories.+add_directories.Goals.{in-Some+in-Some-file_after+in_ok-file_node-in-Some-file_after+in_ok-push-in-Some-file_after, in-Some+in-None+in_ok-digest-in-None+in_ok-directory_node-in-None+in_ok-push-in-None, in_default}
 use Rattle.rx_tree.proofs.directories.+add_directories.Goals as goal
 
@@ -48,7 +41,7 @@ loop-at-preserved t c =
             rw (w.files-is, w.directories-is, w.blobs-is, w.in_ok-push-in-Some-file_after.ensures.items, w.in_ok-file_node-in-Some-file_after.ensures) step
         | in-Some+in-None+in_ok-digest-in-None+in_ok-directory_node-in-None+in_ok-push-in-None w ↦
             let step = next_directory c.args.depth c.args.entries.now c.split_at.result.1.now c.loop-at.at c.index-rest-0.result c.split_at.ensures.back some c.index-rest-0.is (length c.split_at-in-loop-at.result.0.now) size
-            c.loop-at.invariant.planted w.in-Some.name.now (sym w.in-Some.ensures.name) (sym w.in-None.ensures) c.split_at-in-loop-at.result.0.now run w.in_ok-digest-in-None.ensures.blobs in
+            c.loop-at.invariant.planted w.in-Some.name.now (sym w.in-Some.ensures.name) (sym w.in-None.ensures) c.split_at-in-loop-at.result.0.now run w.in_ok-digest-in-None.ensures.blobs w.in_ok-digest-in-None.ensures.again in
             rw (w.files-is, w.directories-is, w.blobs-is, w.in_ok-push-in-None.ensures.items, w.in_ok-directory_node-in-None.ensures, w.in_ok-digest-in-None.ensures.root) step
         | in_default w ↦
             let step = next_ended c.args.depth c.args.entries.now c.split_at.result.1.now c.loop-at.at c.index-rest-0.result c.split_at.ensures.back some c.index-rest-0.is (length c.split_at-in-loop-at.result.0.now) size
@@ -67,3 +60,8 @@ returns-clause-blobs t c =
     let done = planted_all c.args.depth c.loop-at.at c.args.entries.now c.loop-at.invariant.planted c.loop-at-test.false in
     let bytes : c.in_ok-encode.field-0.items ≡ tree_bytes (tree_of (rests c.args.depth c.args.entries.now)) = rw (c.in_ok-encode.ensures.bytes, c.from_vec.ensures, c.from_vec-2.ensures, c.new.ensures) done.0 in
     rw (c.in_ok-push.ensures.items, c.of_bytes-blob.ensures) (all_pushed c.args.blobs.now.items c.loop-at.blobs.items (tree_of (rests c.args.depth c.args.entries.now)) c.in_ok-encode.field-0.items done.1 bytes)
+
+pub returns-clause-again : goal.returns-clause-again
+returns-clause-again t c =
+    planted_again c.args.depth c.loop-at.at c.args.entries.now c.loop-at.invariant.planted c.loop-at-test.false
+    (rw (c.in_ok-encode.ensures.bytes, c.from_vec.ensures, c.from_vec-2.ensures, c.new.ensures) at c.in_ok-encode.ensures.again)

@@ -1,4 +1,4 @@
-use Rattle.std.proofs.Common.{◌-◌, ◌≤◌, ℕ, List, drop, length}
+use Rattle.std.proofs.Common.{◌-◌, ◌≤◌, drop, length}
 use Rattle.rx_tree.specs.Trees.{levels, rests}
 use Rattle.rx_tree.proofs.PlantingLemmas.{IsPlanted}
 use Rattle.rx_tree.proofs.directories.+add_directories.Given as goal

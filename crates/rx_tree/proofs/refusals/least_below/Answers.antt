@@ -1,4 +1,4 @@
-use Rattle.std.proofs.Common.{◌≡◌, ◌∙◌, ℕ, List, Option, Some, ap, arith, sym}
+use Rattle.std.proofs.Common.{◌∙◌, ℕ, List, Some, ap, arith, sym}
 use Rattle.rx_tree.proofs.LeastLemmas.{all_below, found_below, no_below}
 use Rattle.rx_tree.specs.Search.{lesser_of, place}
 use Rattle.rx_tree.proofs.refusals.least_below.Goals.{then-stands_under, else-stands_under}

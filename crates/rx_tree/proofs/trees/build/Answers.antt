@@ -1,10 +1,13 @@
-use Rattle.std.proofs.Common.{◌≡◌, ◌∙◌, List, map, ap, subst, sym}
+use Rattle.std.proofs.Common.{◌∙◌, List, map, ap, subst}
 use Rattle.rx_base.specs.Digests.{digest_of}
 use Rattle.rx_base.specs.SortedPaths.{HasSameMembers}
 use Rattle.rx_tree.specs.declared.blobs.Blob.{Blob}
 use Rattle.rx_tree.specs.Blobs.{blob_of}
 use Rattle.rx_tree.specs.Entries.{entries_of}
 use Rattle.rx_tree.specs.Trees.{Tree, all_bytes, tree_bytes}
+use Rattle.rx_tree.specs.Planting.{ReadsAgain, ReadsAgainBelow}
+use Rattle.rx_tree.proofs.BackLaws.{few_files, given_back}
+use Rattle.rx_tree.proofs.ListingLaws.{told_by_bytes}
 use Rattle.rx_tree.proofs.StartLemmas.{ready_sorted, tree_sorted}
 use Rattle.rx_tree.proofs.trees.build.Goals as goal
 
@@ -22,3 +25,17 @@ returns-clause-blobs c =
     let same = tree_sorted (entries_of c.args.files.now c.args.dirs.now) c.in_ok-entries.entries.items c.in_ok-entries.ensures.all c.in_ok-entries.ensures.sorted c.in_ok-entries.ensures.judged.1 in
     let pushed = rw (c.deref.ensures.value, c.new-blobs.ensures.items) at c.in_ok-root.ensures.blobs in
     subst (λ (bs : List Blob). HasSameMembers bs c.in_ok-blobs.blobs) (pushed ∙ ap (λ (t : Tree). map blob_of (all_bytes t)) same) c.in_ok-blobs.ensures.members
+
+pub returns-clause-told : goal.returns-clause-told
+returns-clause-told c =
+    told_by_bytes (entries_of c.args.files.now c.args.dirs.now) (record { each = c.in_ok-entries.ensures.sound; apart = c.in_ok-entries.ensures.judged.1 })
+
+pub returns-clause-back : goal.returns-clause-back
+returns-clause-back c =
+    let entries = entries_of c.args.files.now c.args.dirs.now in
+    let same = tree_sorted entries c.in_ok-entries.entries.items c.in_ok-entries.ensures.all c.in_ok-entries.ensures.sorted c.in_ok-entries.ensures.judged.1 in
+    let pushed = rw (c.deref.ensures.value, c.new-blobs.ensures.items) at c.in_ok-root.ensures.blobs in
+    let members = subst (λ (bs : List Blob). HasSameMembers bs c.in_ok-blobs.blobs) (pushed ∙ ap (λ (t : Tree). map blob_of (all_bytes t)) same) c.in_ok-blobs.ensures.members in
+    let again = subst (λ (t : Tree). ReadsAgain t × ReadsAgainBelow t) same (rw c.deref.ensures.value at c.in_ok-root.ensures.again) in
+    given_back entries (record { each = c.in_ok-entries.ensures.sound; apart = c.in_ok-entries.ensures.judged.1 }) c.in_ok-root.root c.in_ok-blobs.blobs
+    (rw c.deref.ensures.value at c.in_ok-root.ensures.root ∙ ap (λ (t : Tree). digest_of (tree_bytes t)) same) members again (few_files c.args.files.now c.args.dirs.now c.in_ok-entries.ensures.judged.0)

@@ -1,4 +1,4 @@
-use Rattle.std.proofs.Common.{◌≡◌, ◌∙◌, ◌<◌, ◌+◌, ℕ, suc, Ok, Err, refl, sym, arith, drop}
+use Rattle.std.proofs.Common.{◌∙◌, ◌<◌, ◌+◌, suc, refl, arith}
 use Rattle.std.proofs.lemmas.List.{drop_all}
 use Rattle.std.proofs.lemmas.Result.{err_from_is_err_and}
 use Rattle.rx_base.proofs.ResultLemmas.{bind_err}

@@ -1,13 +1,12 @@
-use Rattle.std.proofs.Common.{◌≡◌, ◌∙◌, ℕ, ◌+◌, List, [], ◌∷◌, ◌++◌, Ok, Err, drop, refl, sym, ap, arith}
+use Rattle.std.proofs.Common.{◌∙◌, ℕ, List, refl, sym}
 use Rattle.std.proofs.lemmas.List.{drop_all}
 use Rattle.std.proofs.lemmas.Result.{err_from_is_err_and}
-use Rattle.rx_base.specs.Results.{◌>>=◌}
 use Rattle.rx_base.specs.declared.digests.Digest.{Digest}
 use Rattle.rx_base.proofs.ResultLemmas.{bind_err}
 use Rattle.rx_messages.specs.declared.nodes.FileNode.{FileNode}
 use Rattle.rx_tree.specs.declared.listings.TreeFile.{TreeFile}
 use Rattle.rx_tree.specs.declared.tree_fault.TreeFault.TheVariants.{NoMemory}
-use Rattle.rx_tree.specs.Walks.{child_of, named_by, with_nodes}
+use Rattle.rx_tree.specs.Walks.{with_nodes}
 use Rattle.rx_tree.proofs.WalkLemmas.{with_nodes-drop}
 use Rattle.rx_tree.proofs.walks.add_files.Goals as goal
 

@@ -1,4 +1,4 @@
-use Rattle.std.proofs.Common.{◌≡◌, ◌<◌, arith, length}
+use Rattle.std.proofs.Common.{arith, length}
 use Rattle.rx_tree.proofs.EntryLemmas.{got_name, got_some}
 use Rattle.rx_tree.proofs.entries.Entry.name.Goals as goal
 

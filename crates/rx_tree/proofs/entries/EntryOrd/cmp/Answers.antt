@@ -1,4 +1,4 @@
-use Rattle.std.proofs.Common.{◌≡◌, ◌∙◌, refl}
+use Rattle.std.proofs.Common.{◌∙◌, refl}
 use Rattle.rx_tree.proofs.NameOrder.{by_names-texts, no_content}
 use Rattle.rx_tree.proofs.entries.EntryOrd.cmp.Goals as goal
 

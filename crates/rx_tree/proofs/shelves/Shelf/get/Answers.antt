@@ -1,4 +1,4 @@
-use Rattle.std.proofs.Common.{◌≡◌, ◌∙◌, ◌<◌, ◌≤◌, Some, ap, arith, length, sym}
+use Rattle.std.proofs.Common.{◌∙◌, ◌<◌, ap, arith, length, sym}
 use Rattle.std.specs.Ordering.{is_eq}
 use Rattle.rx_tree.proofs.ShelfLemmas.{at_found, at_other, past_all}
 use Rattle.rx_tree.proofs.shelves.Shelf.get.Goals as goal

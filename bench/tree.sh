@@ -1,0 +1,31 @@
+#!/usr/bin/env bash
+# How long `build` takes for a file, over trees of 1,000, 10,000 and 50,000 files: microseconds a file, so that growth is seen.
+#
+#   bash bench/tree.sh [ROUNDS]
+#
+# Run by hand, on a machine that does nothing else. The program tree_bench builds each tree ROUNDS times (9) and times each
+# round by the clock; told is the median. The files lie in a hundred directories of three to six names and come in an order of
+# no directory. The list of files is made before the first round, so that `build` alone is measured.
+set -eu
+export LC_ALL=C
+
+top=$(cd "$(dirname "$0")/.." && pwd)
+rounds=${1:-9}
+rt=${RT:-$(command -v rt || echo /opt/rattle/bin/rt)}
+bench=$top/crates/tree_bench/out/tree_bench
+log=${TMPDIR:-/tmp}/tree-bench-build.log
+# rt run proves what isn't proved yet, leaves the program in out/, and runs it
+if ! (cd "$top/crates/tree_bench" && "$rt" run -- 10 1) > "$log" 2>&1; then
+    tail -n 20 "$log" >&2
+    echo "tree_bench was not built; the whole log is $log" >&2
+    exit 1
+fi
+
+# median: the middle one of the lines, from nanoseconds to microseconds
+median() {
+    sort -g | awk '{ line[NR] = $1 } END { printf "%.2f", (line[int((NR + 1) / 2)] + line[int((NR + 2) / 2)]) / 2000 }'
+}
+
+for files in 1000 10000 50000; do
+    echo "$files files: $("$bench" "$files" "$rounds" 2>&1 > /dev/null | median) microseconds a file"
+done
