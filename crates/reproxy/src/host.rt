@@ -1,6 +1,6 @@
 //! The outside as the machine has it: files, child programs and the standard streams. Each adapter
-//! counts its faults and tells nothing of contents, so what the machine does is trusted and no
-//! contract speaks of it.
+//! counts its faults and tells nothing of contents, but for the input, which tells what its reader
+//! tells. So what the machine does is trusted, and no contract speaks of it.
 
 mod below;
 mod bench;

@@ -1,5 +1,8 @@
 //! One run of the proxy over the machine.
 
+ghost use Rattle.std.specs.Prelude.{◌≡◌, ◌↔◌, IfOk, None};
+ghost use Rattle.rx_engine.specs.Words.{root_in};
+
 use crate::host::{
     HostBenches, HostFront, HostPlace, HostSink, HostSource, HostSources, HostWorld,
 };
@@ -20,7 +23,10 @@ pub(crate) fn serve<I: Read + Send + Drop, O: Print + Send + Drop>(
     words: &[String],
     input: I,
     output: O,
-) -> Result<u8, AllocError> {
+) -> Result<u8, AllocError>
+    // 2 exactly where the words aren't known.
+    ensures { IfOk result (λ status. status ≡ 2 ↔ (root_in words.now ≡ None)) }
+{
     let alloc = rt.alloc();
     let process = process::id(rt.process());
     let root = root_in(words);

@@ -1,5 +1,8 @@
 //! The words of the command line, as far as the outside depends on them.
 
+ghost use Rattle.std.specs.Prelude.{◌≡◌};
+ghost use Rattle.reproxy.specs.Words.{is_help};
+
 /// What `--help` prints.
 pub(crate) const USAGE: &str = "usage: reproxy exec --root PATH
 Serves one request: its frame comes from standard input, the reply goes to standard output.
@@ -7,7 +10,9 @@ PATH begins with a slash. Its files are the source tree and the place for output
 ";
 
 /// Whether the words are `--help` alone.
-pub(crate) fn is_help(words: &[String]) -> bool {
+pub(crate) fn is_help(words: &[String]) -> bool
+    ensures { result ≡ is_help words.now }
+{
     match words {
         [word] => word.as_str() == "--help",
         _ => false,

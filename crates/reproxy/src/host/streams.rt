@@ -2,6 +2,7 @@
 
 ghost use Rattle.std.specs.Prelude.{◌≡◌, None, IfOk, []};
 ghost use Rattle.std.specs.Io.{ReadsAtMost, WritesAtMost};
+ghost use Rattle.std.specs.Io.KnownBytes.{ReadConsumes};
 
 use super::faults::Faults;
 use rx_world::{Failed, Sink, Source};
@@ -11,7 +12,7 @@ use std::io::{Error, ErrorKind, Print, Read};
 /// How often a call is tried again that a signal interrupted.
 const TRIES: u32 = 4096;
 
-/// Bytes that come in by a reader, as standard input.
+/// Bytes that come in by a reader, as standard input. It tells what its reader tells.
 #[derive(Drop)]
 pub(crate) struct HostSource<I> {
     input: I,
@@ -26,7 +27,10 @@ pub(crate) struct HostSink<P> {
 }
 
 impl<I: Read> HostSource<I> {
-    pub(crate) fn new(input: I) -> HostSource<I> {
+    pub(crate) fn new(input: I) -> HostSource<I>
+        ensures input { result.input ≡ input }
+        ensures faults { result.faults.count ≡ 0 }
+    {
         HostSource {
             input,
             faults: Faults::new(),
@@ -44,8 +48,9 @@ impl<P: Print> HostSink<P> {
 }
 
 /// One read, which a signal doesn't end.
-fn read_some(input: &mut impl Read, into: &mut [u8]) -> io::Result<usize>
-    ensures { ReadsAtMost result into.new }
+fn read_some<I: Read>(input: &mut I, into: &mut [u8]) -> io::Result<usize>
+    ensures bound { ReadsAtMost result into.new }
+    ensures bytes { ReadConsumes (I.remaining input.old) (I.remaining input.new) result into.new }
 {
     for _ in 0..TRIES {
         match input.read(into) {
@@ -77,7 +82,7 @@ fn write_some(output: &impl Print, piece: &[u8]) -> io::Result<usize>
 }
 
 impl<I: Read> Source for HostSource<I> {
-    ghost left = { λ s. None };
+    ghost left = { λ s. I.remaining s.input };
 
     ghost faults = { λ s. s.faults.count };
 
