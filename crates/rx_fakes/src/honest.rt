@@ -1,7 +1,8 @@
 //! A read at a world that is picked so that its stamps are honest, so that the condition under
 //! which entries are added is seen to be one that a caller can meet.
 
-ghost use Rattle.std.specs.Prelude.{◌≡◌, IfOk, length};
+ghost use Rattle.std.specs.Prelude.{◌≡◌, IfOk, false, length};
+ghost use Rattle.rx_world.specs.declared.looks.Look.TheVariants.{File};
 ghost use Rattle.rx_world.specs.Sources.{GivesContent};
 
 use crate::{MemorySources, Script, SourceEntries};
@@ -17,7 +18,8 @@ fn read_at<K: Contents>(
     bytes: Bytes,
 ) -> Result<(Look, Bytes), Refused>
     requires { K.honest → bytes ≡ K.holds path (record { size = length bytes; mark = 0 }) }
-    ensures { IfOk result (λ read. K.honest → GivesContent K.holds path read.0 read.1) }
+    ensures honest { IfOk result (λ read. K.honest → GivesContent K.holds path read.0 read.1) }
+    ensures read { IfOk result (λ read. (read.0 ≡ File (record { size = length bytes; mark = 0 }) false) × (read.1 ≡ bytes)) }
 {
     let at = path.try_clone(alloc)?;
     let mut entries: SourceEntries<K> = SourceEntries::new(alloc);
@@ -28,7 +30,8 @@ fn read_at<K: Contents>(
 
 /// The same at a world that holds these bytes under each stamp, and whose stamps are honest.
 pub fn honest_read(alloc: Global, path: RelPath, bytes: Bytes) -> Result<(Look, Bytes), Refused>
-    ensures { IfOk result (λ read. GivesContent (λ at stamp. bytes) path read.0 read.1) }
+    ensures honest { IfOk result (λ read. GivesContent (λ at stamp. bytes) path read.0 read.1) }
+    ensures read { IfOk result (λ read. (read.0 ≡ File (record { size = length bytes; mark = 0 }) false) × (read.1 ≡ bytes)) }
 {
     read_at::<Brand>(alloc, path, bytes)
 }
