@@ -11,15 +11,9 @@ export LC_ALL=C
 
 top=$(cd "$(dirname "$0")/.." && pwd)
 repeats=${1:-5}
-rt=${RT:-$(command -v rt || echo /opt/rattle/bin/rt)}
-bench=$top/crates/h2_bench/out/h2_bench
-log=${TMPDIR:-/tmp}/h2-bench-build.log
-# rt run proves what isn't proved yet, leaves the program in out/, and runs it
-if ! (cd "$top/crates/h2_bench" && "$rt" run -- data 2) > "$log" 2>&1; then
-    tail -n 20 "$log" >&2
-    echo "h2_bench was not built; the whole log is $log" >&2
-    exit 1
-fi
+. "$top/scripts/build.sh"
+build_program "$top" h2_bench "${TMPDIR:-/tmp}/h2-bench-build.log" data 2
+bench=$program
 
 # median WORK ROUNDS: seconds of the processor
 median() {

@@ -11,15 +11,9 @@ export LC_ALL=C
 
 top=$(cd "$(dirname "$0")/.." && pwd)
 rounds=${1:-9}
-rt=${RT:-$(command -v rt || echo /opt/rattle/bin/rt)}
-bench=$top/crates/tree_bench/out/tree_bench
-log=${TMPDIR:-/tmp}/tree-bench-build.log
-# rt run proves what isn't proved yet, leaves the program in out/, and runs it
-if ! (cd "$top/crates/tree_bench" && "$rt" run -- 10 1) > "$log" 2>&1; then
-    tail -n 20 "$log" >&2
-    echo "tree_bench was not built; the whole log is $log" >&2
-    exit 1
-fi
+. "$top/scripts/build.sh"
+build_program "$top" tree_bench "${TMPDIR:-/tmp}/tree-bench-build.log" 10 1
+bench=$program
 
 # median: the middle one of the lines, from nanoseconds to microseconds
 median() {
