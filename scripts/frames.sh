@@ -72,6 +72,8 @@ reply_in_words() {
                 continue
             }
             if (tag % 8 == 2) value = text(at + value)
+            # the reasons of a reply are those of its kind, which comes first
+            if (before name == "kind" && value in reasons) name_values("reason", 1, reasons[value])
             if ((before name, value) in words) value = words[before name, value]
             print before name ": " value
         }
@@ -86,7 +88,9 @@ reply_in_words() {
         if (count < 5 || bytes[0] != 2 || count != size + 5) exit 1
         name_values("kind", 1, "BadRequest NotRemotable InputMissing InputChanged SourceFault TooLarge AllFailed Cancelled PlaceFault JournalFull NoMemory Blocked")
         name_values("origin", 1, "local remote cache")
-        name_values("reason", 1, "CutShort TooLong BadKind BadMessage UnknownVersion WrongRoot BadField Trailing NotBuilt")
+        reasons[1] = "CutShort TooLong BadKind BadMessage UnknownVersion WrongRoot BadField Trailing NotBuilt"
+        reasons[2] = "word path"
+        reasons[6] = "ScanFiles FileBytes ScanBytes ListFiles ListBytes"
         name_values("ends attempt", 1, "local remote")
         within["ends"] = "attempt cause value path first second"
         within["first"] = within["second"] = "kind size mark_above mark_below digest executable"

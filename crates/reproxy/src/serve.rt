@@ -10,6 +10,7 @@ use rx_engine::{Parts, root_in, run_proxy};
 use std::alloc::AllocError;
 use std::io::{Print, Read};
 use std::process;
+use std::sync::Wait;
 
 /// The directory below which commands are staged.
 const SCRATCH: &str = "/tmp";
@@ -17,8 +18,10 @@ const SCRATCH: &str = "/tmp";
 /// The root of the place where the words name none. Nothing is placed there.
 const NO_ROOT: &str = "/nonexistent";
 
-/// Serves what the words ask for, by one desk over these streams, and answers the status.
+/// Serves what the words ask for, by one desk over these streams, and answers the status. The lock of
+/// the digests may wait, which `wait` allows.
 pub(crate) fn serve<I: Read + Send + Drop, O: Print + Send + Drop>(
+    wait: &impl Wait,
     rt: HostRuntime,
     words: &[String],
     input: I,
@@ -35,6 +38,7 @@ pub(crate) fn serve<I: Read + Send + Drop, O: Print + Send + Drop>(
             input: HostSource::new(input),
             output: HostSink::new(output),
             tree: HostSources::new(rt, String::from_str(alloc, root)?),
+            tree_local: HostSources::new(rt, String::from_str(alloc, root)?),
             benches: HostBenches::new(rt, String::from_str(alloc, SCRATCH)?, process),
         }),
         None => None,
@@ -44,6 +48,6 @@ pub(crate) fn serve<I: Read + Send + Drop, O: Print + Send + Drop>(
         String::from_str(alloc, root.unwrap_or(NO_ROOT))?,
         process,
     );
-    let ran = run_proxy::<HostWorld, _, _>(alloc, words, HostFront { desk }, place);
+    let ran = run_proxy::<HostWorld, _, _>(wait, alloc, words, HostFront { desk }, place);
     Ok(ran.status)
 }

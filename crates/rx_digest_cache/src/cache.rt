@@ -67,8 +67,9 @@ impl<W: World> DigestCache<W> {
         }
     }
 
-    /// The digest that is kept of a path under a stamp.
-    fn find(&self, rt: &impl Wait, path: &RelPath, stamp: Stamp) -> Option<Digest>
+    /// The digest that is kept of a path under just this stamp, without a look at the path. It takes
+    /// no memory, and holds the lock for this alone.
+    pub fn find(&self, rt: &impl Wait, path: &RelPath, stamp: Stamp) -> Option<Digest>
         ensures { IfSome result (λ digest. W.stamps_honest → digest ≡ digest_of (W.content path.now stamp)) }
     {
         self.kept.lock(rt).find(path, stamp)
@@ -100,8 +101,9 @@ impl<W: World> DigestCache<W> {
         Ok((look, digest))
     }
 
-    /// Keeps a digest where it can be kept. It is as good where it can't.
-    fn keep(&self, rt: &impl Wait, alloc: Global, path: &RelPath, entry: StampedDigest)
+    /// Keeps a digest that belongs to a path and a stamp, where it can be kept: a full cache and want
+    /// of memory leave all as it was. It holds the lock for this alone.
+    pub fn keep(&self, rt: &impl Wait, alloc: Global, path: &RelPath, entry: StampedDigest)
         requires { W.stamps_honest → IsTied W.content path.now entry }
     {
         let _ = self.kept.lock(rt).keep(alloc, path, entry);

@@ -45,7 +45,7 @@ legal S add n old new before now [] [] (z ∷ ts) h = absurd h
 legal S add n old new before now (x ∷ ds) [] ts h = absurd h
 legal S add n old new before now (x ∷ ds) (y ∷ es) [] h = absurd h
 
-pub run_legal : {D I O T B : Type 0} (a b : Option (List D)) (m : Meanings I O T B) (keeps : T → Type 0) (parts : D → Parts I O T B) (stamps tools : Type 0) (root : List ℕ) (limit : ℕ) (new : List Entry) (before now : ℕ) (es : List D) (ts : List Transcript) → Runs a b (Serves m keeps parts stamps tools root limit) [] new before now es ts → IsLegal 1 new ts
-run_legal a b m keeps parts stamps tools root limit new before now es ts h =
-    let found = legal (Serves m keeps parts stamps tools root limit) (λ d e old next p q n t s. adds limit old next p q t s.journal) 1 [] new before now h.left es ts h.served in
+pub run_legal : {D I O T L B : Type 0} (a b : Option (List D)) (m : Meanings I O T L B) (keeps : T → Type 0) (keeps_local : L → Type 0) (parts : D → Parts I O T L B) (stamps tools : Type 0) (root : List ℕ) (limit : ℕ) (new : List Entry) (before now : ℕ) (es : List D) (ts : List Transcript) → Runs a b (Serves m keeps keeps_local parts stamps tools root limit) [] new before now es ts → IsLegal 1 new ts
+run_legal a b m keeps keeps_local parts stamps tools root limit new before now es ts h =
+    let found = legal (Serves m keeps keeps_local parts stamps tools root limit) (λ d e old next p q n t s. adds limit old next p q t s.journal) 1 [] new before now h.left es ts h.served in
     rw found.1 found.2

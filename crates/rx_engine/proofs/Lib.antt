@@ -2,8 +2,8 @@ mod AnswerLemmas
 mod CourseLemmas
 mod EachDone
 mod Early
-mod InputLemmas
 mod LegalLemmas
 mod Quiet
 mod ReadyLemmas
 mod RunLemmas
+mod Served

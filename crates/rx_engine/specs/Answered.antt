@@ -4,12 +4,12 @@ use Rattle.rx_session.specs.declared.bad.Bad.{Bad}
 use Rattle.rx_session.specs.declared.replies.Reply.{Reply}
 use Rattle.rx_session.specs.declared.replies.Reply.TheVariants as reply
 use Rattle.rx_session.specs.Replies.{frame_of}
+use Rattle.rx_scan.specs.declared.gather_fault.GatherFault.{GatherFault}
+use Rattle.rx_scan.specs.declared.gather_fault.GatherFault.TheVariants.{Blocked, InputChanged, InputMissing, NoMemory, NotRemotable, SourceFault, TooLarge}
 use Rattle.rx_world.specs.declared.attempts.Attempt.TheVariants as attempt
 use Rattle.rx_world.specs.declared.attempts.Cause.{Cause}
 use Rattle.rx_world.specs.declared.outcomes.Outcome.{Outcome}
 use Rattle.rx_engine.specs.declared.answers.Answered.{Answered}
-use Rattle.rx_engine.specs.declared.inputs.InputFault.{InputFault}
-use Rattle.rx_engine.specs.declared.inputs.InputFault.TheVariants.{Blocked, InputChanged, InputMissing, NoMemory, SourceFault}
 use Rattle.rx_engine.specs.Answers.{done_end, done_reply, failed_end}
 
 abbrev pub bad_request : Bad → Reply
@@ -25,11 +25,13 @@ pub record IsPlain (answer : Reply) (answered : Answered) : Type 0 where
   pub receipt_is : answered.receipt ≡ None
   pub ends_are : answered.ends ≡ []
 
--- the reply to a refusal of the inputs
-abbrev pub AnswersFault : InputFault → Answered → Type 0
+-- the reply where nothing was gathered
+abbrev pub AnswersFault : GatherFault → Answered → Type 0
+AnswersFault (NotRemotable cause) answered = IsPlain (reply.NotRemotable cause) answered
 AnswersFault (InputMissing path) answered = IsPlain (reply.InputMissing path) answered
 AnswersFault (InputChanged path first second) answered = IsPlain (reply.InputChanged path first second) answered
 AnswersFault (SourceFault path) answered = IsPlain (reply.SourceFault path) answered
+AnswersFault (TooLarge limit n path) answered = IsPlain (reply.TooLarge limit n path) answered
 AnswersFault (Blocked path) answered = IsPlain (reply.Blocked path) answered
 AnswersFault NoMemory answered = ⊥
 
@@ -48,9 +50,11 @@ TellsPublication outcome answered (reply.PlaceFault number placed) =
     (placed < length outcome.files) × (answered.receipt ≡ Some (record { number = number }))
 TellsPublication outcome answered reply.JournalFull = answered.receipt ≡ None
 TellsPublication outcome answered (reply.BadRequest bad) = ⊥
+TellsPublication outcome answered (reply.NotRemotable cause) = ⊥
 TellsPublication outcome answered (reply.InputMissing path) = ⊥
 TellsPublication outcome answered (reply.InputChanged path first second) = ⊥
 TellsPublication outcome answered (reply.SourceFault path) = ⊥
+TellsPublication outcome answered (reply.TooLarge limit n path) = ⊥
 TellsPublication outcome answered (reply.AllFailed failures) = ⊥
 TellsPublication outcome answered reply.NoMemory = ⊥
 TellsPublication outcome answered (reply.Blocked path) = ⊥

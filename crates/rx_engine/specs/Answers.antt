@@ -1,36 +1,87 @@
 -- What a session answers to a request.
-use Rattle.std.specs.Prelude.{◌≡◌, ◌≢◌, ℕ, ◌<◌, List, [], ◌∷◌, Option, None, Some, length}
+use Rattle.std.specs.Prelude.{◌≡◌, ◌≢◌, ℕ, ◌<◌, List, [], ◌∷◌, Option, None, Some, All, IfSome, length}
 use Rattle.rx_board.specs.declared.journal.Receipt.{Receipt}
 use Rattle.rx_session.specs.declared.replies.Reply.{Reply}
 use Rattle.rx_session.specs.declared.replies.Reply.TheVariants as reply
 use Rattle.rx_session.specs.declared.requests.Request.{Request}
 use Rattle.rx_session.specs.Jobs.{command_of, declared_of}
-use Rattle.rx_local.specs.Local.{IfMissing, IsCounted, LacksOutput}
+use Rattle.rx_local.specs.Local.{IsCauseOf, IsCounted}
+use Rattle.rx_local.specs.Stage.{AreStaged}
+use Rattle.rx_scan.specs.declared.gather_fault.GatherFault.{GatherFault}
+use Rattle.rx_scan.specs.declared.gather_fault.GatherFault.TheVariants as fault
+use Rattle.rx_scan.specs.declared.gathering.Gathered.{Gathered}
+use Rattle.rx_scan.specs.Explored.{HaveDigests}
+use Rattle.rx_scan.specs.Gathering.{Asked, BlamesGather, IsGathered, IsOrderly}
+use Rattle.rx_scan.specs.Lists.{IsRightList, Listing, Shows}
+use Rattle.rx_scan.specs.Scenes.{Scene, scene_of}
+use Rattle.rx_scan.specs.Sights.{Notes, sights_of}
 use Rattle.rx_world.specs.declared.attempts.Attempt.TheVariants as attempt
 use Rattle.rx_world.specs.declared.attempts.Cause.{Cause}
 use Rattle.rx_world.specs.declared.attempts.Cause.TheVariants as cause
 use Rattle.rx_world.specs.declared.attempts.End.TheVariants as end
 use Rattle.rx_world.specs.declared.attempts.Ended.{Ended}
 use Rattle.rx_world.specs.declared.attempts.Origin.TheVariants as origin
+use Rattle.rx_world.specs.declared.attempts.Plan.TheVariants as plans
 use Rattle.rx_world.specs.declared.commands.Command.{Command}
+use Rattle.rx_world.specs.declared.commands.Strategy.TheVariants as strategies
+use Rattle.rx_world.specs.declared.looks.Stamp.{Stamp}
 use Rattle.rx_world.specs.declared.outcomes.FileOut.{FileOut}
 use Rattle.rx_world.specs.declared.outcomes.Outcome.{Outcome}
 use Rattle.rx_world.specs.declared.sources.Given.{Given}
+use Rattle.rx_world.specs.declared.sources.SourceEntry.{SourceEntry}
 use Rattle.rx_world.specs.declared.trees.Tree.{Tree}
+use Rattle.rx_world.specs.Answers.{Gives}
 use Rattle.rx_world.specs.Outcomes.{IsClean, IsProper, kept}
 use Rattle.rx_world.specs.Trees.{tree_of}
-use Rattle.rx_engine.specs.declared.inputs.InputFault.{InputFault}
-use Rattle.rx_engine.specs.declared.inputs.InputFault.TheVariants as fault
-use Rattle.rx_engine.specs.Inputs.{IsGathered, Refuses, blocked}
 
--- the tree that a command runs in: its inputs and its working directory
-abbrev pub input_tree : Command → List FileOut → Tree
-input_tree command files = tree_of files (command.working_directory ∷ [])
+-- ---- what an answer stands on
 
--- the inputs of a request were gathered, and nothing stands in its command's way
-pub record HasInputs (asked : Request) (answers : List Given) (files : List FileOut) : Type 0 where
-  pub gathered : IsGathered (declared_of asked) answers files
-  pub free : blocked (command_of asked) (declared_of asked) ≡ None
+-- Between two states a source tree gave these answers and lists. Where it tells its paths and keeps them, the lists are right by them.
+pub record Tells {T : Type 0} (listed : T → Option (List SourceEntry)) (keeps : T → Type 0) (given : T → Option (List Given))
+    (content : List ℕ → Stamp → List ℕ) (honest : Type 0) (before after : T) (answers : List Given) (lists : List Listing) : Type 0 where
+  pub gives : Gives listed keeps given content honest before after answers
+  pub by_list : keeps before → IfSome (listed before) (λ entries. All (IsRightList (scene_of entries)) lists)
+
+-- of the gathering: the world's contents, what the source tree told, and its count of faults before and after
+pub record ScanGrounds : Type 0 where
+  pub content : List ℕ → Stamp → List ℕ
+  pub answers : List Given
+  pub lists : List Listing
+  pub before : ℕ
+  pub now : ℕ
+
+-- of the local attempt: the world's tool, the answers of the source tree that it reads, and the counts of this tree and of the benches
+pub record RunGrounds : Type 0 where
+  pub tool : Command → Tree → Outcome
+  pub answers : List Given
+  pub source_before : ℕ
+  pub source_now : ℕ
+  pub bench_before : ℕ
+  pub bench_now : ℕ
+
+-- ---- what was gathered
+
+-- what is asked of the gathering
+abbrev pub asked_of : Request → Asked
+asked_of request = record { command = command_of request; kind = request.kind; inputs = declared_of request; strategy = request.strategy }
+
+-- What the command of a request runs on, as the source tree told it: in each scene that shows its answers and lists, just the inputs.
+-- Whatever it told, these can be staged. By the strategy local there is the local attempt alone.
+pub record HasGathered (s : ScanGrounds) (stamps_honest : Type 0) (request : Request) (gathered : Gathered) : Type 0 where
+  pub shown : (scene : Scene) → Shows scene [] s.answers s.lists → IsGathered scene (asked_of request) gathered
+  pub viewed : Notes [] (sights_of gathered.view) s.answers
+  pub orderly : IsOrderly (asked_of request) gathered
+  pub digests : stamps_honest → HaveDigests s.content gathered.files
+  pub plan : request.strategy ≡ strategies.Local → (scene : Scene) → Shows scene [] s.answers s.lists → gathered.plan ≡ plans.LocalOnly
+
+-- nothing was run, since this is why nothing was gathered
+pub record IsRefused (s : ScanGrounds) (r : RunGrounds) (request : Request) (receipt : Option Receipt) (ends : List Ended) (why : GatherFault) : Type 0 where
+  pub cause : BlamesGather (asked_of request) s.before s.now why s.answers s.lists
+  pub unread : r.answers ≡ []
+  pub ends_are : ends ≡ []
+  pub receipt_is : receipt ≡ None
+
+-- ---- the attempt
 
 -- how the one attempt ended, as a transcript keeps it
 abbrev pub done_end : Outcome → List Ended
@@ -39,81 +90,80 @@ done_end outcome = record { attempt = attempt.Local; end = end.Done (kept outcom
 abbrev pub failed_end : Cause → List Ended
 failed_end why = record { attempt = attempt.Local; end = end.Failed why } ∷ []
 
--- The attempt ended with this outcome: a proper one and, where tools are honest, the clean run of the command on the tree of its
--- inputs as they were read.
-pub record HasRunOn (tool : Command → Tree → Outcome) (tools_honest : Type 0) (command : Command) (files : List FileOut) (ends : List Ended) (outcome : Outcome) : Type 0 where
-  pub proper : IsProper command outcome
-  pub clean : tools_honest → IsClean tool command (input_tree command files) outcome
+-- The files were read again and staged, each as it was gathered, and the attempt ended with this outcome: a proper one and, where tools
+-- are honest, the clean run of the command on the tree of the staged files and the gathered directories.
+pub record HasRunOn (r : RunGrounds) (tools_honest : Type 0) (gathered : Gathered) (ends : List Ended) (outcome : Outcome) : Type 0 where
+  pub proper : IsProper gathered.command outcome
+  pub staged : List FileOut
+  pub each : AreStaged gathered.files r.answers staged
+  pub clean : tools_honest → IsClean r.tool gathered.command (tree_of staged gathered.dirs) outcome
   pub ends_are : ends ≡ done_end outcome
 
 -- the attempt has no outcome, for this cause
-pub record HasFailedOn (tool : Command → Tree → Outcome) (tools_honest : Type 0) (command : Command) (files : List FileOut) (ends : List Ended) (before now : ℕ) (why : Cause) : Type 0 where
+pub record HasFailedOn (r : RunGrounds) (tools_honest : Type 0) (gathered : Gathered) (ends : List Ended) (why : Cause) : Type 0 where
   pub ends_are : ends ≡ failed_end why
   pub memory : why ≢ cause.NoMemory
-  pub counted : IsCounted before now why
-  pub missing : IfMissing why (λ path. tools_honest → LacksOutput tool command (input_tree command files) path)
+  pub caused : IsCauseOf r.tool tools_honest gathered.command gathered.files gathered.dirs r.answers why
+  pub counted : IsCounted r.bench_before r.bench_now r.source_before r.source_now why
 
--- the same of a request, whose inputs were gathered
-pub record HasRun (tool : Command → Tree → Outcome) (tools_honest : Type 0) (asked : Request) (answers : List Given) (ends : List Ended) (outcome : Outcome) : Type 0 where
-  pub files : List FileOut
-  pub inputs : HasInputs asked answers files
-  pub run : HasRunOn tool tools_honest (command_of asked) files ends outcome
+-- the same of a request, for which this was gathered
+pub record HasRun (s : ScanGrounds) (r : RunGrounds) (stamps_honest tools_honest : Type 0) (request : Request) (ends : List Ended) (outcome : Outcome) : Type 0 where
+  pub gathered : Gathered
+  pub inputs : HasGathered s stamps_honest request gathered
+  pub run : HasRunOn r tools_honest gathered ends outcome
 
-pub record HasFailed (tool : Command → Tree → Outcome) (tools_honest : Type 0) (asked : Request) (answers : List Given) (ends : List Ended) (before now : ℕ) (why : Cause) : Type 0 where
-  pub files : List FileOut
-  pub inputs : HasInputs asked answers files
-  pub failed : HasFailedOn tool tools_honest (command_of asked) files ends before now why
+pub record HasFailed (s : ScanGrounds) (r : RunGrounds) (stamps_honest tools_honest : Type 0) (request : Request) (ends : List Ended) (why : Cause) : Type 0 where
+  pub gathered : Gathered
+  pub inputs : HasGathered s stamps_honest request gathered
+  pub failed : HasFailedOn r tools_honest gathered ends why
+
+-- ---- the replies
 
 -- the reply to an outcome that was published whole
 abbrev pub done_reply : Outcome → ℕ → Reply
 done_reply outcome number = reply.Done outcome.exit.code outcome.exit.stdout outcome.exit.stderr origin.Local number (length outcome.files)
 
--- no attempt was started, since the inputs were refused
-pub record IsRefused (asked : Request) (answers : List Given) (before now : ℕ) (receipt : Option Receipt) (ends : List Ended) (why : InputFault) : Type 0 where
-  pub cause : Refuses (command_of asked) (declared_of asked) answers before now why
-  pub ends_are : ends ≡ []
-  pub receipt_is : receipt ≡ None
-
--- The same of a command on these files, before what is known of its inputs: bb and bn are the counts of the benches.
-abbrev pub RunsOn : (Command → Tree → Outcome) → Type 0 → Command → List FileOut → ℕ → ℕ → Option Receipt → List Ended → Reply → Type 0
-RunsOn tool honest command files bb bn receipt ends (reply.Done exit stdout stderr from number placed) =
-    (outcome : Outcome) × HasRunOn tool honest command files ends outcome
+-- each reply to an attempt on what was gathered, and what it says
+abbrev pub RunsOn : RunGrounds → Type 0 → Gathered → Option Receipt → List Ended → Reply → Type 0
+RunsOn r tools gathered receipt ends (reply.Done exit stdout stderr from number placed) =
+    (outcome : Outcome) × HasRunOn r tools gathered ends outcome
     × (reply.Done exit stdout stderr from number placed ≡ done_reply outcome number) × (receipt ≡ Some (record { number = number }))
-RunsOn tool honest command files bb bn receipt ends (reply.PlaceFault number placed) =
-    (outcome : Outcome) × HasRunOn tool honest command files ends outcome
+RunsOn r tools gathered receipt ends (reply.PlaceFault number placed) =
+    (outcome : Outcome) × HasRunOn r tools gathered ends outcome
     × (placed < length outcome.files) × (receipt ≡ Some (record { number = number }))
-RunsOn tool honest command files bb bn receipt ends reply.JournalFull =
-    (outcome : Outcome) × HasRunOn tool honest command files ends outcome × (receipt ≡ None)
-RunsOn tool honest command files bb bn receipt ends (reply.AllFailed failures) =
-    (why : Cause) × HasFailedOn tool honest command files ends bb bn why
+RunsOn r tools gathered receipt ends reply.JournalFull =
+    (outcome : Outcome) × HasRunOn r tools gathered ends outcome × (receipt ≡ None)
+RunsOn r tools gathered receipt ends (reply.AllFailed failures) =
+    (why : Cause) × HasFailedOn r tools gathered ends why
     × (failures ≡ record { attempt = attempt.Local; cause = why } ∷ []) × (receipt ≡ None)
-RunsOn tool honest command files bb bn receipt ends (reply.InputMissing path) = ⊥
-RunsOn tool honest command files bb bn receipt ends (reply.InputChanged path first second) = ⊥
-RunsOn tool honest command files bb bn receipt ends (reply.SourceFault path) = ⊥
-RunsOn tool honest command files bb bn receipt ends (reply.Blocked path) = ⊥
-RunsOn tool honest command files bb bn receipt ends (reply.BadRequest bad) = ⊥
-RunsOn tool honest command files bb bn receipt ends reply.NoMemory = ⊥
+RunsOn r tools gathered receipt ends (reply.NotRemotable why) = ⊥
+RunsOn r tools gathered receipt ends (reply.InputMissing path) = ⊥
+RunsOn r tools gathered receipt ends (reply.InputChanged path first second) = ⊥
+RunsOn r tools gathered receipt ends (reply.SourceFault path) = ⊥
+RunsOn r tools gathered receipt ends (reply.TooLarge limit n path) = ⊥
+RunsOn r tools gathered receipt ends (reply.Blocked path) = ⊥
+RunsOn r tools gathered receipt ends (reply.BadRequest bad) = ⊥
+RunsOn r tools gathered receipt ends reply.NoMemory = ⊥
 
--- Each reply to a request, and what it says: tb and tn are the counts of the source tree, bb and bn those of the benches.
-abbrev pub Answers : (Command → Tree → Outcome) → Type 0 → Request → List Given → ℕ → ℕ → ℕ → ℕ → Option Receipt → List Ended → Reply → Type 0
-Answers tool honest asked answers tb tn bb bn receipt ends (reply.Done exit stdout stderr from number placed) =
-    (outcome : Outcome) × HasRun tool honest asked answers ends outcome
+-- each reply to a request, and what it says
+abbrev pub Answers : ScanGrounds → RunGrounds → Type 0 → Type 0 → Request → Option Receipt → List Ended → Reply → Type 0
+Answers s r stamps tools request receipt ends (reply.Done exit stdout stderr from number placed) =
+    (outcome : Outcome) × HasRun s r stamps tools request ends outcome
     × (reply.Done exit stdout stderr from number placed ≡ done_reply outcome number) × (receipt ≡ Some (record { number = number }))
-Answers tool honest asked answers tb tn bb bn receipt ends (reply.PlaceFault number placed) =
-    (outcome : Outcome) × HasRun tool honest asked answers ends outcome
+Answers s r stamps tools request receipt ends (reply.PlaceFault number placed) =
+    (outcome : Outcome) × HasRun s r stamps tools request ends outcome
     × (placed < length outcome.files) × (receipt ≡ Some (record { number = number }))
-Answers tool honest asked answers tb tn bb bn receipt ends reply.JournalFull =
-    (outcome : Outcome) × HasRun tool honest asked answers ends outcome × (receipt ≡ None)
-Answers tool honest asked answers tb tn bb bn receipt ends (reply.AllFailed failures) =
-    (why : Cause) × HasFailed tool honest asked answers ends bb bn why
+Answers s r stamps tools request receipt ends reply.JournalFull =
+    (outcome : Outcome) × HasRun s r stamps tools request ends outcome × (receipt ≡ None)
+Answers s r stamps tools request receipt ends (reply.AllFailed failures) =
+    (why : Cause) × HasFailed s r stamps tools request ends why
     × (failures ≡ record { attempt = attempt.Local; cause = why } ∷ []) × (receipt ≡ None)
-Answers tool honest asked answers tb tn bb bn receipt ends (reply.InputMissing path) =
-    IsRefused asked answers tb tn receipt ends (fault.InputMissing path)
-Answers tool honest asked answers tb tn bb bn receipt ends (reply.InputChanged path first second) =
-    IsRefused asked answers tb tn receipt ends (fault.InputChanged path first second)
-Answers tool honest asked answers tb tn bb bn receipt ends (reply.SourceFault path) =
-    IsRefused asked answers tb tn receipt ends (fault.SourceFault path)
-Answers tool honest asked answers tb tn bb bn receipt ends (reply.Blocked path) =
-    IsRefused asked answers tb tn receipt ends (fault.Blocked path)
-Answers tool honest asked answers tb tn bb bn receipt ends (reply.BadRequest bad) = ⊥
-Answers tool honest asked answers tb tn bb bn receipt ends reply.NoMemory = receipt ≡ None
+Answers s r stamps tools request receipt ends (reply.NotRemotable why) = IsRefused s r request receipt ends (fault.NotRemotable why)
+Answers s r stamps tools request receipt ends (reply.InputMissing path) = IsRefused s r request receipt ends (fault.InputMissing path)
+Answers s r stamps tools request receipt ends (reply.InputChanged path first second) =
+    IsRefused s r request receipt ends (fault.InputChanged path first second)
+Answers s r stamps tools request receipt ends (reply.SourceFault path) = IsRefused s r request receipt ends (fault.SourceFault path)
+Answers s r stamps tools request receipt ends (reply.TooLarge limit n path) = IsRefused s r request receipt ends (fault.TooLarge limit n path)
+Answers s r stamps tools request receipt ends (reply.Blocked path) = IsRefused s r request receipt ends (fault.Blocked path)
+Answers s r stamps tools request receipt ends (reply.BadRequest bad) = ⊥
+Answers s r stamps tools request receipt ends reply.NoMemory = receipt ≡ None

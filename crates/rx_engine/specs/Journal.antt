@@ -29,9 +29,11 @@ abbrev pub IsPlaced : ℕ → ℕ → ℕ → ℕ → Option Reply → Type 0
 IsPlaced before now count placed (Some (reply.PlaceFault number short)) = (short ≡ placed) × (placed < count) × Rose before now
 IsPlaced before now count placed (Some (reply.Done exit stdout stderr from number all)) = (all ≡ placed) × (placed ≡ count)
 IsPlaced before now count placed (Some (reply.BadRequest bad)) = ⊥
+IsPlaced before now count placed (Some (reply.NotRemotable cause)) = ⊥
 IsPlaced before now count placed (Some (reply.InputMissing path)) = ⊥
 IsPlaced before now count placed (Some (reply.InputChanged path first second)) = ⊥
 IsPlaced before now count placed (Some (reply.SourceFault path)) = ⊥
+IsPlaced before now count placed (Some (reply.TooLarge limit n path)) = ⊥
 IsPlaced before now count placed (Some (reply.AllFailed failures)) = ⊥
 IsPlaced before now count placed (Some reply.JournalFull) = ⊥
 IsPlaced before now count placed (Some reply.NoMemory) = ⊥

@@ -1,7 +1,6 @@
 pub mod Answered
 pub mod Answers
 pub mod Fronts
-pub mod Inputs
 pub mod Journal
 pub mod Meanings
 pub mod Proxy

@@ -12,7 +12,8 @@ use Rattle.rx_world.specs.declared.streams.Sink as sink
 use Rattle.rx_world.specs.declared.streams.Source as source
 use Rattle.rx_world.specs.declared.world.World as world
 
-pub record Meanings (I O T B : Type 0) : Type 0 where
+-- of the two source trees, the one that is gathered from and the one that local attempts read
+pub record Meanings (I O T L B : Type 0) : Type 0 where
   pub left : I → Option (List ℕ)
   pub input_faults : I → ℕ
   pub taken : O → Option (List ℕ)
@@ -20,13 +21,16 @@ pub record Meanings (I O T B : Type 0) : Type 0 where
   pub listed : T → Option (List SourceEntry)
   pub given : T → Option (List Given)
   pub tree_faults : T → ℕ
+  pub local_listed : L → Option (List SourceEntry)
+  pub local_given : L → Option (List Given)
+  pub local_faults : L → ℕ
   pub bench_faults : B → ℕ
   pub content : List ℕ → Stamp → List ℕ
   pub tool : Command → Tree → Outcome
 
 -- the meanings that a world and the traits of a desk's parts have
-abbrev pub meanings : {W I O T B C : Type 0} → world.Ghosts W → source.Ghosts I → sink.Ghosts O → sources.Ghosts T W → maker.Ghosts B W C → Meanings I O T B
-meanings w i o t b = record {
+abbrev pub meanings : {W I O T L B C : Type 0} → world.Ghosts W → source.Ghosts I → sink.Ghosts O → sources.Ghosts T W → sources.Ghosts L W → maker.Ghosts B W C → Meanings I O T L B
+meanings w i o t l b = record {
   left = i.left;
   input_faults = i.faults;
   taken = o.taken;
@@ -34,6 +38,9 @@ meanings w i o t b = record {
   listed = t.listed;
   given = t.given;
   tree_faults = t.faults;
+  local_listed = l.listed;
+  local_given = l.given;
+  local_faults = l.faults;
   bench_faults = b.faults;
   content = w.content;
   tool = w.tool;

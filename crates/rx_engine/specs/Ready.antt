@@ -22,13 +22,13 @@ IsOrGivenUp (Ok made) answered = answered ≡ Some made
 IsOrGivenUp (Err e) answered = IfSome answered (IsPlain reply_no_memory)
 
 -- what is ready is a reply to these bytes
-abbrev pub IsReadyAs : Grounds → Type 0 → List ℕ → Option Request → Option Answered → Type 0
-IsReadyAs g honest read request None = IfSome request (λ asked. request_of g.root read ≡ Ok asked)
-IsReadyAs g honest read request (Some answered) =
-    (answered.frame.items ≡ frame_of answered.reply) × Replies g honest read request answered.receipt answered.ends answered.reply
+abbrev pub IsReadyAs : Grounds → Type 0 → Type 0 → List ℕ → Option Request → Option Answered → Type 0
+IsReadyAs g stamps tools read request None = IfSome request (λ asked. request_of g.root read ≡ Ok asked)
+IsReadyAs g stamps tools read request (Some answered) =
+    (answered.frame.items ≡ frame_of answered.reply) × Replies g stamps tools read request answered.receipt answered.ends answered.reply
 
-abbrev pub IsReady : Grounds → Type 0 → List ℕ → Ready → Type 0
-IsReady g honest read ready = IsReadyAs g honest read ready.request ready.answered
+abbrev pub IsReady : Grounds → Type 0 → Type 0 → List ℕ → Ready → Type 0
+IsReady g stamps tools read ready = IsReadyAs g stamps tools read ready.request ready.answered
 
 -- what it enters into the journal, and nothing where nothing is ready
 abbrev pub EntersAs : ℕ → List Entry → List Entry → ℕ → ℕ → ℕ → Option Answered → Type 0

@@ -10,9 +10,9 @@ use Rattle.rx_engine.specs.Proxy.{Runs}
 use Rattle.rx_engine.specs.Quiet.{IsDoneOr, IsQuiet}
 use Rattle.rx_engine.specs.Session.{IsSession}
 
-pub record Serves {D I O T B : Type 0} (m : Meanings I O T B) (keeps : T → Type 0) (parts : D → Parts I O T B) (stamps_honest tools_honest : Type 0)
+pub record Serves {D I O T L B : Type 0} (m : Meanings I O T L B) (keeps : T → Type 0) (keeps_local : L → Type 0) (parts : D → Parts I O T L B) (stamps_honest tools_honest : Type 0)
     (root : List ℕ) (limit : ℕ) (desk back : D) (old new : List Entry) (before now number : ℕ) (t : Transcript) : Type 0 where
-  pub own : IsSession m keeps stamps_honest tools_honest root (parts desk) (parts back) t
+  pub own : IsSession m keeps keeps_local stamps_honest tools_honest root (parts desk) (parts back) t
   pub number_is : t.number ≡ number
   pub journal : IsJournalled limit old new before now t
   pub later : before ≤ now
@@ -25,8 +25,8 @@ EachDone Quiet (desk ∷ desks) (back ∷ backs) (t ∷ ts) =
 EachDone Quiet desks backs ts = ⊥
 
 -- A run, and that each quiet session of it is done where the journal took all entries and the place never failed.
-pub record RunsDone {D I O T B : Type 0} (coming_old coming_new : Option (List D)) (m : Meanings I O T B) (keeps : T → Type 0) (parts : D → Parts I O T B) (stamps_honest tools_honest : Type 0)
+pub record RunsDone {D I O T L B : Type 0} (coming_old coming_new : Option (List D)) (m : Meanings I O T L B) (keeps : T → Type 0) (keeps_local : L → Type 0) (parts : D → Parts I O T L B) (stamps_honest tools_honest : Type 0)
     (root : List ℕ) (limit : ℕ) (journal : List Entry) (faults : ℕ) (handed : List D) (transcripts : List Transcript) : Type 0 where
-  pub runs : Runs coming_old coming_new (Serves m keeps parts stamps_honest tools_honest root limit) [] journal 0 faults handed transcripts
+  pub runs : Runs coming_old coming_new (Serves m keeps keeps_local parts stamps_honest tools_honest root limit) [] journal 0 faults handed transcripts
   pub done : length journal < limit → faults ≡ 0 →
-      EachDone (λ desk back bytes asked. IsQuiet m keeps stamps_honest tools_honest root (parts desk) (parts back) bytes asked) runs.left handed transcripts
+      EachDone (λ desk back bytes asked. IsQuiet m keeps keeps_local stamps_honest tools_honest root (parts desk) (parts back) bytes asked) runs.left handed transcripts

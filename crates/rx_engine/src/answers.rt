@@ -1,24 +1,26 @@
-//! From a request to its reply: the inputs, the attempt, the publication.
+//! From a request to its reply: what its command runs on, the attempt, the publication.
 
 ghost use Rattle.std.specs.Prelude.{◌≡◌, ◌≤◌, ◌∷◌, [], List, None, Some, IfOk, OnErr};
 ghost use Rattle.rx_engine.specs.Answered.{AnswersFault, IsFailure, IsPlain, IsPublication, bad_request, reply_no_memory};
-ghost use Rattle.rx_session.specs.Jobs.{command_of, declared_of};
+ghost use Rattle.rx_engine.specs.Answers.{Answers, RunsOn, Tells, done_end};
+ghost use Rattle.rx_engine.specs.Journal.{Enters, IsBoardAfter};
+ghost use Rattle.rx_scan.specs.Lists.{Listing};
 ghost use Rattle.rx_session.specs.Replies.{frame_of};
 ghost use Rattle.rx_world.specs.declared.sources.Given.{Given};
-ghost use Rattle.rx_engine.specs.Answers.{Answers, RunsOn, done_end};
 ghost use Rattle.rx_world.specs.Answers.{Gives};
-ghost use Rattle.rx_engine.specs.Journal.{Enters, IsBoardAfter};
 
-use crate::inputs::{InputFault, gather_inputs};
-use rx_base::{Items, NoMemory, RelPath, TryClone};
+use rx_base::{Items, NoMemory, TryClone};
 use rx_board::{Board, PublishFault, Receipt};
+use rx_digest_cache::DigestCache;
 use rx_local::run_local;
+use rx_scan::{GatherFault, Gathered, gather};
 use rx_session::{Bad, Reply, Request, Room, command_for, declared_inputs, encode};
 use rx_world::{
-    Attempt, BenchMaker, Cause, Command, End, Ended, Failure, FileOut, Origin, Outcome, Place,
-    Sources, World, keep_outcome,
+    Attempt, BenchMaker, Cause, End, Ended, Failure, Origin, Outcome, Place, Sources, World,
+    keep_outcome,
 };
 use std::alloc::{AllocError, Global};
+use std::sync::Wait;
 
 /// A reply with its frame, and what it stands on.
 #[derive(Drop)]
@@ -56,13 +58,14 @@ pub(crate) fn give_up(alloc: Global) -> Result<Answered, NoMemory>
     plain(alloc, Reply::NoMemory)
 }
 
-/// The answer where the inputs can't be had.
-fn refuse_inputs(alloc: Global, fault: InputFault) -> Result<Answered, NoMemory>
+/// The answer where nothing was gathered.
+fn refuse_gathering(alloc: Global, fault: GatherFault) -> Result<Answered, NoMemory>
     ensures { IfOk result (AnswersFault fault) }
 {
     match fault {
-        InputFault::InputMissing { path } => plain(alloc, Reply::InputMissing { path }),
-        InputFault::InputChanged {
+        GatherFault::NotRemotable { cause } => plain(alloc, Reply::NotRemotable { cause }),
+        GatherFault::InputMissing { path } => plain(alloc, Reply::InputMissing { path }),
+        GatherFault::InputChanged {
             path,
             first,
             second,
@@ -74,9 +77,12 @@ fn refuse_inputs(alloc: Global, fault: InputFault) -> Result<Answered, NoMemory>
                 second,
             },
         ),
-        InputFault::SourceFault { path } => plain(alloc, Reply::SourceFault { path }),
-        InputFault::Blocked { path } => plain(alloc, Reply::Blocked { path }),
-        InputFault::NoMemory => Err(AllocError),
+        GatherFault::SourceFault { path } => plain(alloc, Reply::SourceFault { path }),
+        GatherFault::TooLarge { limit, n, path } => {
+            plain(alloc, Reply::TooLarge { limit, n, path })
+        }
+        GatherFault::Blocked { path } => plain(alloc, Reply::Blocked { path }),
+        GatherFault::NoMemory => Err(AllocError),
     }
 }
 
@@ -171,61 +177,94 @@ fn publish<P: Place>(
     }
 }
 
-/// A copy of the working directory, alone in a list.
-fn directories_of(alloc: Global, command: &Command) -> Result<Vec<RelPath>, NoMemory>
-    ensures { IfOk result (λ list. list.items ≡ command.now.working_directory ∷ []) }
-{
-    let mut list = Vec::new(alloc);
-    list.push(command.working_directory.try_clone(alloc)?)?;
-    Ok(list)
-}
-
-/// Runs the command on its inputs, and publishes its outcome.
-fn run_and_publish<W: World, M: BenchMaker<W>, P: Place>(
+/// Makes the local attempt on what was gathered, and publishes its outcome.
+fn run_and_publish<W: World, L: Sources<W>, M: BenchMaker<W>, P: Place>(
     alloc: Global,
     session: u32,
-    command: &Command,
-    files: &[FileOut],
+    gathered: &Gathered,
+    tree_local: &mut L,
     benches: &mut M,
     board: &mut Board<P>,
 ) -> Result<Answered, NoMemory>
-    ensures ok { IfOk result (λ a. RunsOn W.tool W.tools_honest command.now files.now (M.faults benches.old) (M.faults benches.new) a.receipt a.ends a.reply) }
+    ensures ok { (answers : List Given) × Gives L.listed L.keeps L.given W.content W.stamps_honest tree_local.old tree_local.new answers
+        × IfOk result (λ a. RunsOn (record {
+          tool = W.tool;
+          answers = answers;
+          source_before = L.faults tree_local.old;
+          source_now = L.faults tree_local.new;
+          bench_before = M.faults benches.old;
+          bench_now = M.faults benches.new;
+        }) W.tools_honest gathered.now a.receipt a.ends a.reply) }
     ensures frame { IfOk result (λ a. a.frame.items ≡ frame_of a.reply) }
     ensures journal { IfOk result (λ a. Enters board.old.limit board.old.journal board.new.journal (P.faults board.old.place) (P.faults board.new.place) session a.receipt a.ends (Some a.reply)) }
     ensures err { OnErr result (board.new.journal ≡ board.old.journal) }
     ensures board { IsBoardAfter P.faults P.opening board.old board.new }
+    ensures tree_local { L.faults tree_local.old ≤ L.faults tree_local.new }
     ensures benches { M.faults benches.old ≤ M.faults benches.new }
 {
-    let directories = directories_of(alloc, command)?;
-    match run_local::<W, M>(alloc, command, files, &directories, benches) {
+    match run_local::<W, M, L>(
+        alloc,
+        &gathered.command,
+        gathered.files.as_slice(),
+        gathered.dirs.as_slice(),
+        benches,
+        tree_local,
+    ) {
         Ok(outcome) => publish(alloc, session, outcome, board),
         Err(Cause::NoMemory) => Err(AllocError),
         Err(cause) => fail(alloc, cause),
     }
 }
 
-/// Answers a request.
-pub(crate) fn answer<W: World, S: Sources<W>, M: BenchMaker<W>, P: Place>(
+/// Answers a request: gathers what its command runs on from the one source tree, and lets the local
+/// attempt read it from the other.
+pub(crate) fn answer<W: World, S: Sources<W>, L: Sources<W>, M: BenchMaker<W>, P: Place>(
+    rt: &impl Wait,
     alloc: Global,
     session: u32,
     request: &Request,
     tree: &mut S,
+    tree_local: &mut L,
     benches: &mut M,
     board: &mut Board<P>,
+    cache: &DigestCache<W>,
 ) -> Result<Answered, NoMemory>
-    ensures answers { (answers : List Given) × Gives S.listed S.keeps S.given W.content W.stamps_honest tree.old tree.new answers
-        × IfOk result (λ a. Answers W.tool W.tools_honest request.now answers (S.faults tree.old) (S.faults tree.new) (M.faults benches.old) (M.faults benches.new) a.receipt a.ends a.reply) }
+    ensures answers { (answers : List Given) × (lists : List Listing) × (again : List Given)
+        × Tells S.listed S.keeps S.given W.content W.stamps_honest tree.old tree.new answers lists
+        × Gives L.listed L.keeps L.given W.content W.stamps_honest tree_local.old tree_local.new again
+        × IfOk result (λ a. Answers
+        (record { content = W.content; answers = answers; lists = lists; before = S.faults tree.old; now = S.faults tree.new })
+        (record {
+          tool = W.tool;
+          answers = again;
+          source_before = L.faults tree_local.old;
+          source_now = L.faults tree_local.new;
+          bench_before = M.faults benches.old;
+          bench_now = M.faults benches.new;
+        }) W.stamps_honest W.tools_honest request.now a.receipt a.ends a.reply) }
     ensures frame { IfOk result (λ a. a.frame.items ≡ frame_of a.reply) }
     ensures journal { IfOk result (λ a. Enters board.old.limit board.old.journal board.new.journal (P.faults board.old.place) (P.faults board.new.place) session a.receipt a.ends (Some a.reply)) }
     ensures err { OnErr result (board.new.journal ≡ board.old.journal) }
     ensures board { IsBoardAfter P.faults P.opening board.old board.new }
     ensures tree { S.faults tree.old ≤ S.faults tree.new }
+    ensures tree_local { L.faults tree_local.old ≤ L.faults tree_local.new }
     ensures benches { M.faults benches.old ≤ M.faults benches.new }
 {
     let command = command_for(alloc, request)?;
     let inputs = declared_inputs(alloc, request)?;
-    match gather_inputs::<W, S>(alloc, tree, &command, inputs.as_slice()) {
-        Ok(files) => run_and_publish::<W, M, P>(alloc, session, &command, &files, benches, board),
-        Err(fault) => refuse_inputs(alloc, fault),
+    match gather::<W, S>(
+        rt,
+        alloc,
+        &command,
+        request.kind,
+        inputs.as_slice(),
+        request.strategy,
+        tree,
+        cache,
+    ) {
+        Ok(gathered) => {
+            run_and_publish::<W, L, M, P>(alloc, session, &gathered, tree_local, benches, board)
+        }
+        Err(fault) => refuse_gathering(alloc, fault),
     }
 }

@@ -9,13 +9,15 @@ use rx_world::{BenchMaker, Failed, Sink, Source, Sources, World};
 
 /// The parts of a desk. They are a desk themselves.
 #[derive(Drop)]
-pub struct Parts<I, O, T, B> {
+pub struct Parts<I, O, T, L, B> {
     /// Where the request comes from.
     pub input: I,
     /// Where the reply goes.
     pub output: O,
-    /// The source tree that is looked at.
+    /// The source tree that inputs are gathered from.
     pub tree: T,
+    /// The source tree that local attempts read. It may be another view of the same files.
+    pub tree_local: L,
     /// Where local attempts run.
     pub benches: B,
 }
@@ -28,15 +30,17 @@ pub trait Desk<W: World>: Sized {
 
     type T: Sources<W> + Send;
 
+    type L: Sources<W> + Send;
+
     type B: BenchMaker<W> + Send;
 
     /// The parts.
-    ghost parts: { Self → Parts Self.I Self.O Self.T Self.B };
+    ghost parts: { Self → Parts Self.I Self.O Self.T Self.L Self.B };
 
-    fn split(self) -> Parts<Self::I, Self::O, Self::T, Self::B>
+    fn split(self) -> Parts<Self::I, Self::O, Self::T, Self::L, Self::B>
         ensures { result ≡ parts self };
 
-    fn unite(of: Parts<Self::I, Self::O, Self::T, Self::B>) -> Self
+    fn unite(of: Parts<Self::I, Self::O, Self::T, Self::L, Self::B>) -> Self
         ensures { parts result ≡ of };
 }
 
@@ -45,23 +49,26 @@ impl<
     I: Source + Send,
     O: Sink + Send,
     T: Sources<W> + Send,
+    L: Sources<W> + Send,
     B: BenchMaker<W> + Send,
-> Desk<W> for Parts<I, O, T, B> {
+> Desk<W> for Parts<I, O, T, L, B> {
     type I = I;
 
     type O = O;
 
     type T = T;
 
+    type L = L;
+
     type B = B;
 
     ghost parts = { λ parts. parts };
 
-    fn split(self) -> Parts<I, O, T, B> {
+    fn split(self) -> Parts<I, O, T, L, B> {
         self
     }
 
-    fn unite(of: Parts<I, O, T, B>) -> Parts<I, O, T, B>
+    fn unite(of: Parts<I, O, T, L, B>) -> Parts<I, O, T, L, B>
         ensures { result ≡ of }
     {
         of

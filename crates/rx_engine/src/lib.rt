@@ -3,7 +3,6 @@
 
 mod answers;
 mod desk;
-mod inputs;
 mod proxy;
 mod sessions;
 mod transcripts;

@@ -14,8 +14,10 @@ use crate::transcripts::{Ending, Transcript};
 use crate::words::root_in;
 use rx_base::Text;
 use rx_board::{Board, Entry, JOURNAL_LIMIT};
+use rx_digest_cache::{DIGEST_CACHE_LIMIT, DigestCache};
 use rx_world::{Place, World};
 use std::alloc::Global;
+use std::sync::Wait;
 
 /// Why no more desks are asked for.
 #[derive(Clone, Copy, Debug, PartialEq, Eq)]
@@ -47,17 +49,18 @@ pub struct Ran<W: World, F: Front<W>, P> {
 
 /// Serves the desks of a front, one after the other.
 fn serve_all<W: World, F: Front<W>, P: Place>(
+    rt: &impl Wait,
     alloc: Global,
     front: &mut F,
-    shared: &mut Shared<P>,
+    shared: &mut Shared<W, P>,
     transcripts: &mut Vec<Transcript>,
     desks: &mut Vec<F::D>,
 ) -> Stop
     requires transcripts { transcripts.old.items ≡ [] }
     requires desks { desks.old.items ≡ [] }
     ensures runs { Runs (F.coming front.old) (F.coming front.new)
-        (Serves (meanings W.World F.D.I.Source F.D.O.Sink F.D.T.Sources F.D.B.BenchMaker)
-        F.D.T.keeps F.D.parts W.stamps_honest W.tools_honest shared.old.root shared.old.board.limit)
+        (Serves (meanings W.World F.D.I.Source F.D.O.Sink F.D.T.Sources F.D.L.Sources F.D.B.BenchMaker)
+        F.D.T.keeps F.D.L.keeps F.D.parts W.stamps_honest W.tools_honest shared.old.root shared.old.board.limit)
         shared.old.board.journal shared.new.board.journal (P.faults shared.old.board.place) (P.faults shared.new.board.place) desks.new.items transcripts.new.items }
     ensures stop { IsStop (F.coming front.old) (F.coming front.new) (F.faults front.old) (F.faults front.new) (length transcripts.new.items) result }
     ensures opening { P.opening shared.new.board.place ≡ P.opening shared.old.board.place }
@@ -74,6 +77,7 @@ fn serve_all<W: World, F: Front<W>, P: Place>(
             Err(_) => return Stop::FrontLost,
             Ok(Some(desk)) => {
                 let (transcript, desk) = serve_session::<W, F::D, P>(
+                    rt,
                     alloc,
                     served + 1,
                     desk,
@@ -138,6 +142,7 @@ fn status_of(stop: Stop, transcripts: &[Transcript]) -> u8
 
 /// Serves where the words are known, and answers the status.
 fn serve_words<W: World, F: Front<W>, P: Place>(
+    rt: &impl Wait,
     alloc: Global,
     root: &str,
     front: &mut F,
@@ -148,8 +153,8 @@ fn serve_words<W: World, F: Front<W>, P: Place>(
     requires transcripts { transcripts.old.items ≡ [] }
     requires desks { desks.old.items ≡ [] }
     ensures runs { Runs (F.coming front.old) (F.coming front.new)
-        (Serves (meanings W.World F.D.I.Source F.D.O.Sink F.D.T.Sources F.D.B.BenchMaker)
-        F.D.T.keeps F.D.parts W.stamps_honest W.tools_honest root.now board.limit)
+        (Serves (meanings W.World F.D.I.Source F.D.O.Sink F.D.T.Sources F.D.L.Sources F.D.B.BenchMaker)
+        F.D.T.keeps F.D.L.keeps F.D.parts W.stamps_honest W.tools_honest root.now board.limit)
         board.journal result.1.journal (P.faults board.place) (P.faults result.1.place) desks.new.items transcripts.new.items }
     ensures status { HasStatus (F.coming front.old) (F.coming front.new) (F.faults front.old) (F.faults front.new) result.0 transcripts.new.items }
     ensures opening { P.opening result.1.place ≡ P.opening board.place }
@@ -157,16 +162,24 @@ fn serve_words<W: World, F: Front<W>, P: Place>(
     let Ok(root) = Text::copy_of(alloc, root) else {
         return (4, board);
     };
-    let mut shared = Shared { root, board };
-    let stop = serve_all::<W, F, P>(alloc, front, &mut shared, transcripts, desks);
+    let Ok(cache) = DigestCache::<W>::new(alloc, DIGEST_CACHE_LIMIT) else {
+        return (4, board);
+    };
+    let mut shared = Shared { root, board, cache };
+    let stop = serve_all::<W, F, P>(rt, alloc, front, &mut shared, transcripts, desks);
     let status = status_of(stop, transcripts);
-    let Shared { root: _, board } = shared;
+    let Shared {
+        root: _,
+        board,
+        cache: _,
+    } = shared;
     (status, board)
 }
 
 /// Serves the desks of a front, one after the other, and hands everything back. The words are
 /// `exec --root PATH`.
 pub fn run_proxy<W: World, F: Front<W>, P: Place>(
+    rt: &impl Wait,
     alloc: Global,
     words: &[String],
     front: F,
@@ -180,8 +193,8 @@ pub fn run_proxy<W: World, F: Front<W>, P: Place>(
     // Each desk that left the front has its transcript, with its own part and its part of the journal.
     // Where nothing fails in an honest world, the request that its input tells is done, unless memory runs out.
     ensures sessions { IfSome (root_in words.now) (λ root. RunsDone (F.coming front) (F.coming result.front)
-        (meanings W.World F.D.I.Source F.D.O.Sink F.D.T.Sources F.D.B.BenchMaker)
-        F.D.T.keeps F.D.parts W.stamps_honest W.tools_honest root JOURNAL_LIMIT
+        (meanings W.World F.D.I.Source F.D.O.Sink F.D.T.Sources F.D.L.Sources F.D.B.BenchMaker)
+        F.D.T.keeps F.D.L.keeps F.D.parts W.stamps_honest W.tools_honest root JOURNAL_LIMIT
         result.journal.items (P.faults result.place) result.desks.items result.transcripts.items) }
     // The journal is the sessions' entries, in their order.
     ensures legal { IsLegal 1 result.journal.items result.transcripts.items }
@@ -208,6 +221,7 @@ pub fn run_proxy<W: World, F: Front<W>, P: Place>(
     };
     let board = Board::new(alloc, place, JOURNAL_LIMIT);
     let (status, board) = serve_words::<W, F, P>(
+        rt,
         alloc,
         root,
         &mut front,

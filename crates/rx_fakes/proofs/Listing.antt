@@ -3,10 +3,10 @@ use Rattle.std.proofs.Common.{◌≡◌, ℕ, ◌+◌, ◌||◌, Bool, true, fal
 use Rattle.std.specs.List.{take-map}
 use Rattle.rx_base.specs.Paths.{is_below}
 use Rattle.rx_fakes.specs.Found.{found_of}
-use Rattle.rx_world.proofs.PlacedBy.{map-all_placed_by}
+use Rattle.rx_world.proofs.PlacedBy.{map-first_placed_by}
 use Rattle.rx_world.specs.declared.sources.Found.{Found}
 use Rattle.rx_world.specs.declared.sources.SourceEntry.{SourceEntry}
-use Rattle.rx_world.specs.Files.{all_placed_by}
+use Rattle.rx_world.specs.Files.{first_placed_by}
 use Rattle.rx_world.specs.Sources.{files_under, is_file}
 
 filter-map_case : {X Y : Type 0} (f : X → Y) (b : Bool) (x : X) (xs : List X) (ys : List Y) → ys ≡ map f xs → cond b (f x ∷ ys) ys ≡ map f (cond b (x ∷ xs) xs)
@@ -20,11 +20,11 @@ filter-map f p (x ∷ xs) = filter-map_case f (p (f x)) x (filter (λ y. p (f y)
 abbrev lies_under : List ℕ → Found → Bool
 lies_under under found = is_below found.path under || bytes_eq found.path under
 
-pub lists_found : (entries : List SourceEntry) (under : List ℕ) (most : ℕ) → take (most + 1) (filter (λ f. is_below f.path under || bytes_eq f.path under) (filter (λ f. is_file f.look) (all_placed_by (λ f. f.path) (map found_of entries) []))) ≡ map found_of (take (most + 1) (files_under under entries))
+pub lists_found : (entries : List SourceEntry) (under : List ℕ) (most : ℕ) → take (most + 1) (filter (λ f. is_below f.path under || bytes_eq f.path under) (filter (λ f. is_file f.look) (first_placed_by (λ f. f.path) (map found_of entries)))) ≡ map found_of (take (most + 1) (files_under under entries))
 lists_found entries under most =
-    let ordered = all_placed_by (λ (e : SourceEntry). e.path) entries [] in
+    let ordered = first_placed_by (λ (e : SourceEntry). e.path) entries in
     let is_file_found = λ (f : Found). is_file f.look in
-    ap (λ s. take (most + 1) (filter (lies_under under) (filter is_file_found s))) (sym (map-all_placed_by found_of (λ f. f.path) entries []))
+    ap (λ s. take (most + 1) (filter (lies_under under) (filter is_file_found s))) (sym (map-first_placed_by found_of (λ f. f.path) entries))
     ∙ ap (λ s. take (most + 1) (filter (lies_under under) s)) (filter-map found_of is_file_found ordered)
     ∙ ap (take (most + 1)) (filter-map found_of (lies_under under) (filter (λ e. is_file e.look) ordered))
     ∙ take-map found_of (most + 1) (files_under under entries)

@@ -7,7 +7,13 @@ use rx_engine::{Front, Parts};
 use rx_world::{Contents, Failed, Toy};
 
 /// A desk whose parts are in memory.
-pub type MemoryDesk<K> = Parts<MemorySource, MemorySink, MemorySources<K>, ToyBenches>;
+pub type MemoryDesk<K> = Parts<
+    MemorySource,
+    MemorySink,
+    MemorySources<K>,
+    MemorySources<K>,
+    ToyBenches,
+>;
 
 /// Desks in memory, of which the first is given first.
 #[derive(Drop)]

@@ -4,7 +4,7 @@ ghost use Rattle.std.specs.Prelude.{◌≡◌, ◌+◌, ◌||◌, [], IfOk, Some
 ghost use Rattle.std.specs.Str.{bytes_eq};
 ghost use Rattle.rx_base.specs.Paths.{is_below};
 ghost use Rattle.rx_fakes.specs.Found.{found_of};
-ghost use Rattle.rx_world.specs.Files.{all_placed_by};
+ghost use Rattle.rx_world.specs.Files.{first_placed_by};
 ghost use Rattle.rx_world.specs.Sources.{Lists, is_file};
 
 use crate::placing::place_item;
@@ -28,12 +28,14 @@ pub(crate) fn list_files(
     Ok(Items::from_vec(found))
 }
 
-/// All that is found, in the order of the paths.
+/// All that is found, in the order of the paths. Of two entries at one path the first counts, so they
+/// are placed from the last on.
 fn in_order(alloc: Global, entries: &[SourceEntry]) -> Result<Vec<Found>, NoMemory>
-    ensures { IfOk result (λ found. found.items ≡ all_placed_by (λ f. f.path) (map found_of entries.now) []) }
+    ensures { IfOk result (λ found. found.items ≡ first_placed_by (λ f. f.path) (map found_of entries.now)) }
 {
     let mut found = Vec::new(alloc);
-    for entry in entries {
+    for at in (0..entries.len()).rev() {
+        let entry = &entries[at];
         let next = Found {
             path: entry.path.try_clone(alloc)?,
             look: entry.look,

@@ -1,1 +1,3 @@
 mod Lacking
+mod HonestRuns
+pub mod Staging

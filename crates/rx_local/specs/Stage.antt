@@ -1,9 +1,23 @@
 -- What is put on a bench, one after the other.
-use Rattle.std.specs.Prelude.{◌≡◌, ℕ, List, Option}
+use Rattle.std.specs.Prelude.{◌≡◌, ℕ, List, [], ◌∷◌, ◌++◌, Option}
+use Rattle.rx_base.specs.Digests.{digest_of}
 use Rattle.rx_base.specs.Told.{Told}
+use Rattle.rx_world.specs.declared.attempts.BenchStep.{BenchStep}
+use Rattle.rx_world.specs.declared.attempts.BenchStep.TheVariants.{Make, MakeDir, Put, Run, Take}
+use Rattle.rx_world.specs.declared.attempts.Cause.{Cause}
+use Rattle.rx_world.specs.declared.attempts.Cause.TheVariants.{BenchFault, InputChanged, NoMemory, OutputMissing, SourceFault}
+use Rattle.rx_world.specs.declared.input_files.InputFile.{InputFile}
+use Rattle.rx_world.specs.declared.looks.Seen.{Seen}
+use Rattle.rx_world.specs.declared.looks.Stamp.{Stamp}
 use Rattle.rx_world.specs.declared.outcomes.FileOut.{FileOut}
+use Rattle.rx_world.specs.declared.sources.Given.{Given}
+use Rattle.rx_world.specs.declared.sources.SourceEntry.{SourceEntry}
 use Rattle.rx_world.specs.declared.trees.Tree.{Tree}
+use Rattle.rx_world.specs.Answers.{Gives}
+use Rattle.rx_world.specs.Causes.{Rose}
+use Rattle.rx_world.specs.Sources.{given_bytes}
 use Rattle.rx_world.specs.Trees.{tree_with_directories, tree_with_files}
+use Rattle.rx_local.specs.Reads.{IsChange, look_of}
 
 -- all these files are put into the tree
 abbrev pub PutsAll : Option Tree → Option Tree → List FileOut → Type 0
@@ -12,3 +26,81 @@ PutsAll old new files = Told old new (λ x y. y ≡ tree_with_files files x)
 -- all these directories are made in the tree
 abbrev pub MakesAll : Option Tree → Option Tree → List (List ℕ) → Type 0
 MakesAll old new paths = Told old new (λ x y. y ≡ tree_with_directories paths x)
+
+-- The file was read as it was gathered, in its look and its digest, and these bytes were staged at its path, with its mark.
+pub record IsStaged (file : InputFile) (answer : Given) (staged : FileOut) : Type 0 where
+  pub read : answer ≡ given_bytes file.path (look_of file) staged.bytes
+  pub digest_is : digest_of staged.bytes ≡ file.digest
+  pub path_is : staged.path ≡ file.path
+  pub mark_is : staged.executable ≡ file.executable
+
+-- each file was read just once, in order, and staged
+abbrev pub AreStaged : List InputFile → List Given → List FileOut → Type 0
+AreStaged [] [] [] = Unit {0}
+AreStaged (file ∷ files) (answer ∷ answers) (copy ∷ copies) = IsStaged file answer copy × AreStaged files answers copies
+AreStaged files answers copies = ⊥
+
+-- The files of a front were staged; these are left, and the source tree gave these answers after those of the front.
+pub record IsFront (files rest : List InputFile) (answers last : List Given) : Type 0 where
+  pub front : List InputFile
+  pub read : List Given
+  pub staged : List FileOut
+  pub files_are : files ≡ front ++ rest
+  pub answers_are : answers ≡ read ++ last
+  pub each : AreStaged front read staged
+
+-- the next file after a front was read, and isn't as it was gathered
+pub record IsChangedInput (files : List InputFile) (answers : List Given) (path : List ℕ) (first second : Seen) : Type 0 where
+  pub file : InputFile
+  pub rest : List InputFile
+  pub last : List Given
+  pub front : IsFront files (file ∷ rest) answers last
+  pub change : IsChange file last path first second
+
+-- the next file after a front couldn't be read
+pub record IsLostInput (files : List InputFile) (answers : List Given) (path : List ℕ) : Type 0 where
+  pub file : InputFile
+  pub rest : List InputFile
+  pub front : IsFront files (file ∷ rest) answers []
+  pub path_is : path ≡ file.path
+
+-- the next file after a front was read as it was gathered, and couldn't be put
+pub record IsUnputInput (files : List InputFile) (answers : List Given) : Type 0 where
+  pub file : InputFile
+  pub rest : List InputFile
+  pub bytes : List ℕ
+  pub front : IsFront files (file ∷ rest) answers (given_bytes file.path (look_of file) bytes ∷ [])
+  pub digest_is : digest_of bytes ≡ file.digest
+
+-- each cause for which the files don't stand on the bench
+abbrev pub IsStageCause : List InputFile → List Given → Cause → Type 0
+IsStageCause files answers (BenchFault step) = (step ≡ Put) × IsUnputInput files answers
+IsStageCause files answers (InputChanged path first second) = IsChangedInput files answers path first second
+IsStageCause files answers (SourceFault path) = IsLostInput files answers path
+IsStageCause files answers (OutputMissing path) = ⊥
+IsStageCause files answers NoMemory = Unit {0}
+
+-- From one state of a source tree to another all these files were staged, and this holds of what was put.
+pub record HasStaged {T : Type 0} (listed : T → Option (List SourceEntry)) (keeps : T → Type 0) (given : T → Option (List Given))
+    (content : List ℕ → Stamp → List ℕ) (honest : Type 0) (before after : T) (files : List InputFile) (IsPut : List FileOut → Type 0) : Type 0 where
+  pub answers : List Given
+  pub staged : List FileOut
+  pub gives : Gives listed keeps given content honest before after answers
+  pub each : AreStaged files answers staged
+  pub put : IsPut staged
+
+-- the steps at which all files stand on the bench
+abbrev pub IsAfterFiles : BenchStep → Type 0
+IsAfterFiles Make = ⊥
+IsAfterFiles Put = ⊥
+IsAfterFiles MakeDir = Unit {0}
+IsAfterFiles Run = Unit {0}
+IsAfterFiles Take = Unit {0}
+
+-- each cause of such a step
+abbrev pub IsStepCause : ℕ → ℕ → Cause → Type 0
+IsStepCause before now (BenchFault step) = IsAfterFiles step × Rose before now
+IsStepCause before now (OutputMissing path) = Unit {0}
+IsStepCause before now (InputChanged path first second) = ⊥
+IsStepCause before now (SourceFault path) = ⊥
+IsStepCause before now NoMemory = Unit {0}

@@ -1,8 +1,10 @@
-//! The local attempt: one run of a command on a fresh bench of this machine. What a bench is stands
-//! in `rx_world`; nothing here opens a file or starts a program.
+//! The local attempt: one run of a command on a fresh bench of this machine, over files that are read
+//! again. What a bench and a source tree are stands in `rx_world`; nothing here opens a file or starts
+//! a program.
 #![tactic(auto)]
 
 mod local;
+mod reads;
 mod stage;
 mod take;
 

@@ -1,39 +1,99 @@
 //! What stands on a bench before a run: the files, the directories, and those of the outputs.
 
-ghost use Rattle.std.specs.Prelude.{◌≡◌, ◌≤◌, option_to_list, IfErr, OnOk};
+ghost use Rattle.std.specs.Prelude.{◌≡◌, ◌≤◌, [], ◌∷◌, List, option_to_list, IfErr, OnOk};
 ghost use Rattle.rx_base.specs.Paths.{parent_of};
 ghost use Rattle.rx_base.specs.Told.{Told};
+ghost use Rattle.rx_world.specs.declared.failures.Refused.TheVariants.{Failed as failed};
+ghost use Rattle.rx_world.specs.declared.sources.Given.{Given};
+ghost use Rattle.rx_world.specs.Answers.{Gives};
 ghost use Rattle.rx_world.specs.Causes.{HasCause, HasCauseOf};
 ghost use Rattle.rx_world.specs.Trees.{parents_of, tree_with_directories, tree_with_files, with_parents};
-ghost use Rattle.rx_world.specs.declared.failures.Refused.TheVariants.{Failed as failed};
-ghost use Rattle.rx_local.specs.Local.{IfMissing, IsCounted};
-ghost use Rattle.rx_local.specs.Stage.{MakesAll, PutsAll};
+ghost use Rattle.rx_local.specs.Local.{IfMissing, IsCauseOf, IsCounted};
+ghost use Rattle.rx_local.specs.Stage.{HasStaged, IsStepCause, IsStageCause, MakesAll, PutsAll};
 
+use crate::reads::read_again;
 use crate::take::cause_of;
 use rx_base::RelPath;
-use rx_world::{Bench, BenchStep, Cause, Failed, FileOut, Refused, World};
+use rx_world::{Bench, BenchStep, Cause, Command, Failed, InputFile, Refused, Sources, World};
 use std::alloc::Global;
 
-/// Makes a bench ready for a command with these outputs.
-pub fn prepare<W: World, B: Bench<W>>(
+/// Makes a bench ready for a command.
+pub fn prepare<W: World, B: Bench<W>, S: Sources<W>>(
+    alloc: Global,
+    command: &Command,
+    files: &[InputFile],
+    directories: &[RelPath],
+    bench: &mut B,
+    sources: &mut S,
+) -> Result<(), Cause>
+    ensures ok { OnOk result (HasStaged S.listed S.keeps S.given W.content W.stamps_honest sources.old sources.new files.now
+        (λ staged. Told (B.tree bench.old) (B.tree bench.new) (λ x y. y ≡ with_parents command.now.outputs (tree_with_directories directories.now (tree_with_files staged x))))) }
+    ensures err { IfErr result (λ cause. (answers : List Given) × Gives S.listed S.keeps S.given W.content W.stamps_honest sources.old sources.new answers
+        × IsCauseOf W.tool W.tools_honest command.now files.now directories.now answers cause) }
+    ensures missing { IfErr result (λ cause. IfMissing cause (λ path. ⊥)) }
+    ensures runs { B.runs bench.new ≡ B.runs bench.old }
+    ensures later { (B.faults bench.old ≤ B.faults bench.new) × (S.faults sources.old ≤ S.faults sources.new) }
+    ensures cause { IfErr result (IsCounted (B.faults bench.old) (B.faults bench.new) (S.faults sources.old) (S.faults sources.new)) }
+{
+    stage_files::<W, B, S>(alloc, files, bench, sources)?;
+    make_all::<W, B>(alloc, command.outputs.as_slice(), directories, bench)
+}
+
+/// Reads the files in their order, and puts each before the next is read.
+fn stage_files<W: World, B: Bench<W>, S: Sources<W>>(
+    alloc: Global,
+    files: &[InputFile],
+    bench: &mut B,
+    sources: &mut S,
+) -> Result<(), Cause>
+    ensures ok { OnOk result (HasStaged S.listed S.keeps S.given W.content W.stamps_honest sources.old sources.new files.now (PutsAll (B.tree bench.old) (B.tree bench.new))) }
+    ensures err { IfErr result (λ cause. (answers : List Given) × Gives S.listed S.keeps S.given W.content W.stamps_honest sources.old sources.new answers
+        × IsStageCause files.now answers cause) }
+    ensures runs { B.runs bench.new ≡ B.runs bench.old }
+    ensures later { (B.faults bench.old ≤ B.faults bench.new) × (S.faults sources.old ≤ S.faults sources.new) }
+    ensures cause { IfErr result (IsCounted (B.faults bench.old) (B.faults bench.new) (S.faults sources.old) (S.faults sources.new)) }
+{
+    for file in files {
+        stage_file::<W, B, S>(alloc, file, bench, sources)?;
+    }
+    Ok(())
+}
+
+fn stage_file<W: World, B: Bench<W>, S: Sources<W>>(
+    alloc: Global,
+    file: &InputFile,
+    bench: &mut B,
+    sources: &mut S,
+) -> Result<(), Cause>
+    ensures ok { OnOk result (HasStaged S.listed S.keeps S.given W.content W.stamps_honest sources.old sources.new (file.now ∷ []) (PutsAll (B.tree bench.old) (B.tree bench.new))) }
+    ensures err { IfErr result (λ cause. (answers : List Given) × Gives S.listed S.keeps S.given W.content W.stamps_honest sources.old sources.new answers
+        × IsStageCause (file.now ∷ []) answers cause) }
+    ensures runs { B.runs bench.new ≡ B.runs bench.old }
+    ensures later { (B.faults bench.old ≤ B.faults bench.new) × (S.faults sources.old ≤ S.faults sources.new) }
+    ensures cause { IfErr result (IsCounted (B.faults bench.old) (B.faults bench.new) (S.faults sources.old) (S.faults sources.new)) }
+{
+    let bytes = read_again::<W, S>(alloc, file, sources)?;
+    match bench.put(&file.path, bytes.as_slice(), file.executable) {
+        Ok(()) => Ok(()),
+        Err(_) => Err(Cause::BenchFault {
+            step: BenchStep::Put,
+        }),
+    }
+}
+
+/// Makes the directories, and then those in which the outputs are to stand.
+fn make_all<W: World, B: Bench<W>>(
     alloc: Global,
     outputs: &[RelPath],
-    files: &[FileOut],
     directories: &[RelPath],
     bench: &mut B,
 ) -> Result<(), Cause>
-    ensures tree { OnOk result (Told (B.tree bench.old) (B.tree bench.new) (λ x y.
-        y ≡ with_parents outputs.now (tree_with_directories directories.now (tree_with_files files.now x)))) }
+    ensures tree { OnOk result (Told (B.tree bench.old) (B.tree bench.new) (λ x y. y ≡ with_parents outputs.now (tree_with_directories directories.now x))) }
     ensures runs { B.runs bench.new ≡ B.runs bench.old }
     ensures later { B.faults bench.old ≤ B.faults bench.new }
-    ensures cause { IfErr result (IsCounted (B.faults bench.old) (B.faults bench.new)) }
+    ensures cause { IfErr result (IsStepCause (B.faults bench.old) (B.faults bench.new)) }
     ensures missing { IfErr result (λ cause. IfMissing cause (λ path. ⊥)) }
 {
-    let Ok(()) = put_files::<W, B>(files, bench) else {
-        return Err(Cause::BenchFault {
-            step: BenchStep::Put,
-        });
-    };
     let Ok(()) = make_directories::<W, B>(directories, bench) else {
         return Err(Cause::BenchFault {
             step: BenchStep::MakeDir,
@@ -43,17 +103,6 @@ pub fn prepare<W: World, B: Bench<W>>(
         Ok(()) => Ok(()),
         Err(refused) => Err(cause_of(refused, BenchStep::MakeDir)),
     }
-}
-
-fn put_files<W: World, B: Bench<W>>(files: &[FileOut], bench: &mut B) -> Result<(), Failed>
-    ensures put { OnOk result (PutsAll (B.tree bench.old) (B.tree bench.new) files.now) }
-    ensures runs { B.runs bench.new ≡ B.runs bench.old }
-    ensures cause { HasCause (B.faults bench.old) (B.faults bench.new) result }
-{
-    for file in files {
-        bench.put(&file.path, file.bytes.as_slice(), file.executable)?;
-    }
-    Ok(())
 }
 
 fn make_directories<W: World, B: Bench<W>>(

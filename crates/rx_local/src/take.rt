@@ -3,7 +3,8 @@
 ghost use Rattle.std.specs.Prelude.{◌≡◌, ◌≤◌, None, Some, map, IfErr, IfOk, IfSome};
 ghost use Rattle.rx_world.specs.Benches.{Takes};
 ghost use Rattle.rx_world.specs.Files.{cut_files};
-ghost use Rattle.rx_local.specs.Local.{IfMissing, IsCounted, cause_at, first_missing};
+ghost use Rattle.rx_local.specs.Local.{IfMissing, cause_at, first_missing};
+ghost use Rattle.rx_local.specs.Stage.{IsStepCause};
 
 use rx_base::{RelPath, TryClone};
 use rx_world::{Bench, BenchStep, Cause, FileOut, Refused, World};
@@ -20,7 +21,7 @@ pub fn take_outputs<W: World, B: Bench<W>>(
     ensures same { B.tree bench.new ≡ B.tree bench.old }
     ensures runs { B.runs bench.new ≡ B.runs bench.old }
     ensures later { B.faults bench.old ≤ B.faults bench.new }
-    ensures cause { IfErr result (IsCounted (B.faults bench.old) (B.faults bench.new)) }
+    ensures cause { IfErr result (IsStepCause (B.faults bench.old) (B.faults bench.new)) }
     ensures missing { IfErr result (λ cause. IfMissing cause (λ path. IfSome (B.tree bench.old) (λ tree. first_missing outputs.now tree.files ≡ Some path))) }
 {
     let Ok(mut files) = Vec::with_capacity(alloc, outputs.len()) else {
@@ -45,7 +46,7 @@ fn take_output<W: World, B: Bench<W>>(
     ensures same { B.tree bench.new ≡ B.tree bench.old }
     ensures runs { B.runs bench.new ≡ B.runs bench.old }
     ensures later { B.faults bench.old ≤ B.faults bench.new }
-    ensures cause { IfErr result (IsCounted (B.faults bench.old) (B.faults bench.new)) }
+    ensures cause { IfErr result (IsStepCause (B.faults bench.old) (B.faults bench.new)) }
     ensures missing { IfErr result (λ cause. IfMissing cause (λ missing. (missing ≡ path.now) × Takes (B.tree bench.old) path.now None)) }
 {
     match bench.take(path) {

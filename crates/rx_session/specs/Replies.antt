@@ -17,6 +17,10 @@ use Rattle.rx_world.specs.declared.attempts.Origin.TheVariants as origins
 use Rattle.rx_world.specs.declared.looks.Look.{Look}
 use Rattle.rx_world.specs.declared.looks.Look.TheVariants as looks
 use Rattle.rx_world.specs.declared.looks.Seen.{Seen}
+use Rattle.rx_world.specs.declared.refusals.Limit.{Limit}
+use Rattle.rx_world.specs.declared.refusals.Limit.TheVariants as limits
+use Rattle.rx_world.specs.declared.refusals.LocalCause.{LocalCause}
+use Rattle.rx_world.specs.declared.refusals.LocalCause.TheVariants as locals
 use Rattle.rx_session.specs.declared.replies.Reply.{Reply}
 use Rattle.rx_session.specs.declared.replies.Reply.TheVariants as replies
 use Rattle.rx_session.specs.Bad.{reason_number}
@@ -80,10 +84,13 @@ step_number steps.Put = 3
 step_number steps.Run = 4
 step_number steps.Take = 5
 
--- cause 2, value 3, path 4, of a local attempt
+-- cause 2, value 3, path 4, first 5, second 6, of a local attempt
 abbrev pub cause_part : Cause → List ℕ
 cause_part (causes.BenchFault step) = number_part 2 1 ++ number_part 3 (step_number step)
 cause_part (causes.OutputMissing path) = number_part 2 2 ++ bytes_part 4 path
+cause_part (causes.InputChanged path first second) =
+    number_part 2 3 ++ bytes_part 4 path ++ bytes_field 5 (seen_message first) ++ bytes_field 6 (seen_message second)
+cause_part (causes.SourceFault path) = number_part 2 5 ++ bytes_part 4 path
 cause_part causes.NoMemory = number_part 2 7
 
 -- attempt 1, and its cause
@@ -97,15 +104,34 @@ origin_number origins.Local = 1
 origin_number origins.Remote = 2
 origin_number origins.Cache = 3
 
+-- reason 8, and in field 10 the word or the path that keeps a command on this machine
+abbrev pub local_cause_part : LocalCause → List ℕ
+local_cause_part (locals.Word word) = number_part 8 1 ++ bytes_part 10 word
+local_cause_part (locals.Path path) = number_part 8 2 ++ bytes_part 10 path
+
+abbrev pub limit_number : Limit → ℕ
+limit_number limits.ScanFiles = 1
+limit_number limits.FileBytes = 2
+limit_number limits.ScanBytes = 3
+limit_number limits.ListFiles = 4
+limit_number limits.ListBytes = 5
+
+-- path 10, left out where there is none
+abbrev pub path_part : Option (List ℕ) → List ℕ
+path_part None = []
+path_part (Some path) = bytes_part 10 path
+
 -- kind 1, exit 2, stdout 3, stderr 4, origin 5, receipt 6, placed 7, reason 8, value 9, path 10, first 11, second 12, ends 13
 unfoldable pub payload_of : Reply → List ℕ
 payload_of (replies.Done exit stdout stderr origin receipt placed) =
     signed_part 2 exit ++ bytes_part 3 stdout ++ bytes_part 4 stderr ++ number_part 5 (origin_number origin) ++ number_part 6 receipt ++ number_part 7 placed
 payload_of (replies.BadRequest bad) = number_part 1 1 ++ number_part 8 (reason_number bad.reason) ++ number_part 9 bad.value
+payload_of (replies.NotRemotable cause) = number_part 1 2 ++ local_cause_part cause
 payload_of (replies.InputMissing path) = number_part 1 3 ++ bytes_part 10 path
 payload_of (replies.InputChanged path first second) =
     number_part 1 4 ++ bytes_part 10 path ++ bytes_field 11 (seen_message first) ++ bytes_field 12 (seen_message second)
 payload_of (replies.SourceFault path) = number_part 1 5 ++ bytes_part 10 path
+payload_of (replies.TooLarge limit n path) = number_part 1 6 ++ number_part 8 (limit_number limit) ++ number_part 9 n ++ path_part path
 payload_of (replies.AllFailed failures) = number_part 1 7 ++ flat_map (λ failure. bytes_field 13 (end_message failure)) failures
 payload_of (replies.PlaceFault receipt placed) = number_part 1 9 ++ number_part 6 receipt ++ number_part 7 placed
 payload_of replies.JournalFull = number_part 1 10

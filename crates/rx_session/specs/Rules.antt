@@ -125,7 +125,6 @@ bad_field raw =
 unfoldable pub unbuilt_field : RawRequest → Option ℕ
 unbuilt_field raw =
     if not (raw.strategy == 1) then Some 6
-    else if not (raw.kind == 1) then Some 7
     else if not (raw.watch == 0) then Some 13
     else None
 

@@ -12,6 +12,7 @@ mod output_rules;
 mod parts;
 mod paths_in;
 mod raw_request;
+mod refusal_parts;
 mod replies;
 mod reply_parts;
 mod requests;

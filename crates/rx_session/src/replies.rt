@@ -10,9 +10,10 @@ ghost use Rattle.rx_session.specs.declared.replies.Reply.TheVariants.{PlaceFault
 
 use crate::bad::{Bad, BadReason};
 use crate::parts::{push_bytes, push_bytes_field, push_number};
-use crate::reply_parts::{end_message, origin_number, seen_message};
+use crate::refusal_parts::{push_not_remotable, push_too_large};
+use crate::reply_parts::{end_message, origin_number, push_both_seen};
 use rx_base::{Bytes, Items, NoMemory, RelPath};
-use rx_world::{Failure, Origin, Seen};
+use rx_world::{Failure, Limit, LocalCause, Origin, Seen};
 use std::alloc::{AllocError, Global};
 
 /// What a session answers: one of these, at its end.
@@ -32,6 +33,10 @@ pub enum Reply {
     BadRequest {
         bad: Bad,
     },
+    /// 2: the request asks for the farm alone, and this keeps its command on this machine.
+    NotRemotable {
+        cause: LocalCause,
+    },
     /// 3: a declared input is absent.
     InputMissing {
         path: RelPath,
@@ -45,6 +50,13 @@ pub enum Reply {
     /// 5: the source tree failed at this path.
     SourceFault {
         path: RelPath,
+    },
+    /// 6: the command's files pass this limit with n: one more than the limit where files are
+    /// counted, else the bytes of the file at the path or, with no path, of all files together.
+    TooLarge {
+        limit: Limit,
+        n: u64,
+        path: Option<RelPath>,
     },
     /// 7: every attempt ended, and none has an outcome that may be published.
     AllFailed {
@@ -147,14 +159,10 @@ fn push_payload(alloc: Global, out: &mut Vec<u8>, reply: &Reply) -> Result<(), N
         } => {
             push_exit(out, *exit, stdout.as_slice(), stderr.as_slice())?;
             push_number(out, 5, origin_number(*origin))?;
-            push_number(out, 6, *receipt)?;
-            push_number(out, 7, *placed)
+            push_receipt(out, *receipt, *placed)
         }
-        Reply::BadRequest { bad } => {
-            push_number(out, 1, 1)?;
-            push_number(out, 8, reason_number(bad.reason))?;
-            push_number(out, 9, bad.value)
-        }
+        Reply::BadRequest { bad } => push_bad_request(out, bad),
+        Reply::NotRemotable { cause } => push_not_remotable(out, cause),
         Reply::InputMissing { path } => push_kind_and_path(out, 3, path),
         Reply::InputChanged {
             path,
@@ -162,10 +170,10 @@ fn push_payload(alloc: Global, out: &mut Vec<u8>, reply: &Reply) -> Result<(), N
             second,
         } => {
             push_kind_and_path(out, 4, path)?;
-            push_bytes_field(out, 11, &seen_message(alloc, first)?)?;
-            push_bytes_field(out, 12, &seen_message(alloc, second)?)
+            push_both_seen(alloc, out, 11, first, second)
         }
         Reply::SourceFault { path } => push_kind_and_path(out, 5, path),
+        Reply::TooLarge { limit, n, path } => push_too_large(out, *limit, *n, path),
         Reply::AllFailed { failures } => {
             push_number(out, 1, 7)?;
             push_failures(alloc, out, failures.as_slice())
@@ -184,6 +192,25 @@ fn push_exit(out: &mut Vec<u8>, exit: i32, stdout: &[u8], stderr: &[u8]) -> Resu
     push_number(out, 2, i64::from(exit).cast_unsigned())?;
     push_bytes(out, 3, stdout)?;
     push_bytes(out, 4, stderr)
+}
+
+/// A receipt 6 and how many files of it were placed 7, in 40 bytes at most.
+fn push_receipt(out: &mut Vec<u8>, receipt: u64, placed: u64) -> Result<(), NoMemory>
+    ensures ok { OnOk result (out.new.items ≡ out.old.items ++ (number_part 6 receipt ++ number_part 7 placed)) }
+    ensures room { vec_len out.old + 40 ≤ vec_capacity out.old → IsOk result }
+    ensures len { vec_len out.new ≤ vec_len out.old + 40 }
+{
+    push_number(out, 6, receipt)?;
+    push_number(out, 7, placed)
+}
+
+/// Why bytes are no request: reason 8, value 9.
+fn push_bad_request(out: &mut Vec<u8>, bad: &Bad) -> Result<(), NoMemory>
+    ensures { OnOk result (out.new.items ≡ out.old.items ++ (number_part 1 1 ++ number_part 8 (reason_number bad.now.reason) ++ number_part 9 bad.now.value)) }
+{
+    push_number(out, 1, 1)?;
+    push_number(out, 8, reason_number(bad.reason))?;
+    push_number(out, 9, bad.value)
 }
 
 /// A reply's number, and its path.
@@ -212,8 +239,7 @@ fn push_place_fault(out: &mut Vec<u8>, receipt: u64, placed: u64) -> Result<(), 
     ensures len { vec_len out.new ≤ vec_len out.old + 60 }
 {
     push_number(out, 1, 9)?;
-    push_number(out, 6, receipt)?;
-    push_number(out, 7, placed)
+    push_receipt(out, receipt, placed)
 }
 
 /// Room for the frame of a place fault, taken before a publication begins, so that nothing after

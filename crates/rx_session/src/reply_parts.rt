@@ -1,10 +1,11 @@
 //! The messages within a reply: what was seen at a path, and how an attempt ended.
 
-ghost use Rattle.std.specs.Prelude.{◌≡◌, ◌++◌, IfOk, OnOk};
-ghost use Rattle.rx_session.specs.Replies.{attempt_number, cause_part, digest_message, digest_part, end_message, executable_number, look_part, origin_number, seen_message, step_number};
+ghost use Rattle.std.specs.Prelude.{◌≡◌, ◌<◌, ◌+◌, ◌^◌, ◌++◌, IfOk, OnOk};
+ghost use Rattle.rx_wire.specs.Out.{bytes_field};
+ghost use Rattle.rx_session.specs.Replies.{attempt_number, bytes_part, cause_part, digest_message, digest_part, end_message, executable_number, look_part, number_part, origin_number, seen_message, step_number};
 
 use crate::parts::{push_bytes, push_bytes_field, push_number};
-use rx_base::{Digest, NoMemory};
+use rx_base::{Digest, NoMemory, RelPath};
 use rx_world::{Attempt, BenchStep, Cause, Failure, Look, Origin, Seen};
 use std::alloc::Global;
 
@@ -71,7 +72,7 @@ fn executable_number(look: &Look) -> u64
 
 /// What was seen, as a message: the look, digest 5, executable 6.
 #[tactic(auto, unfolding(crate::specs::Replies::seen_message))]
-pub(crate) fn seen_message(alloc: Global, seen: &Seen) -> Result<Vec<u8>, NoMemory>
+fn seen_message(alloc: Global, seen: &Seen) -> Result<Vec<u8>, NoMemory>
     ensures { IfOk result (λ bytes. bytes.items ≡ seen_message seen.now) }
 {
     let mut out = Vec::new(alloc);
@@ -79,6 +80,22 @@ pub(crate) fn seen_message(alloc: Global, seen: &Seen) -> Result<Vec<u8>, NoMemo
     push_digest(alloc, &mut out, &seen.digest)?;
     push_number(&mut out, 6, executable_number(&seen.look))?;
     Ok(out)
+}
+
+/// Two values that were seen at one path: the first under a field's number, the second under the
+/// next.
+pub(crate) fn push_both_seen(
+    alloc: Global,
+    out: &mut Vec<u8>,
+    number: u32,
+    first: &Seen,
+    second: &Seen,
+) -> Result<(), NoMemory>
+    requires { number + 1 < 2 ^ 29 }
+    ensures { OnOk result (out.new.items ≡ out.old.items ++ (bytes_field number (seen_message first.now) ++ bytes_field (number + 1) (seen_message second.now))) }
+{
+    push_bytes_field(out, number, &seen_message(alloc, first)?)?;
+    push_bytes_field(out, number + 1, &seen_message(alloc, second)?)
 }
 
 fn attempt_number(attempt: Attempt) -> u64
@@ -112,8 +129,8 @@ pub(crate) fn origin_number(origin: Origin) -> u64
     }
 }
 
-/// Why an attempt ended: cause 2, value 3, path 4.
-fn push_cause(out: &mut Vec<u8>, cause: &Cause) -> Result<(), NoMemory>
+/// Why an attempt ended: cause 2, value 3, path 4, first 5, second 6.
+fn push_cause(alloc: Global, out: &mut Vec<u8>, cause: &Cause) -> Result<(), NoMemory>
     ensures { OnOk result (out.new.items ≡ out.old.items ++ cause_part cause.now) }
 {
     match cause {
@@ -121,12 +138,26 @@ fn push_cause(out: &mut Vec<u8>, cause: &Cause) -> Result<(), NoMemory>
             push_number(out, 2, 1)?;
             push_number(out, 3, step_number(*step))
         }
-        Cause::OutputMissing { path } => {
-            push_number(out, 2, 2)?;
-            push_bytes(out, 4, path.as_str().as_bytes())
+        Cause::OutputMissing { path } => push_cause_and_path(out, 2, path),
+        Cause::InputChanged {
+            path,
+            first,
+            second,
+        } => {
+            push_cause_and_path(out, 3, path)?;
+            push_both_seen(alloc, out, 5, first, second)
         }
+        Cause::SourceFault { path } => push_cause_and_path(out, 5, path),
         Cause::NoMemory => push_number(out, 2, 7),
     }
+}
+
+/// A cause's number, and its path.
+fn push_cause_and_path(out: &mut Vec<u8>, cause: u64, path: &RelPath) -> Result<(), NoMemory>
+    ensures { OnOk result (out.new.items ≡ out.old.items ++ (number_part 2 cause ++ bytes_part 4 path.now)) }
+{
+    push_number(out, 2, cause)?;
+    push_bytes(out, 4, path.as_str().as_bytes())
 }
 
 /// How an attempt ended, as a message: attempt 1, then the cause.
@@ -136,6 +167,6 @@ pub(crate) fn end_message(alloc: Global, failure: &Failure) -> Result<Vec<u8>, N
 {
     let mut out = Vec::new(alloc);
     push_number(&mut out, 1, attempt_number(failure.attempt))?;
-    push_cause(&mut out, &failure.cause)?;
+    push_cause(alloc, &mut out, &failure.cause)?;
     Ok(out)
 }

@@ -106,9 +106,6 @@ fn unbuilt_field(raw: &RawRequest) -> Option<u64>
     if raw.strategy != 1 {
         return Some(6);
     }
-    if raw.kind != 1 {
-        return Some(7);
-    }
     if raw.watch != 0 {
         return Some(13);
     }

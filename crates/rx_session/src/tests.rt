@@ -6,9 +6,10 @@ use crate::{
     Bad, BadReason, Reply, Request, Room, SessionFault, command_for, declared_inputs, encode,
     read_request, write_frame,
 };
-use rx_base::{Bytes, Items, RelPath};
+use rx_base::{Bytes, Digest, Items, RelPath, Text};
 use rx_world::{
-    Attempt, BenchStep, Cause, Failed, Failure, Look, Origin, Seen, Sink, Source, Stamp,
+    Attempt, BenchStep, Cause, Failed, Failure, Kind, Limit, LocalCause, Look, Origin, Seen, Sink,
+    Source, Stamp,
 };
 use std::alloc::Global;
 use std::test::Fail;
@@ -63,7 +64,7 @@ const PLAIN: [u8; 18] = *b"\x01\0\0\0\x0d\x08\x01\x12\x02/r\x1a\x01t\x30\x01\x38
 
 #[test]
 fn refuses_frames(rt: HostRuntime) {
-    let rows: [(&[u8], BadReason, u64); 29] = [
+    let rows: [(&[u8], BadReason, u64); 32] = [
         (b"", BadReason::CutShort, 0),
         (b"\x01\0\0\0\x13\x08\x01\x12\x02/", BadReason::CutShort, 10),
         (b"\x04\0\0\0\0", BadReason::BadKind, 0),
@@ -120,6 +121,11 @@ fn refuses_frames(rt: HostRuntime) {
             6,
         ),
         (
+            b"\x01\0\0\0\x0d\x08\x01\x12\x02/r\x1a\x01t\x30\x01\x38\x03",
+            BadReason::BadField,
+            7,
+        ),
+        (
             b"\x01\0\0\0\x0f\x08\x01\x12\x02/r\x1a\x01t\x30\x01\x38\x01\x42\0",
             BadReason::BadField,
             8,
@@ -163,6 +169,17 @@ fn refuses_frames(rt: HostRuntime) {
         ),
         (
             b"\x01\0\0\0\x0f\x08\x01\x12\x02/r\x1a\x01t\x30\x01\x38\x01\x68\x01",
+            BadReason::NotBuilt,
+            13,
+        ),
+        // Compile commands, for the farm with a way back and with a watching client.
+        (
+            b"\x01\0\0\0\x0d\x08\x01\x12\x02/r\x1a\x01t\x30\x03\x38\x02",
+            BadReason::NotBuilt,
+            6,
+        ),
+        (
+            b"\x01\0\0\0\x0f\x08\x01\x12\x02/r\x1a\x01t\x30\x01\x38\x02\x68\x01",
             BadReason::NotBuilt,
             13,
         ),
@@ -217,6 +234,29 @@ fn reads_what_is_asked(rt: HostRuntime) -> Result<(), Fail> {
         assert_eq!(rt; output.as_str(), text);
     }
     assert_eq!(rt; declared_inputs(rt.alloc(), &request)?.len(), 2);
+    Ok(())
+}
+
+#[test]
+fn reads_kinds(rt: HostRuntime) -> Result<(), Fail> {
+    // The compile command declares the whole root.
+    let rows: [(&[u8], Kind, usize); 2] = [
+        (PLAIN.as_slice(), Kind::Tool, 0),
+        (
+            b"\x01\0\0\0\x10\x08\x01\x12\x02/r\x1a\x01t\x30\x01\x38\x02\x42\x01.",
+            Kind::Compile,
+            1,
+        ),
+    ];
+    for (bytes, kind, count) in rows {
+        let request = read(rt.alloc(), bytes, NEVER)?;
+        assert_eq!(rt; request.kind, kind);
+        let inputs = declared_inputs(rt.alloc(), &request)?;
+        assert_eq!(rt; inputs.len(), count);
+        for input in inputs.as_slice() {
+            assert_eq!(rt; input.as_str(), "");
+        }
+    }
     Ok(())
 }
 
@@ -327,6 +367,170 @@ fn encodes_replies(rt: HostRuntime) -> Result<(), Fail> {
         frame.as_slice(),
         b"\x02\0\0\0\x06\x08\x09\x30\x01\x38\x01".as_slice()
     );
+    Ok(())
+}
+
+fn too_large(limit: Limit, n: u64, path: Option<RelPath>) -> Reply {
+    Reply::TooLarge { limit, n, path }
+}
+
+#[test]
+fn encodes_refusals(rt: HostRuntime) -> Result<(), Fail> {
+    let alloc = rt.alloc();
+    let word = Text::copy_of(alloc, "-save-temps")?;
+    let rows: [(Reply, &[u8]); 7] = [
+        (
+            Reply::NotRemotable {
+                cause: LocalCause::Word { word },
+            },
+            b"\x02\0\0\0\x11\x08\x02\x40\x01\x52\x0b-save-temps",
+        ),
+        (
+            Reply::NotRemotable {
+                cause: LocalCause::Path {
+                    path: path(alloc, "a.cc")?,
+                },
+            },
+            b"\x02\0\0\0\x0a\x08\x02\x40\x02\x52\x04a.cc",
+        ),
+        (
+            too_large(Limit::ScanFiles, 20_001, None),
+            b"\x02\0\0\0\x08\x08\x06\x40\x01\x48\xa1\x9c\x01",
+        ),
+        (
+            too_large(Limit::FileBytes, 67_108_865, Some(path(alloc, "a")?)),
+            b"\x02\0\0\0\x0c\x08\x06\x40\x02\x48\x81\x80\x80\x20\x52\x01a",
+        ),
+        (
+            too_large(Limit::ScanBytes, 1_073_741_825, None),
+            b"\x02\0\0\0\x0a\x08\x06\x40\x03\x48\x81\x80\x80\x80\x04",
+        ),
+        (
+            too_large(Limit::ListFiles, 50_001, None),
+            b"\x02\0\0\0\x08\x08\x06\x40\x04\x48\xd1\x86\x03",
+        ),
+        (
+            too_large(Limit::ListBytes, 1_073_741_825, None),
+            b"\x02\0\0\0\x0a\x08\x06\x40\x05\x48\x81\x80\x80\x80\x04",
+        ),
+    ];
+    for (reply, bytes) in rows {
+        assert_eq!(rt; encode(alloc, &reply)?.as_slice(), bytes);
+    }
+    Ok(())
+}
+
+/// Two values of the input `a`, found by an attempt.
+fn changed_since(alloc: Global, first: Seen, second: Seen) -> Result<Reply, Fail> {
+    let path = path(alloc, "a")?;
+    failed(
+        alloc,
+        Cause::InputChanged {
+            path,
+            first,
+            second,
+        },
+    )
+}
+
+fn output_missing(alloc: Global) -> Result<Reply, Fail> {
+    let path = path(alloc, "a")?;
+    failed(alloc, Cause::OutputMissing { path })
+}
+
+fn source_fault(alloc: Global) -> Result<Reply, Fail> {
+    let path = path(alloc, "a")?;
+    failed(alloc, Cause::SourceFault { path })
+}
+
+#[test]
+fn encodes_ends(rt: HostRuntime) -> Result<(), Fail> {
+    let alloc = rt.alloc();
+    let absent = Seen {
+        look: Look::Absent,
+        digest: None,
+    };
+    let rows: [(Reply, &[u8]); 3] = [
+        (
+            output_missing(alloc)?,
+            b"\x02\0\0\0\x0b\x08\x07\x6a\x07\x08\x01\x10\x02\x22\x01a",
+        ),
+        (
+            changed_since(alloc, file(3, 1), absent)?,
+            b"\x02\0\0\0\x15\x08\x07\x6a\x11\x08\x01\x10\x03\x22\x01a\x2a\x06\x08\x01\x10\x03\x20\x01\x32\0",
+        ),
+        (
+            source_fault(alloc)?,
+            b"\x02\0\0\0\x0b\x08\x07\x6a\x07\x08\x01\x10\x05\x22\x01a",
+        ),
+    ];
+    for (reply, bytes) in rows {
+        assert_eq!(rt; encode(alloc, &reply)?.as_slice(), bytes);
+    }
+    Ok(())
+}
+
+/// A file of three bytes with the mark 2^64 + 2, whose hash is one byte 32 times.
+fn content(hash: u8) -> Seen {
+    Seen {
+        look: Look::File {
+            stamp: Stamp {
+                size: 3,
+                mark: 18_446_744_073_709_551_618,
+            },
+            executable: true,
+        },
+        digest: Some(Digest {
+            hash: [hash; 32],
+            size: 3,
+        }),
+    }
+}
+
+/// Such a file as a field: its tag and its message, with the digits of the hash's byte.
+fn push_content(bytes: &mut Vec<u8>, tag: u8, digits: &[u8]) -> Result<(), Fail> {
+    bytes.push(tag)?;
+    bytes.extend_from_slice(b"\x50\x08\x01\x10\x03\x18\x01\x20\x02\x2a\x44\x0a\x40".as_slice())?;
+    for _ in 0..32usize {
+        bytes.extend_from_slice(digits)?;
+    }
+    bytes.extend_from_slice(b"\x10\x03\x30\x01".as_slice())?;
+    Ok(())
+}
+
+/// Two values of the input `a`, found before any attempt.
+fn changed(alloc: Global, first: Seen, second: Seen) -> Result<Reply, Fail> {
+    let path = path(alloc, "a")?;
+    Ok(Reply::InputChanged {
+        path,
+        first,
+        second,
+    })
+}
+
+#[test]
+fn encodes_digests(rt: HostRuntime) -> Result<(), Fail> {
+    let alloc = rt.alloc();
+    let rows: [(Reply, &[u8], u8, u8); 2] = [
+        (
+            changed(alloc, content(0xa5), content(0))?,
+            b"\x02\0\0\0\xa9\x08\x04\x52\x01a",
+            0x5a,
+            0x62,
+        ),
+        (
+            changed_since(alloc, content(0xa5), content(0))?,
+            b"\x02\0\0\0\xb0\x08\x07\x6a\xab\x01\x08\x01\x10\x03\x22\x01a",
+            0x2a,
+            0x32,
+        ),
+    ];
+    for (reply, front, first_tag, second_tag) in rows {
+        let mut bytes = Vec::from_slice(alloc, front)?;
+        push_content(&mut bytes, first_tag, b"a5".as_slice())?;
+        push_content(&mut bytes, second_tag, b"00".as_slice())?;
+        assert_eq!(rt; encode(alloc, &reply)?.as_slice(), bytes.as_slice());
+    }
     Ok(())
 }
 

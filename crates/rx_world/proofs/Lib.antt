@@ -1,2 +1,4 @@
+pub mod Among
 pub mod AnswerLemmas
+pub mod FilesUnder
 pub mod PlacedBy

@@ -2,7 +2,7 @@
 use Rattle.std.proofs.Common.{◌≡◌, ℕ, List, [], ◌∷◌, ◌++◌, Ordering, Less, Equal, Greater, nat_cmp, map, refl, ap, ◌∙◌}
 use Rattle.std.specs.Ordering.{match_ordering}
 use Rattle.std.specs.Cmp.Lexicographic.{slice_cmp}
-use Rattle.rx_world.specs.Files.{all_placed_by, placed_by}
+use Rattle.rx_world.specs.Files.{all_placed_by, first_placed_by, placed_by}
 
 pub all_placed_by-append : {T : Type 0} (path : T → List ℕ) (items : List T) (item : T) (held : List T) → all_placed_by path (items ++ item ∷ []) held ≡ placed_by path item (all_placed_by path items held)
 all_placed_by-append path [] item held = refl
@@ -23,3 +23,8 @@ pub map-all_placed_by : {S T : Type 0} (f : S → T) (path : T → List ℕ) (ne
 map-all_placed_by f path [] items = refl
 map-all_placed_by f path (new ∷ news) items =
     map-all_placed_by f path news (placed_by (λ s. path (f s)) new items) ∙ ap (all_placed_by path (map f news)) (map-placed_by f path new items)
+
+pub map-first_placed_by : {S T : Type 0} (f : S → T) (path : T → List ℕ) (items : List S) → map f (first_placed_by (λ s. path (f s)) items) ≡ first_placed_by path (map f items)
+map-first_placed_by f path [] = refl
+map-first_placed_by f path (item ∷ items) =
+    map-placed_by f path item (first_placed_by (λ s. path (f s)) items) ∙ ap (placed_by path (f item)) (map-first_placed_by f path items)

@@ -16,6 +16,11 @@ abbrev pub all_placed_by : {T : Type 0} → (T → List ℕ) → List T → List
 all_placed_by path [] items = items
 all_placed_by path (new ∷ others) items = all_placed_by path others (placed_by path new items)
 
+-- all of these items in the order of their paths; of two at one path the first counts
+abbrev pub first_placed_by : {T : Type 0} → (T → List ℕ) → List T → List T
+first_placed_by path [] = []
+first_placed_by path (item ∷ items) = placed_by path item (first_placed_by path items)
+
 -- the files with one more of them
 abbrev pub with_file : FileOut → List FileOut → List FileOut
 with_file file files = placed_by (λ f. f.path) file files

@@ -9,7 +9,7 @@ use Rattle.rx_world.specs.declared.looks.Stamp.{Stamp}
 use Rattle.rx_world.specs.declared.sources.Found.{Found}
 use Rattle.rx_world.specs.declared.sources.Given.{Given}
 use Rattle.rx_world.specs.declared.sources.SourceEntry.{SourceEntry}
-use Rattle.rx_world.specs.Files.{all_placed_by}
+use Rattle.rx_world.specs.Files.{first_placed_by}
 
 -- the answers of a look, a read and a list
 abbrev pub given_look : List ℕ → Look → Given
@@ -62,11 +62,11 @@ is_file Absent = false
 is_file Dir = false
 is_file Other = false
 
--- the files of the list at or below a path, in the order of their paths
+-- the files of the list at or below a path, in the order of their paths; of two entries at one path the first counts
 abbrev pub files_under : List ℕ → List SourceEntry → List SourceEntry
 files_under under entries =
     filter (λ entry. is_below entry.path under || bytes_eq entry.path under)
-    (filter (λ entry. is_file entry.look) (all_placed_by (λ entry. entry.path) entries []))
+    (filter (λ entry. is_file entry.look) (first_placed_by (λ entry. entry.path) entries))
 
 -- a list is that of these files, up to one more than so many
 abbrev pub Lists : Option (List SourceEntry) → List ℕ → ℕ → List Found → Type 0

@@ -2,7 +2,7 @@
 
 ghost use Rattle.std.specs.Prelude.{◌≡◌, IfOk};
 
-use crate::{KeptOutcome, Outcome};
+use crate::{KeptOutcome, Outcome, Seen};
 use rx_base::{Items, NoMemory, RelPath, TryClone};
 use std::alloc::Global;
 
@@ -53,9 +53,23 @@ pub enum BenchStep {
 #[derive(Debug, Drop)]
 pub enum Cause {
     /// The bench failed at this step, and the bench maker's count of faults rose.
-    BenchFault { step: BenchStep },
+    BenchFault {
+        step: BenchStep,
+    },
     /// The command ended with code 0 and left no regular file at this output, the least such.
-    OutputMissing { path: RelPath },
+    OutputMissing {
+        path: RelPath,
+    },
+    /// Two values of one input that differ: what was gathered, and what the attempt read.
+    InputChanged {
+        path: RelPath,
+        first: Seen,
+        second: Seen,
+    },
+    /// The attempt's source tree failed at this path, and its count of faults rose.
+    SourceFault {
+        path: RelPath,
+    },
     /// Memory ran out.
     NoMemory,
 }
@@ -87,6 +101,18 @@ impl TryClone for Cause {
         match self {
             Cause::BenchFault { step } => Ok(Cause::BenchFault { step: *step }),
             Cause::OutputMissing { path } => Ok(Cause::OutputMissing {
+                path: path.try_clone(alloc)?,
+            }),
+            Cause::InputChanged {
+                path,
+                first,
+                second,
+            } => Ok(Cause::InputChanged {
+                path: path.try_clone(alloc)?,
+                first: *first,
+                second: *second,
+            }),
+            Cause::SourceFault { path } => Ok(Cause::SourceFault {
                 path: path.try_clone(alloc)?,
             }),
             Cause::NoMemory => Ok(Cause::NoMemory),

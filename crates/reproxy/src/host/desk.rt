@@ -18,6 +18,7 @@ pub(crate) type HostDesk<R, I, O> = Parts<
     HostSource<I>,
     HostSink<O>,
     HostSources<R>,
+    HostSources<R>,
     HostBenches<R>,
 >;
 

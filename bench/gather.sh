@@ -1,0 +1,32 @@
+#!/usr/bin/env bash
+# How long `gather` takes over a source tree in memory: milliseconds a call.
+#
+#   bash bench/gather.sh [ROUNDS]
+#
+# Run by hand, on a machine that does nothing else. The program gather_bench gathers ROUNDS times (9) and times each round by the
+# clock; told is the median. There are 900 headers of some 40,000 bytes, each with ten includes, and a compiler that has four
+# directories to search. A scan reads each file that an include can reach whether or not its digest is kept, so the cache of
+# digests is measured by a tool that declares the headers: with a new cache each time, and with one that has them all. The tree
+# is made before the first round, so that `gather` alone is measured.
+set -eu
+export LC_ALL=C
+
+top=$(cd "$(dirname "$0")/.." && pwd)
+rounds=${1:-9}
+. "$top/scripts/build.sh"
+build_program "$top" gather_bench "${TMPDIR:-/tmp}/gather-bench-build.log" warm 3 1
+bench=$program
+
+# median: the middle one of the lines, from microseconds to milliseconds
+median() {
+    sort -g | awk '{ line[NR] = $1 } END { printf "%.1f", (line[int((NR + 1) / 2)] + line[int((NR + 2) / 2)]) / 2000 }'
+}
+
+# tell WORK WHAT
+tell() {
+    echo "$2: $("$bench" "$1" 900 "$rounds" 2>&1 > /dev/null | median) milliseconds"
+}
+
+tell compile "a translation unit that reaches 900 headers"
+tell cold "a tool that declares them, no digest kept"
+tell warm "a tool that declares them, all digests kept"

@@ -1,0 +1,23 @@
+use Rattle.std.proofs.Common.{[], ◌∷◌, refl}
+use Rattle.std.proofs.lemmas.Result.{err_from_is_err_and}
+use Rattle.rx_local.proofs.Staging.{copy_of, read-cause, read_of, staged-one, unput-one}
+use Rattle.rx_local.proofs.stage.stage_file.Goals as goal
+
+pub returns-in_err-bytes-clause-err : goal.returns-in_err-bytes-clause-err
+returns-in_err-bytes-clause-err g c =
+    let p = err_from_is_err_and c.from_residual.result c.from_residual.ensures.1 in
+    let h = c.in_err-bytes.ensures.err in
+    rw (p.1, p.2) (h.0, h.1, read-cause c.args.file.now _ _ h.0 _ h.2)
+
+pub returns-in-Ok-clause-ok : goal.returns-in-Ok-clause-ok
+returns-in-Ok-clause-ok g c = record {
+  answers = read_of c.args.file.now c.in_ok-bytes.bytes ∷ [];
+  staged = copy_of c.args.file.now c.in_ok-bytes.bytes ∷ [];
+  gives = c.in_ok-bytes.ensures.ok.1;
+  each = staged-one c.args.file.now c.in_ok-bytes.bytes c.in_ok-bytes.ensures.ok.0;
+  put = rw c.as_slice.ensures at c.in-Ok.ensures.put;
+}
+
+pub returns-clause-err : goal.returns-clause-err
+returns-clause-err g c =
+    (_, c.in_ok-bytes.ensures.ok.1, (refl, unput-one c.args.file.now c.in_ok-bytes.bytes c.in_ok-bytes.ensures.ok.0))

@@ -1,0 +1,46 @@
+-- A file of the inputs that is read again.
+use Rattle.std.specs.Prelude.{◌≡◌, ◌≢◌, ◌⊎◌, ℕ, List, [], ◌∷◌, None, Some}
+use Rattle.rx_base.specs.declared.digests.Digest.{Digest}
+use Rattle.rx_base.specs.Digests.{digest_of}
+use Rattle.rx_world.specs.declared.attempts.Cause.{Cause}
+use Rattle.rx_world.specs.declared.attempts.Cause.TheVariants.{BenchFault, InputChanged, NoMemory, OutputMissing, SourceFault}
+use Rattle.rx_world.specs.declared.input_files.InputFile.{InputFile}
+use Rattle.rx_world.specs.declared.looks.Look.{Look}
+use Rattle.rx_world.specs.declared.looks.Look.TheVariants.{File}
+use Rattle.rx_world.specs.declared.looks.Seen.{Seen}
+use Rattle.rx_world.specs.declared.sources.Given.{Given}
+use Rattle.rx_world.specs.Causes.{Rose}
+use Rattle.rx_world.specs.Sources.{given_bytes}
+
+-- the look that a file had when it was gathered
+abbrev pub look_of : InputFile → Look
+look_of file = File file.stamp file.executable
+
+-- what was seen of a file: its look alone, or with the digest of its content
+abbrev pub seen_look : Look → Seen
+seen_look look = record { look = look; digest = None }
+
+abbrev pub seen_content : Look → Digest → Seen
+seen_content look digest = record { look = look; digest = Some digest }
+
+-- What was gathered of the file and what was read of it differ: in the look, or where that is the same in the digest.
+abbrev pub Differ : InputFile → Look → List ℕ → Seen → Seen → Type 0
+Differ file look bytes first second =
+    ((look ≢ look_of file) × (first ≡ seen_look (look_of file)) × (second ≡ seen_look look))
+    ⊎ ((look ≡ look_of file) × (digest_of bytes ≢ file.digest) × (first ≡ seen_content look file.digest) × (second ≡ seen_content look (digest_of bytes)))
+
+-- the file was read, and isn't as it was gathered
+pub record IsChange (file : InputFile) (answers : List Given) (path : List ℕ) (first second : Seen) : Type 0 where
+  pub look : Look
+  pub bytes : List ℕ
+  pub read : answers ≡ given_bytes file.path look bytes ∷ []
+  pub path_is : path ≡ file.path
+  pub differ : Differ file look bytes first second
+
+-- each cause of a file that can't be read as it was gathered, over what was answered and the count of faults
+abbrev pub IsReadCause : InputFile → ℕ → ℕ → List Given → Cause → Type 0
+IsReadCause file before now answers (InputChanged path first second) = IsChange file answers path first second
+IsReadCause file before now answers (SourceFault path) = (answers ≡ []) × (path ≡ file.path) × Rose before now
+IsReadCause file before now answers (BenchFault step) = ⊥
+IsReadCause file before now answers (OutputMissing path) = ⊥
+IsReadCause file before now answers NoMemory = Unit {0}

@@ -1,0 +1,20 @@
+-- The outputs that a command's words name are safe.
+use Rattle.std.proofs.Common.{◌≡◌, ℕ, List, sym, subst}
+use Rattle.std.specs.Prelude.{Some}
+use Rattle.std.specs.List.{AllByRecursion}
+use Rattle.rx_cppflags.specs.declared.readings.Reading.{Reading}
+use Rattle.rx_cppflags.specs.declared.readings.Reading.TheVariants as reading
+use Rattle.rx_cppflags.specs.Readings.{HasSafeOutputs, IsSafeOutput}
+use Rattle.rx_world.specs.declared.commands.Command.{Command}
+use Rattle.rx_scan.specs.declared.words.Said.{Said}
+use Rattle.rx_scan.specs.Words.{outputs_in, said_by}
+
+abbrev Safe : Command → List (List ℕ) → List (List ℕ) → Type 0
+Safe command inputs outputs = AllByRecursion (IsSafeOutput command inputs outputs) outputs
+
+safe-read : (command : Command) (inputs : List (List ℕ)) (read : Reading) → HasSafeOutputs command inputs read → Safe command inputs (outputs_in read)
+safe-read command inputs (reading.Compile source quote_dirs dirs forced sysroots outputs is_c) h = h
+safe-read command inputs (reading.LocalOnly word) h = tt
+
+pub safe-said : (command : Command) (inputs : List (List ℕ)) (read : Reading) (said : Said) → said ≡ said_by command (Some read) → HasSafeOutputs command inputs read → Safe command inputs said.outputs
+safe-said command inputs read said e h = subst (λ (s : Said). Safe command inputs s.outputs) (sym e) (safe-read command inputs read h)

@@ -1,0 +1,15 @@
+use Rattle.std.proofs.Common.{◌≡◌, ap, ◌∙◌, cond}
+use Rattle.rx_world.specs.declared.looks.Look.TheVariants.{Dir}
+use Rattle.rx_scan.specs.Candidates.{step_look}
+use Rattle.rx_scan.specs.Sights.{Blames}
+use Rattle.rx_scan.proofs.ScanLemmas.{looked-ok, scans-none}
+use Rattle.rx_scan.proofs.candidates.look_at.Goals as goal
+
+pub returns-then-is_root-clause-ok : goal.returns-then-is_root-clause-ok
+returns-then-is_root-clause-ok g c =
+    scans-none _ _ _ _ _ _ _ (λ scene. Dir ≡ step_look scene c.args.path.now) (λ scene _. ap (λ b. cond b Dir (scene.look c.args.path.now)) c.if-is_root.ensures)
+
+pub returns-clause-ok : goal.returns-clause-ok
+returns-clause-ok g c =
+    looked-ok _ _ _ _ _ _ _ _ _ c.args.path.now c.look.result (λ fault answers. Blames c.args.sights.now answers (g.S.Sources.faults c.args.sources.now) (g.S.Sources.faults c.look.new.sources) fault) (λ look scene. look ≡ step_look scene c.args.path.now)
+    (λ look scene e. e ∙ ap (λ b. cond b Dir (scene.look c.args.path.now)) c.if-is_root.ensures) c.look.ensures.looked

@@ -1,0 +1,66 @@
+-- The input tree of a command, before the digests of its files are known.
+use Rattle.std.specs.Prelude.{◌≡◌, ◌≢◌, ◌⊎◌, ◌↔◌, ◌≤◌, ℕ, Bool, true, false, List, [], Option, None, Some, Err, Contains, length, map}
+use Rattle.std.specs.Option.{is_some, option_map}
+use Rattle.rx_base.specs.SortedPaths.{AreSorted}
+use Rattle.rx_world.specs.declared.commands.Command.{Command}
+use Rattle.rx_world.specs.declared.commands.Strategy.{Strategy}
+use Rattle.rx_world.specs.declared.looks.Look.{Look}
+use Rattle.rx_world.specs.declared.refusals.LocalCause.{LocalCause}
+use Rattle.rx_world.specs.declared.refusals.LocalCause.TheVariants as local
+use Rattle.rx_world.specs.declared.sources.Given.{Given}
+use Rattle.rx_world.specs.Causes.{Rose}
+use Rattle.rx_scan.specs.declared.gather_fault.GatherFault.{GatherFault}
+use Rattle.rx_scan.specs.declared.gather_fault.GatherFault.TheVariants.{Blocked, InputChanged, InputMissing, NoMemory, NotRemotable, SourceFault, TooLarge}
+use Rattle.rx_scan.specs.declared.input_trees.InputTree.{InputTree}
+use Rattle.rx_scan.specs.declared.limits.Extent.TheVariants.{WholeList}
+use Rattle.rx_scan.specs.declared.seen_files.SeenFile.{SeenFile}
+use Rattle.rx_scan.specs.Gathering.{plan_of}
+use Rattle.rx_scan.specs.Limits.{check_of}
+use Rattle.rx_scan.specs.Lists.{Listing, Shows}
+use Rattle.rx_scan.specs.Scenes.{Scene}
+use Rattle.rx_scan.specs.Sights.{IsChangeFrom}
+use Rattle.rx_scan.specs.Ways.{blocked, over_among, upper_among}
+use Rattle.rx_scan.specs.Whole.{BlamesWhole, IsListOf, IsWholeBy}
+
+abbrev pub paths_of : List SeenFile → List (List ℕ)
+paths_of files = map (λ file. file.path) files
+
+-- what keeps a command here: a word, else a path
+abbrev pub cause_of : Option (List ℕ) → Option (List ℕ) → Option LocalCause
+cause_of (Some word) hard = Some (local.Word word)
+cause_of None hard = option_map (λ path. local.Path path) hard
+
+-- The files of the tree: those of the scan; of a command that is kept here all but its outputs.
+abbrev pub IsFilesIf : Scene → List (List ℕ) → List SeenFile → Bool → List SeenFile → Type 0
+IsFilesIf scene outputs scanned false files = files ≡ scanned
+IsFilesIf scene outputs scanned true files = IsWholeBy scene outputs files
+
+-- the refusals of a whole list, which is asked for where the command is kept here
+abbrev pub BlamesWholeIf : Bool → List (List ℕ × Look) → ℕ → ℕ → GatherFault → List Given → List Listing → Type 0
+BlamesWholeIf false sights before now fault answers lists = ⊥
+BlamesWholeIf true sights before now fault answers lists = BlamesWhole sights before now fault answers lists
+
+-- The tree can be staged, whatever the source tree told.
+pub record IsOrderlyTree (command : Command) (beside : List (List ℕ)) (tree : InputTree) : Type 0 where
+  pub few : length tree.files ≤ 50000
+  pub sorted : AreSorted (paths_of tree.files)
+  pub sorted_dirs : AreSorted tree.dirs
+  pub dirs : (path : List ℕ) → Contains tree.dirs path ↔ ((path ≢ []) × (Contains beside path ⊎ (path ≡ command.working_directory)))
+  pub apart : upper_among (paths_of tree.files) (paths_of tree.files) ≡ None
+  pub clear : over_among (paths_of tree.files) beside ≡ None
+  pub free : blocked command (paths_of tree.files) ≡ None
+
+-- each refusal of the tree only for its cause; those that come after the choice of a plan tell that there is one
+abbrev pub BlamesTree : List (List ℕ × Look) → Command → List SeenFile → Option LocalCause → Strategy → ℕ → ℕ → GatherFault → List Given → List Listing → Type 0
+BlamesTree sights command scanned cause strategy before now (InputMissing path) answers lists = ⊥
+BlamesTree sights command scanned cause strategy before now (SourceFault path) answers lists = Rose before now
+BlamesTree sights command scanned cause strategy before now (InputChanged path first second) answers lists = IsChangeFrom sights answers path first second
+BlamesTree sights command scanned cause strategy before now (TooLarge limit n path) answers lists =
+    (is_some cause ≡ true) × (plan_of strategy cause ≢ None)
+    × ((scene : Scene) → Shows scene sights answers lists → (all : List SeenFile) × IsListOf scene all × (check_of WholeList all ≡ Err (TooLarge limit n path)))
+BlamesTree sights command scanned cause strategy before now (NotRemotable kept) answers lists = (cause ≡ Some kept) × (plan_of strategy cause ≡ None)
+BlamesTree sights command scanned cause strategy before now (Blocked path) answers lists =
+    (plan_of strategy cause ≢ None)
+    × ((scene : Scene) → Shows scene sights answers lists →
+    (files : List SeenFile) × IsFilesIf scene command.outputs scanned (is_some cause) files × AreSorted (paths_of files) × (blocked command (paths_of files) ≡ Some path))
+BlamesTree sights command scanned cause strategy before now NoMemory answers lists = Unit {0}

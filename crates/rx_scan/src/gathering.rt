@@ -1,0 +1,126 @@
+//! The top of the crate: all that a command runs on, gathered from a source tree.
+
+ghost use Rattle.std.specs.Prelude.{◌≡◌, ◌≢◌, ◌≤◌, ℕ, [], IfErr, IfOk, List, MatchResult, OnOk};
+ghost use Rattle.rx_world.specs.declared.refusals.LocalCause.TheVariants.{Word as word_cause};
+ghost use Rattle.rx_scan.specs.declared.gather_fault.GatherFault.TheVariants.{NoMemory as no_memory, NotRemotable as not_remotable};
+ghost use Rattle.rx_scan.specs.Explored.{HaveDigests};
+ghost use Rattle.rx_scan.specs.Gathering.{Asked, BlamesGather, IsGathered, IsOrderly};
+ghost use Rattle.rx_scan.specs.Lists.{Fails, Learns};
+ghost use Rattle.rx_scan.specs.Plans.{local_plan};
+ghost use Rattle.rx_scan.specs.Sights.{sights_of};
+
+use crate::digests::with_digests;
+use crate::gather_fault::GatherFault;
+use crate::input_trees::{cause_of, take_tree};
+use crate::plans::local_plan;
+use crate::scanned::scan;
+use crate::sights::Sights;
+use crate::words::{read_words, with_outputs};
+use rx_base::{Items, RelPath, Text, TryClone};
+use rx_digest_cache::DigestCache;
+use rx_world::{Command, Found, InputFile, Kind, LocalCause, Plan, Sources, Strategy, World};
+use std::alloc::Global;
+use std::sync::Wait;
+
+/// What a command runs on.
+#[derive(Debug, Drop)]
+pub struct Gathered {
+    /// The command, with the outputs that its words name.
+    pub command: Command,
+    /// Each path that was looked at with its first look, in the order of the paths.
+    pub view: Items<Found>,
+    /// The files of its input tree, in the order of their paths.
+    pub files: Items<InputFile>,
+    /// The directories that its input tree has beside those of its files: the working directory, the
+    /// declared directories without files, and those that the name of an include passes and leaves
+    /// again. In order, without the root.
+    pub dirs: Items<RelPath>,
+    /// Which attempts are made of it.
+    pub plan: Plan,
+}
+
+/// Gathers what a command with these declared inputs, which are sorted, runs on.
+///
+/// A tool runs on its declared inputs: a directory stands for the files below it. A compile command
+/// runs on these and on each file that its includes can reach, in whichever branch. One that has a
+/// word that isn't a compile word, or reaches a file whose includes can't be followed, runs on all
+/// that the source tree lists but its outputs, and on this machine alone.
+///
+/// Refused, in this order: a word that keeps a command here that is to run remotely; a declared input
+/// at which there is nothing; the limits of a scan; a path that keeps it here; the limits of a whole
+/// list; a file above another one, which counts as changed; what stands in the way of the working
+/// directory or of an output. A fault of the source tree, and a path that was seen in two ways, are
+/// refused where they are met.
+pub fn gather<W: World, S: Sources<W>>(
+    rt: &impl Wait,
+    alloc: Global,
+    command: &Command,
+    kind: Kind,
+    inputs: &[RelPath],
+    strategy: Strategy,
+    sources: &mut S,
+    cache: &DigestCache<W>,
+) -> Result<Gathered, GatherFault>
+    // In each scene that shows what the source tree told, this is what the command runs on, or why not.
+    ensures gathered { MatchResult result
+        (λ gathered. Learns S.listed S.keeps S.given W.content W.stamps_honest sources.old sources.new [] (sights_of gathered.view)
+        (λ scene. IsGathered scene (record { command = command.now; kind = kind; inputs = inputs.now; strategy = strategy }) gathered))
+        (λ fault. Fails S.listed S.keeps S.given W.content W.stamps_honest sources.old sources.new
+        (BlamesGather (record { command = command.now; kind = kind; inputs = inputs.now; strategy = strategy }) (S.faults sources.old) (S.faults sources.new) fault)) }
+    // It can be staged, whatever the source tree told.
+    ensures orderly { IfOk result (IsOrderly (record { command = command.now; kind = kind; inputs = inputs.now; strategy = strategy })) }
+    ensures digests { IfOk result (λ gathered. W.stamps_honest → HaveDigests W.content gathered.files) }
+    ensures later { S.faults sources.old ≤ S.faults sources.new }
+{
+    let said = read_words(alloc, command, kind, inputs)?;
+    refuse_word(alloc, strategy, &said.word)?;
+    let command = with_outputs(alloc, command, said.outputs.as_slice())?;
+    let mut sights = Sights::new(alloc);
+    let scanned = scan::<W, S>(alloc, sources, &mut sights, inputs, &said)?;
+    let cause = cause_of(said.word, scanned.hard);
+    let tree = take_tree::<W, S>(
+        alloc,
+        sources,
+        &mut sights,
+        &command,
+        strategy,
+        cause,
+        scanned.files,
+        scanned.dirs,
+    )?;
+    let files = with_digests(
+        rt,
+        alloc,
+        sources,
+        &mut sights,
+        cache,
+        tree.files.as_slice(),
+        scanned.known.as_slice(),
+    )?;
+    let view = sights.into_view(alloc)?;
+    Ok(Gathered {
+        command,
+        view,
+        files,
+        dirs: tree.dirs,
+        plan: tree.plan,
+    })
+}
+
+/// Refuses a command that is to run remotely and has a word that keeps it here.
+fn refuse_word(alloc: Global, strategy: Strategy, word: &Option<Text>) -> Result<(), GatherFault>
+    ensures ok { OnOk result ((text : List ℕ) → word.now ≡ Some text → local_plan strategy ≢ None) }
+    ensures err { IfErr result (λ fault. fault ≢ no_memory → (text : List ℕ) × (word.now ≡ Some text) × (fault ≡ not_remotable (word_cause text)) × (local_plan strategy ≡ None)) }
+{
+    match word {
+        Some(word) => match local_plan(strategy) {
+            Some(_) => Ok(()),
+            None => Err(GatherFault::NotRemotable {
+                cause: LocalCause::Word {
+                    word: word.try_clone(alloc)?,
+                },
+            }),
+        },
+        None => Ok(()),
+    }
+}

@@ -1,0 +1,201 @@
+//! The declared inputs of a command: looked at in the order of their paths, then listed where they
+//! are directories.
+
+ghost use Rattle.std.specs.Prelude.{◌≡◌, ◌≤◌, ◌++◌, [], IfErr, IfOk, MatchResult, OnOk, length};
+ghost use Rattle.rx_base.specs.SortedPaths.{AreSorted, HasSameMembers};
+ghost use Rattle.rx_scan.specs.Inputs.{AreOver, BlamesInputs, BlamesLists, HasListed, IsDeclaredBy, IsLooked, IsOver, OnlyTooMany, empty_among, is_absent, too_many, with_look};
+ghost use Rattle.rx_scan.specs.Lists.{Fails, Learns, paths_of};
+
+use crate::gather_fault::GatherFault;
+use crate::limits::MAX_SCAN_FILES;
+use crate::lists::list_noted;
+use crate::sights::Sights;
+use rx_base::{Items, NoMemory, RelPath, TryClone, first_below, sort_paths};
+use rx_world::{Found, Limit, Look, Sources, World};
+use std::alloc::Global;
+
+/// The declared inputs that are files, and those that are directories, each in order.
+#[derive(Debug, Drop)]
+pub(crate) struct Looked {
+    pub files: Items<RelPath>,
+    pub dirs: Items<RelPath>,
+}
+
+/// What the declared inputs stand for.
+#[derive(Debug, Drop)]
+pub(crate) struct Declared {
+    /// The files, sorted, each once.
+    pub files: Items<RelPath>,
+    /// The declared directories without a file below them, in order.
+    pub empty_dirs: Items<RelPath>,
+}
+
+impl Looked {
+    fn add(&mut self, alloc: Global, path: &RelPath, look: Look) -> Result<(), NoMemory>
+        ensures { OnOk result (self.new ≡ with_look self.old path.now look) }
+    {
+        match look {
+            Look::File { .. } => self.files.push(path.try_clone(alloc)?)?,
+            Look::Dir => self.dirs.push(path.try_clone(alloc)?)?,
+            Look::Absent | Look::Other => {}
+        }
+        Ok(())
+    }
+}
+
+fn is_absent(look: Look) -> bool
+    ensures { result ≡ is_absent look }
+{
+    match look {
+        Look::Absent => true,
+        Look::File { .. } | Look::Dir | Look::Other => false,
+    }
+}
+
+/// Looks at the declared inputs in their order, up to the first at which there is nothing.
+fn look_all<W: World, S: Sources<W>>(
+    alloc: Global,
+    sources: &mut S,
+    sights: &mut Sights,
+    inputs: &[RelPath],
+) -> Result<Looked, GatherFault>
+    ensures looked { MatchResult result
+        (λ looked. Learns S.listed S.keeps S.given W.content W.stamps_honest sources.old sources.new sights.old sights.new (λ scene. IsLooked scene inputs.now looked))
+        (λ fault. Fails S.listed S.keeps S.given W.content W.stamps_honest sources.old sources.new (BlamesInputs sights.old inputs.now [] (S.faults sources.old) (S.faults sources.new) fault)) }
+    ensures later { S.faults sources.old ≤ S.faults sources.new }
+{
+    let mut looked = Looked {
+        files: Items::new(alloc),
+        dirs: Items::new(alloc),
+    };
+    for input in inputs {
+        let look = sights.look::<W, S>(alloc, sources, input)?;
+        if is_absent(look) {
+            return Err(GatherFault::InputMissing {
+                path: input.try_clone(alloc)?,
+            });
+        }
+        looked.add(alloc, input, look)?;
+    }
+    Ok(looked)
+}
+
+/// Adds all files that the source tree lists at or below these paths, up to one list after which they
+/// are more than may be.
+fn list_all<W: World, S: Sources<W>>(
+    alloc: Global,
+    sources: &mut S,
+    sights: &mut Sights,
+    mut files: Items<RelPath>,
+    roots: &[RelPath],
+) -> Result<Items<RelPath>, GatherFault>
+    ensures listed { MatchResult result
+        (λ all. Learns S.listed S.keeps S.given W.content W.stamps_honest sources.old sources.new sights.old sights.new (λ scene. HasListed scene files roots.now all))
+        (λ fault. Fails S.listed S.keeps S.given W.content W.stamps_honest sources.old sources.new (BlamesLists sights.old files roots.now (S.faults sources.old) (S.faults sources.new) fault)) }
+    ensures later { S.faults sources.old ≤ S.faults sources.new }
+{
+    for root in roots {
+        let found = list_noted::<W, S>(alloc, sources, sights, root, MAX_SCAN_FILES)?;
+        let more = add_found(alloc, files, found.as_slice())?;
+        files = more;
+    }
+    Ok(files)
+}
+
+/// Adds the files of one list, which is whole where they are no more than a scan may have.
+fn add_found(
+    alloc: Global,
+    files: Items<RelPath>,
+    found: &[Found],
+) -> Result<Items<RelPath>, GatherFault>
+    ensures whole { IfOk result (λ all. (length found.now ≤ 20000) × HasSameMembers (files ++ paths_of found.now) all) }
+    ensures many { IfErr result (OnlyTooMany (IsOver files (paths_of found.now))) }
+{
+    if found.len() > MAX_SCAN_FILES {
+        return Err(too_many());
+    }
+    let all = with_found(alloc, files, found)?;
+    settle(all)
+}
+
+/// The paths with those of a list behind them.
+pub(crate) fn with_found(
+    alloc: Global,
+    mut files: Items<RelPath>,
+    found: &[Found],
+) -> Result<Items<RelPath>, NoMemory>
+    ensures { IfOk result (λ all. all ≡ files ++ paths_of found.now) }
+{
+    for item in found {
+        files.push(item.path.try_clone(alloc)?)?;
+    }
+    Ok(files)
+}
+
+/// Leaves each path once where there are more than a scan may have.
+fn settle(files: Items<RelPath>) -> Result<Items<RelPath>, GatherFault>
+    ensures same { IfOk result (λ settled. HasSameMembers files settled) }
+    ensures many { IfErr result (OnlyTooMany (AreOver files)) }
+{
+    if files.len() <= MAX_SCAN_FILES {
+        return Ok(files);
+    }
+    let files = sort_paths(files)?;
+    if files.len() > MAX_SCAN_FILES {
+        return Err(too_many());
+    }
+    Ok(files)
+}
+
+/// The refusal of more files than a scan may have.
+pub(crate) fn too_many() -> GatherFault
+    ensures { result ≡ too_many }
+{
+    GatherFault::TooLarge {
+        limit: Limit::ScanFiles,
+        n: MAX_SCAN_FILES as u64 + 1,
+        path: None,
+    }
+}
+
+/// Looks at the declared inputs, which are in order, and finds what they stand for: a file for itself,
+/// a directory for the files below it, and a system root for the files at or below it.
+pub(crate) fn take_inputs<W: World, S: Sources<W>>(
+    alloc: Global,
+    sources: &mut S,
+    sights: &mut Sights,
+    inputs: &[RelPath],
+    roots: &[RelPath],
+) -> Result<Declared, GatherFault>
+    ensures sorted { IfOk result (λ declared. AreSorted declared.files) }
+    ensures taken { MatchResult result
+        (λ declared. Learns S.listed S.keeps S.given W.content W.stamps_honest sources.old sources.new sights.old sights.new (λ scene. IsDeclaredBy scene inputs.now roots.now declared))
+        (λ fault. Fails S.listed S.keeps S.given W.content W.stamps_honest sources.old sources.new (BlamesInputs sights.old inputs.now roots.now (S.faults sources.old) (S.faults sources.new) fault)) }
+    ensures later { S.faults sources.old ≤ S.faults sources.new }
+{
+    let looked = look_all::<W, S>(alloc, sources, sights, inputs)?;
+    let Looked { files, dirs } = looked;
+    let listed = list_all::<W, S>(alloc, sources, sights, files, dirs.as_slice())?;
+    let all = list_all::<W, S>(alloc, sources, sights, listed, roots)?;
+    let files = sort_paths(all)?;
+    let empty_dirs = empty_among(alloc, files.as_slice(), dirs.as_slice())?;
+    Ok(Declared { files, empty_dirs })
+}
+
+/// The directories below which there is none of these files, which are sorted.
+fn empty_among(
+    alloc: Global,
+    files: &[RelPath],
+    dirs: &[RelPath],
+) -> Result<Items<RelPath>, NoMemory>
+    requires { AreSorted files.now }
+    ensures { IfOk result (λ empty. empty ≡ empty_among files.now dirs.now) }
+{
+    let mut empty = Items::new(alloc);
+    for dir in dirs {
+        if first_below(files, dir).is_none() {
+            empty.push(dir.try_clone(alloc)?)?;
+        }
+    }
+    Ok(empty)
+}

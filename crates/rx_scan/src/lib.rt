@@ -1,0 +1,37 @@
+//! The files on which a command may run: its declared inputs and, for a compile command, each file
+//! that an include can reach in any branch. Nothing here runs a command or talks to a farm.
+#![tactic(auto)]
+
+mod candidates;
+mod digests;
+mod faults;
+mod file_tables;
+mod gather_fault;
+mod gathering;
+mod input_trees;
+mod inputs;
+mod limits;
+mod lists;
+mod path_lists;
+mod path_sets;
+mod plans;
+mod progress;
+mod reach;
+mod scanned;
+mod searches;
+mod seeks;
+mod seen_dirs;
+mod seen_files;
+mod sights;
+mod visits;
+mod ways;
+mod whole;
+mod words;
+
+pub use gather_fault::GatherFault;
+pub use gathering::{Gathered, gather};
+
+#[cfg(test)]
+mod memory_tree;
+#[cfg(test)]
+mod tests;

@@ -1,0 +1,168 @@
+//! The scan of a command: the files that it declares and that its includes reach, and where they
+//! keep it on this machine.
+
+ghost use Rattle.std.specs.Prelude.{◌≡◌, ◌<◌, ◌≤◌, [], All, IfErr, IfOk, MatchResult, OnOk, length};
+ghost use Rattle.rx_base.specs.SortedPaths.{AreSorted};
+ghost use Rattle.rx_scan.specs.Digests.{IsSeen};
+ghost use Rattle.rx_scan.specs.Explored.{HaveDigests};
+ghost use Rattle.rx_scan.specs.FileTables.{paths_of};
+ghost use Rattle.rx_scan.specs.InputTrees.{paths_of as seen_paths};
+ghost use Rattle.rx_scan.specs.Inputs.{OnlyTooMany};
+ghost use Rattle.rx_scan.specs.Lists.{Fails, Learns};
+ghost use Rattle.rx_scan.specs.Scanned.{BlamesScan, IsPathsOf, IsReachOf, IsScanOf};
+ghost use Rattle.rx_scan.specs.Scans.{Ends, Scans};
+ghost use Rattle.rx_scan.specs.SeenDirs.{IsDirSeen};
+
+use crate::faults::SightFault;
+use crate::gather_fault::GatherFault;
+use crate::inputs::{Declared, take_inputs, too_many};
+use crate::limits::{Extent, MAX_SCAN_FILES, check_limits};
+use crate::path_lists::{join_dirs, join_files};
+use crate::reach::{Reached, reach};
+use crate::searches::Search;
+use crate::seen_dirs::{dirs_seen, look_at_both};
+use crate::seen_files::{SeenFile, files_seen};
+use crate::sights::Sights;
+use crate::words::Said;
+use rx_base::{Items, RelPath};
+use rx_world::{InputFile, Sources, World};
+use std::alloc::Global;
+
+/// The paths that a scan found.
+#[derive(Debug, Drop)]
+pub(crate) struct ScanPaths {
+    /// The declared and the reached files, in order.
+    pub files: Items<RelPath>,
+    /// The declared directories without files, and those that the name of an include passes and
+    /// leaves again, in order, without the root.
+    pub dirs: Items<RelPath>,
+    /// The reached files, which were read.
+    pub known: Items<InputFile>,
+    /// The least path that keeps the command on this machine.
+    pub hard: Option<RelPath>,
+}
+
+/// What a scan found.
+#[derive(Debug, Drop)]
+pub(crate) struct Scanned {
+    /// The declared and the reached files, in the order of their paths.
+    pub files: Items<SeenFile>,
+    /// The declared directories without files, and those that the name of an include passes and
+    /// leaves again, in order, without the root.
+    pub dirs: Items<RelPath>,
+    /// The reached files, which were read.
+    pub known: Items<InputFile>,
+    /// The least path that keeps the command on this machine.
+    pub hard: Option<RelPath>,
+}
+
+/// What includes reach, where they are followed at all.
+fn reach_from<W: World, S: Sources<W>>(
+    alloc: Global,
+    sources: &mut S,
+    sights: &mut Sights,
+    search: &Option<Search>,
+) -> Result<Reached, SightFault>
+    ensures ok { IfOk result (λ reached. Scans S.listed S.keeps S.given W.content W.stamps_honest sources.old sources.new sights.old sights.new (λ scene. IsReachOf scene search.now reached)) }
+    ensures sorted { IfOk result (λ reached. AreSorted (paths_of reached.files)) }
+    ensures digests { IfOk result (λ reached. W.stamps_honest → HaveDigests W.content reached.files) }
+    ensures err { IfErr result (Ends S.listed S.keeps S.given W.content W.stamps_honest sources.old sources.new sights.old (S.faults sources.old) (S.faults sources.new)) }
+    ensures later { S.faults sources.old ≤ S.faults sources.new }
+{
+    match search {
+        Some(search) => reach::<W, S>(alloc, sources, sights, search),
+        None => Ok(nothing_reached(alloc)),
+    }
+}
+
+fn nothing_reached(alloc: Global) -> Reached
+    ensures { result ≡ record { files = []; hard = None; left = [] } }
+{
+    Reached {
+        files: Items::new(alloc),
+        hard: None,
+        left: Items::new(alloc),
+    }
+}
+
+/// Refuses more reached files than a scan may have.
+fn refuse_many(reached: &[InputFile]) -> Result<(), GatherFault>
+    ensures few { OnOk result (length reached.now ≤ 20000) }
+    ensures many { IfErr result (OnlyTooMany (20000 < length reached.now)) }
+{
+    if reached.len() > MAX_SCAN_FILES {
+        return Err(too_many());
+    }
+    Ok(())
+}
+
+/// Finds the paths of a command's files and directories.
+fn find_paths<W: World, S: Sources<W>>(
+    alloc: Global,
+    sources: &mut S,
+    sights: &mut Sights,
+    inputs: &[RelPath],
+    said: &Said,
+) -> Result<ScanPaths, GatherFault>
+    ensures sorted { IfOk result (λ paths. AreSorted paths.files × AreSorted paths.dirs) }
+    ensures digests { IfOk result (λ paths. W.stamps_honest → HaveDigests W.content paths.known) }
+    ensures found { MatchResult result
+        (λ paths. Learns S.listed S.keeps S.given W.content W.stamps_honest sources.old sources.new sights.old sights.new (λ scene. IsPathsOf scene inputs.now said.now paths))
+        (λ fault. Fails S.listed S.keeps S.given W.content W.stamps_honest sources.old sources.new (BlamesScan sights.old inputs.now said.now (S.faults sources.old) (S.faults sources.new) fault)) }
+    ensures later { S.faults sources.old ≤ S.faults sources.new }
+{
+    let declared = take_inputs::<W, S>(alloc, sources, sights, inputs, said.roots.as_slice())?;
+    let reached = reach_from::<W, S>(alloc, sources, sights, &said.search)?;
+    let Declared { files, empty_dirs } = declared;
+    let Reached {
+        files: known,
+        hard,
+        left,
+    } = reached;
+    refuse_many(known.as_slice())?;
+    let files = join_files(alloc, files, known.as_slice())?;
+    let dirs = join_dirs(alloc, empty_dirs, left.as_slice())?;
+    Ok(ScanPaths {
+        files,
+        dirs,
+        known,
+        hard,
+    })
+}
+
+/// Scans for what a command runs on whose declared inputs are these, in order, and whose words say
+/// this.
+pub(crate) fn scan<W: World, S: Sources<W>>(
+    alloc: Global,
+    sources: &mut S,
+    sights: &mut Sights,
+    inputs: &[RelPath],
+    said: &Said,
+) -> Result<Scanned, GatherFault>
+    ensures few { IfOk result (λ scanned. length scanned.files ≤ 20000) }
+    ensures sorted { IfOk result (λ scanned. AreSorted (seen_paths scanned.files) × AreSorted scanned.dirs) }
+    ensures seen { IfOk result (λ scanned. All (IsSeen sights.new) scanned.files × All (IsDirSeen sights.new) scanned.dirs) }
+    ensures digests { IfOk result (λ scanned. W.stamps_honest → HaveDigests W.content scanned.known) }
+    ensures scanned { MatchResult result
+        (λ scanned. Learns S.listed S.keeps S.given W.content W.stamps_honest sources.old sources.new sights.old sights.new (λ scene. IsScanOf scene inputs.now said.now scanned))
+        (λ fault. Fails S.listed S.keeps S.given W.content W.stamps_honest sources.old sources.new (BlamesScan sights.old inputs.now said.now (S.faults sources.old) (S.faults sources.new) fault)) }
+    ensures later { S.faults sources.old ≤ S.faults sources.new }
+{
+    let found = find_paths::<W, S>(alloc, sources, sights, inputs, said)?;
+    let ScanPaths {
+        files,
+        dirs,
+        known,
+        hard,
+    } = found;
+    look_at_both::<W, S>(alloc, sources, sights, files.as_slice(), dirs.as_slice())?;
+    let files = files_seen(alloc, sights, files.as_slice())?;
+    check_limits(alloc, Extent::Scan, files.as_slice())?;
+    let dirs = dirs_seen(alloc, sights, dirs.as_slice())?;
+    Ok(Scanned {
+        files,
+        dirs,
+        known,
+        hard,
+    })
+}

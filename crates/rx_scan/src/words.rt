@@ -1,0 +1,129 @@
+//! What the words of a command say, as far as gathering needs it, and the command with all its outputs.
+
+ghost use Rattle.std.specs.Prelude.{◌≡◌, [], IfOk, None, Some};
+ghost use Rattle.std.specs.List.{AllByRecursion};
+ghost use Rattle.rx_cppflags.specs.Readings.{IsSafeOutput, reading_of};
+ghost use Rattle.rx_scan.specs.Words.{reading_for, said_by, with_outputs};
+
+use crate::path_lists::with_paths;
+use crate::searches::Search;
+use rx_base::{Items, NoMemory, RelPath, Text, TryClone, sort_paths};
+use rx_cppflags::{Reading, read_command};
+use rx_world::{Command, Kind, Pair};
+use std::alloc::Global;
+
+/// What the words of a command say. Those of a tool say nothing.
+#[derive(Debug, Drop)]
+pub(crate) struct Said {
+    /// Where its includes are sought, of a command whose includes can be followed.
+    pub search: Option<Search>,
+    /// The system roots, whose files are declared inputs too.
+    pub roots: Items<RelPath>,
+    /// The outputs that the words name.
+    pub outputs: Items<RelPath>,
+    /// The word that keeps the command on this machine.
+    pub word: Option<Text>,
+}
+
+/// Reads the words of a compile command; a tool's aren't read.
+pub(crate) fn read_words(
+    alloc: Global,
+    command: &Command,
+    kind: Kind,
+    inputs: &[RelPath],
+) -> Result<Said, NoMemory>
+    ensures said { IfOk result (λ said. said ≡ said_by command.now (reading_for kind command.now inputs.now)) }
+    ensures safe { IfOk result (λ said. AllByRecursion (IsSafeOutput command.now inputs.now said.outputs) said.outputs) }
+{
+    match kind {
+        Kind::Tool => Ok(nothing_said(alloc)),
+        Kind::Compile => read_compile(alloc, command, inputs),
+    }
+}
+
+fn nothing_said(alloc: Global) -> Said
+    ensures { result ≡ record { search = None; roots = []; outputs = []; word = None } }
+{
+    Said {
+        search: None,
+        roots: Items::new(alloc),
+        outputs: Items::new(alloc),
+        word: None,
+    }
+}
+
+fn read_compile(alloc: Global, command: &Command, inputs: &[RelPath]) -> Result<Said, NoMemory>
+    ensures said { IfOk result (λ said. said ≡ said_by command.now (Some (reading_of command.now inputs.now))) }
+    ensures safe { IfOk result (λ said. AllByRecursion (IsSafeOutput command.now inputs.now said.outputs) said.outputs) }
+{
+    let reading = read_command(alloc, command, inputs)?;
+    let said = said_by(alloc, command, reading)?;
+    Ok(said)
+}
+
+/// What a reading says.
+fn said_by(alloc: Global, command: &Command, reading: Reading) -> Result<Said, NoMemory>
+    ensures { IfOk result (λ said. said ≡ said_by command.now (Some reading)) }
+{
+    match reading {
+        Reading::Compile {
+            source,
+            quote_dirs,
+            dirs,
+            forced,
+            sysroots,
+            outputs,
+            is_c,
+        } => Ok(Said {
+            search: Some(Search {
+                working_directory: command.working_directory.try_clone(alloc)?,
+                source,
+                quote_dirs,
+                dirs,
+                forced,
+                is_c,
+            }),
+            roots: sysroots,
+            outputs,
+            word: None,
+        }),
+        Reading::LocalOnly { word } => Ok(Said {
+            search: None,
+            roots: Items::new(alloc),
+            outputs: Items::new(alloc),
+            word: Some(word),
+        }),
+    }
+}
+
+/// A copy of the command, with these outputs besides its own, in order.
+pub(crate) fn with_outputs(
+    alloc: Global,
+    command: &Command,
+    outputs: &[RelPath],
+) -> Result<Command, NoMemory>
+    ensures { IfOk result (λ copy. copy ≡ with_outputs command.now outputs.now) }
+{
+    let all = with_paths(alloc, command.outputs.try_clone(alloc)?, outputs)?;
+    Ok(Command {
+        words: command.words.try_clone(alloc)?,
+        environment: copy_pairs(alloc, command.environment.as_slice())?,
+        working_directory: command.working_directory.try_clone(alloc)?,
+        outputs: sort_paths(all)?,
+        platform: copy_pairs(alloc, command.platform.as_slice())?,
+        timeout_seconds: command.timeout_seconds,
+    })
+}
+
+fn copy_pairs(alloc: Global, pairs: &[Pair]) -> Result<Items<Pair>, NoMemory>
+    ensures { IfOk result (λ copies. copies ≡ pairs.now) }
+{
+    let mut copies = Vec::with_capacity(alloc, pairs.len())?;
+    for pair in pairs {
+        copies.push(Pair {
+            name: pair.name.try_clone(alloc)?,
+            value: pair.value.try_clone(alloc)?,
+        })?;
+    }
+    Ok(Items::from_vec(copies))
+}

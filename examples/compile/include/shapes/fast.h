@@ -1,0 +1,2 @@
+// Only asked for, by __has_include in report.h.
+#pragma once

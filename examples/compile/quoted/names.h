@@ -1,0 +1,4 @@
+// Found by -iquote.
+#pragma once
+
+inline const char *project_name() { return SHAPES_NAME; }

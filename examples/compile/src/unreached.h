@@ -1,0 +1,3 @@
+// Named in a raw literal and in comments alone, so nothing includes it.
+#pragma once
+#error "nothing includes this"
