@@ -18,8 +18,8 @@ pub(crate) fn command_message(
     ensures { IfOk result (λ message. message ≡ command_message command.now) }
 {
     let directory = &command.working_directory;
-    let environment = sort_pairs(alloc, command.environment.as_slice())?;
-    let platform = platform_of(alloc, command.platform.as_slice())?;
+    let environment = sort_pairs(alloc, &command.environment)?;
+    let platform = platform_of(alloc, &command.platform)?;
     Ok(rx_messages::Command {
         arguments: command.words.try_clone(alloc)?,
         environment_variables: variables_of(alloc, environment)?,
@@ -32,7 +32,7 @@ pub(crate) fn command_message(
 }
 
 /// A platform of these properties in their order, or none where there is no property.
-fn platform_of(alloc: Global, pairs: &[Pair]) -> Result<Option<Platform>, NoMemory>
+fn platform_of(alloc: Global, pairs: &Items<Pair>) -> Result<Option<Platform>, NoMemory>
     ensures { IfOk result (λ platform. platform ≡ platform_of pairs.now) }
 {
     if pairs.is_empty() {

@@ -3,7 +3,7 @@
 ghost use Rattle.std.specs.Prelude.{◌≡◌, IfOk};
 ghost use Rattle.rx_action.specs.Pairs.{by_name, sorted_pairs};
 
-use rx_base::{NoMemory, TryClone};
+use rx_base::{Items, NoMemory, TryClone};
 use rx_world::Pair;
 use std::alloc::Global;
 use std::cmp::Ordering;
@@ -17,24 +17,11 @@ fn compare_pairs(pair: &Pair, other: &Pair) -> Ordering
 }
 
 /// Copies of these pairs in their order. Pairs that come twice stay.
-pub(crate) fn sort_pairs(alloc: Global, pairs: &[Pair]) -> Result<Vec<Pair>, NoMemory>
+pub(crate) fn sort_pairs(alloc: Global, pairs: &Items<Pair>) -> Result<Vec<Pair>, NoMemory>
     ensures { IfOk result (λ sorted. sorted.items ≡ sorted_pairs pairs.now) }
 {
-    let mut sorted = copy_pairs(alloc, pairs)?;
+    let copies = pairs.try_clone(alloc)?;
+    let mut sorted = copies.into_vec();
     sorted.sort_by(|pair, other| compare_pairs(pair, other))?;
     Ok(sorted)
-}
-
-/// Copies of these pairs.
-fn copy_pairs(alloc: Global, pairs: &[Pair]) -> Result<Vec<Pair>, NoMemory>
-    ensures { IfOk result (λ copies. copies.items ≡ pairs.now) }
-{
-    let mut copies = Vec::with_capacity(alloc, pairs.len())?;
-    for pair in pairs {
-        copies.push(Pair {
-            name: pair.name.try_clone(alloc)?,
-            value: pair.value.try_clone(alloc)?,
-        })?;
-    }
-    Ok(copies)
 }

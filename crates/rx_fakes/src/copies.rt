@@ -3,7 +3,7 @@
 ghost use Rattle.std.specs.Prelude.{◌≡◌, IfOk};
 
 use rx_base::{Items, NoMemory, TryClone};
-use rx_world::{Command, Exit, FileOut, Pair};
+use rx_world::{Command, Exit, FileOut};
 use std::alloc::Global;
 
 pub(crate) fn copy_file(alloc: Global, file: &FileOut) -> Result<FileOut, NoMemory>
@@ -36,34 +36,15 @@ pub(crate) fn copy_exit(alloc: Global, exit: &Exit) -> Result<Exit, NoMemory>
     })
 }
 
-fn copy_pair(alloc: Global, pair: &Pair) -> Result<Pair, NoMemory>
-    ensures { IfOk result (λ copy. copy ≡ pair.now) }
-{
-    Ok(Pair {
-        name: pair.name.try_clone(alloc)?,
-        value: pair.value.try_clone(alloc)?,
-    })
-}
-
-fn copy_pairs(alloc: Global, pairs: &[Pair]) -> Result<Items<Pair>, NoMemory>
-    ensures { IfOk result (λ copies. copies ≡ pairs.now) }
-{
-    let mut copies = Vec::with_capacity(alloc, pairs.len())?;
-    for pair in pairs {
-        copies.push(copy_pair(alloc, pair)?)?;
-    }
-    Ok(Items::from_vec(copies))
-}
-
 pub(crate) fn copy_command(alloc: Global, command: &Command) -> Result<Command, NoMemory>
     ensures { IfOk result (λ copy. copy ≡ command.now) }
 {
     Ok(Command {
         words: command.words.try_clone(alloc)?,
-        environment: copy_pairs(alloc, command.environment.as_slice())?,
+        environment: command.environment.try_clone(alloc)?,
         working_directory: command.working_directory.try_clone(alloc)?,
         outputs: command.outputs.try_clone(alloc)?,
-        platform: copy_pairs(alloc, command.platform.as_slice())?,
+        platform: command.platform.try_clone(alloc)?,
         timeout_seconds: command.timeout_seconds,
     })
 }

@@ -1,6 +1,7 @@
 //! The command of a request, as every attempt runs it.
 
-use rx_base::{Items, RelPath, Text};
+use rx_base::{Items, NoMemory, RelPath, Text, TryClone};
+use std::alloc::Global;
 
 /// A name with its value: an environment variable or a property of a platform
 /// (`remote_execution.proto`, Command.EnvironmentVariable and Platform.Property).
@@ -8,6 +9,15 @@ use rx_base::{Items, RelPath, Text};
 pub struct Pair {
     pub name: Text,
     pub value: Text,
+}
+
+impl TryClone for Pair {
+    fn try_clone(&self, alloc: Global) -> Result<Pair, NoMemory> {
+        Ok(Pair {
+            name: self.name.try_clone(alloc)?,
+            value: self.value.try_clone(alloc)?,
+        })
+    }
 }
 
 /// What a request is about.

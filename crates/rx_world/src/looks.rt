@@ -1,5 +1,7 @@
 //! What a source tree tells of a path.
 
+ghost use Rattle.std.specs.Prelude.{◌≡◌, None};
+
 use rx_base::Digest;
 
 /// What tells one state of a file from another: its size in bytes and a mark of 128 bits. The mark
@@ -29,4 +31,13 @@ pub enum Look {
 pub struct Seen {
     pub look: Look,
     pub digest: Option<Digest>,
+}
+
+/// A look alone, without a digest.
+impl From<Look> for Seen {
+    ghost from_gives = { λ look seen. seen ≡ record { look = look; digest = None } };
+
+    fn from(look: Look) -> Seen {
+        Seen { look, digest: None }
+    }
 }

@@ -8,6 +8,6 @@ use Rattle.rx_action.proofs.pairs.sort_pairs.Goals as goal
 
 pub returns : goal.returns
 returns c =
-    rw (← c.in_ok-sorted.ensures) (is_in_order by_name_total by_name_same _ _ c.in_ok-sort_by.ensures.permutation
+    rw (← c.in_ok-copies.ensures) rw (← c.into_vec-sorted.ensures) (is_in_order by_name_total by_name_same _ _ c.in_ok-sort_by.ensures.permutation
     (c.in_ok-sort_by.ensures.sorted (λ (x y : Pair). is_lt (by_name x y)) (ranks_by by_name_total (λ (pair : Pair). pair))
     (answers_always _ (λ a r. is_lt r ≡ is_lt (by_name a.0.now a.1.0.now)) _ (λ f a r f' called. search rules))))
