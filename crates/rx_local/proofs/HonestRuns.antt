@@ -15,14 +15,14 @@ use Rattle.rx_world.specs.declared.trees.Tree.{Tree}
 use Rattle.rx_world.specs.Answers.{Gives, IsAnswerOf}
 use Rattle.rx_world.specs.Outcomes.{IsClean}
 use Rattle.rx_world.specs.Trees.{tree_of}
-use Rattle.rx_local.specs.Local.{IsAsListed, IsCauseOf, IsChanged, IsRunOf, listed_copy, world_copy}
+use Rattle.rx_local.specs.Local.{IsAsListed, IsCauseOf, IsChanged, IsFailureOf, IsRunOf, listed_copy, world_copy}
 use Rattle.rx_local.specs.Stage.{AreStaged}
 use Rattle.rx_local.proofs.Staging.{not-changed, staged-content, staged-listed}
 
 pub stamped-run : {T B : Type 0} (listed : T → Option (List SourceEntry)) (keeps : T → Type 0) (given : T → Option (List Given)) (content : List ℕ → Stamp → List ℕ) (stamps : Type 0) (a b : T)
     (runs : B → Option (List BenchRun)) (last : Option B) (tool : Command → Tree → Outcome) (honest : Type 0) (command : Command) (files : List InputFile) (directories : List (List ℕ)) (result : Result Outcome Cause)
     → (answers : List Given) × Gives listed keeps given content stamps a b answers
-    × MatchResult result (IsRunOf runs last tool honest command files directories answers) (IsCauseOf tool honest command files directories answers)
+    × MatchResult result (IsRunOf runs last tool honest command files directories answers) (IsFailureOf runs last tool honest command files directories answers)
     → IfOk result (λ outcome. honest → stamps → IsClean tool command (tree_of (map (world_copy content) files) directories) outcome)
 stamped-run listed keeps given content stamps a b runs last tool honest command files directories (Err cause) h = tt
 stamped-run listed keeps given content stamps a b runs last tool honest command files directories (Ok outcome) h = λ so sure.
@@ -37,7 +37,7 @@ listed-over (Some entries) tool command files directories answers staged outcome
 pub listed-run : {T B : Type 0} (listed : T → Option (List SourceEntry)) (keeps : T → Type 0) (given : T → Option (List Given)) (content : List ℕ → Stamp → List ℕ) (stamps : Type 0) (a b : T)
     (runs : B → Option (List BenchRun)) (last : Option B) (tool : Command → Tree → Outcome) (honest : Type 0) (command : Command) (files : List InputFile) (directories : List (List ℕ)) (result : Result Outcome Cause)
     → (answers : List Given) × Gives listed keeps given content stamps a b answers
-    × MatchResult result (IsRunOf runs last tool honest command files directories answers) (IsCauseOf tool honest command files directories answers)
+    × MatchResult result (IsRunOf runs last tool honest command files directories answers) (IsFailureOf runs last tool honest command files directories answers)
     → IfOk result (λ outcome. honest → keeps a → IfSome (listed a) (λ entries. IsClean tool command (tree_of (map (listed_copy entries) files) directories) outcome))
 listed-run listed keeps given content stamps a b runs last tool honest command files directories (Err cause) h = tt
 listed-run listed keeps given content stamps a b runs last tool honest command files directories (Ok outcome) h = λ so kept.
@@ -55,8 +55,8 @@ unchanged-over (Some entries) tool honest command files directories answers NoMe
 pub unchanged-run : {T B : Type 0} (listed : T → Option (List SourceEntry)) (keeps : T → Type 0) (given : T → Option (List Given)) (content : List ℕ → Stamp → List ℕ) (stamps : Type 0) (a b : T)
     (runs : B → Option (List BenchRun)) (last : Option B) (tool : Command → Tree → Outcome) (honest : Type 0) (command : Command) (files : List InputFile) (directories : List (List ℕ)) (result : Result Outcome Cause)
     → (answers : List Given) × Gives listed keeps given content stamps a b answers
-    × MatchResult result (IsRunOf runs last tool honest command files directories answers) (IsCauseOf tool honest command files directories answers)
+    × MatchResult result (IsRunOf runs last tool honest command files directories answers) (IsFailureOf runs last tool honest command files directories answers)
     → IfErr result (λ cause. keeps a → IfSome (listed a) (λ entries. All (IsAsListed entries) files → IsChanged cause → ⊥))
 unchanged-run listed keeps given content stamps a b runs last tool honest command files directories (Ok outcome) h = tt
 unchanged-run listed keeps given content stamps a b runs last tool honest command files directories (Err cause) h = λ kept.
-    unchanged-over (listed a) tool honest command files directories h.0 cause (h.1.by_list kept) h.2
+    unchanged-over (listed a) tool honest command files directories h.0 cause (h.1.by_list kept) h.2.caused

@@ -20,8 +20,8 @@ use Rattle.rx_world.specs.Sources.{entry_at, given_bytes}
 use Rattle.rx_world.specs.Trees.{tree_with_files}
 use Rattle.rx_world.proofs.AnswerLemmas.{gives-join, gives-none}
 use Rattle.rx_local.specs.Local.{IsAsListed, listed_copy, world_copy}
-use Rattle.rx_local.specs.Reads.{Differ, IsReadCause, look_of}
-use Rattle.rx_local.specs.Stage.{AreStaged, HasStaged, IsChangedInput, IsFront, IsStageCause, IsUnputInput, PutsAll}
+use Rattle.rx_local.specs.Reads.{Differ, IsNextRead, IsReadCause, look_of}
+use Rattle.rx_local.specs.Stage.{AreStaged, HasStaged, IsChangedInput, IsFront, IsRefusedInput, IsStageCause, PutsAll}
 
 -- ---- one file
 
@@ -44,10 +44,10 @@ read-cause file before now answers (InputChanged path first second) h =
 read-cause file before now answers (SourceFault path) h = record { file = file; rest = []; front = no-front file answers [] h.0; path_is = h.1 }
 read-cause file before now answers (BenchFault step) h = absurd h
 read-cause file before now answers (OutputMissing path) h = absurd h
-read-cause file before now answers NoMemory h = tt
+read-cause file before now answers NoMemory h = record { rest = file ∷ []; last = answers; front = no-front file answers answers refl; next = h }
 
-pub unput-one : (file : InputFile) (bytes : List ℕ) → digest_of bytes ≡ file.digest → IsUnputInput (file ∷ []) (read_of file bytes ∷ [])
-unput-one file bytes d = record {
+pub refused-one : (file : InputFile) (bytes : List ℕ) → digest_of bytes ≡ file.digest → IsRefusedInput (file ∷ []) (read_of file bytes ∷ [])
+refused-one file bytes d = record {
   file = file;
   rest = [];
   bytes = bytes;
@@ -109,6 +109,14 @@ front-append xs ys zs rest answers more last copies h f = record {
   each = staged-append xs f.front answers f.read copies f.staged h f.each;
 }
 
+next-none : (rest : List InputFile) (last : List Given) → last ≡ [] → IsNextRead rest last
+next-none [] last e = e
+next-none (file ∷ rest) last e = inl e
+
+next-append : (rest zs : List InputFile) (last : List Given) → IsNextRead rest last → IsNextRead (rest ++ zs) last
+next-append [] zs last h = next-none zs last h
+next-append (file ∷ rest) zs last h = h
+
 cause-append : (xs ys zs : List InputFile) (answers more : List Given) (copies : List FileOut) (cause : Cause) → AreStaged xs answers copies → IsStageCause ys more cause → IsStageCause (xs ++ (ys ++ zs)) (answers ++ more) cause
 cause-append xs ys zs answers more copies (BenchFault step) h k = (
   k.0,
@@ -134,7 +142,12 @@ cause-append xs ys zs answers more copies (SourceFault path) h k = record {
   path_is = k.path_is;
 }
 cause-append xs ys zs answers more copies (OutputMissing path) h k = absurd k
-cause-append xs ys zs answers more copies NoMemory h k = tt
+cause-append xs ys zs answers more copies NoMemory h k = record {
+  rest = k.rest ++ zs;
+  last = k.last;
+  front = front-append xs ys zs k.rest answers more k.last copies h k.front;
+  next = next-append k.rest zs k.last k.next;
+}
 
 -- a list around one of its elements
 split-at : {A : Type 0} (xs : List A) (i : ℕ) (x : A) → i < length xs → x ≡ get_or xs i x → xs ≡ take i xs ++ x ∷ drop (suc i) xs

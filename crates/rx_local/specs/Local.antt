@@ -10,6 +10,7 @@ use Rattle.rx_world.specs.declared.failures.Refused.{Refused}
 use Rattle.rx_world.specs.declared.failures.Refused.TheVariants.{Failed, NoMemory as no_memory}
 use Rattle.rx_world.specs.declared.input_files.InputFile.{InputFile}
 use Rattle.rx_world.specs.declared.looks.Stamp.{Stamp}
+use Rattle.rx_world.specs.declared.outcomes.Exit.{Exit}
 use Rattle.rx_world.specs.declared.outcomes.FileOut.{FileOut}
 use Rattle.rx_world.specs.declared.outcomes.Outcome.{Outcome}
 use Rattle.rx_world.specs.declared.sources.Given.{Given}
@@ -22,7 +23,7 @@ use Rattle.rx_world.specs.Outcomes.{IsClean}
 use Rattle.rx_world.specs.Sources.{entry_at}
 use Rattle.rx_world.specs.Trees.{tree_of, with_parents}
 use Rattle.rx_local.specs.Reads.{look_of}
-use Rattle.rx_local.specs.Stage.{AreStaged, IsChangedInput, IsLostInput, IsUnputInput}
+use Rattle.rx_local.specs.Stage.{AreStaged, IsChangedInput, IsCutShort, IsLostInput, IsRefusedInput}
 
 -- the first of these paths at which no file is
 abbrev pub first_missing : List (List ℕ) → List FileOut → Option (List ℕ)
@@ -34,15 +35,23 @@ pub record LacksOutput (tool : Command → Tree → Outcome) (command : Command)
   pub code_is : (tool command tree).exit.code ≡ pos 0
   pub first : first_missing command.outputs (tool command tree).files ≡ Some path
 
--- The files were read and staged, and the bench that came last ran once: this command, over these files, the directories and those of
--- the outputs, to this exit. Where tools are honest, the outcome is the tool's.
+-- where the bench that came last tells its runs, this is so of them
+abbrev pub IfRunsTold : {B : Type 0} → (B → Option (List BenchRun)) → Option B → (List BenchRun → Type 0) → Type 0
+IfRunsTold runs last Fact = IfSome last (λ bench. IfSome (runs bench) Fact)
+
+-- there was one run: this command, over these files, the directories and those of the outputs, to this exit
+abbrev pub IsOnlyRun : Command → List FileOut → List (List ℕ) → Exit → List BenchRun → Type 0
+IsOnlyRun command staged directories exit all =
+    all ≡ record { command = command; tree = with_parents command.outputs (tree_of staged directories); exit = exit } ∷ []
+
+-- The files were read and staged, and the bench that came last ran just once, over them and to this exit. Where tools are honest, the
+-- outcome is the tool's.
 pub record IsRunOf {B : Type 0} (runs : B → Option (List BenchRun)) (last : Option B) (tool : Command → Tree → Outcome) (honest : Type 0)
     (command : Command) (files : List InputFile) (directories : List (List ℕ)) (answers : List Given) (outcome : Outcome) : Type 0 where
   pub staged : List FileOut
   pub each : AreStaged files answers staged
   pub clean : honest → IsClean tool command (tree_of staged directories) outcome
-  pub ran : IfSome last (λ bench. IfSome (runs bench) (λ all.
-      all ≡ record { command = command; tree = with_parents command.outputs (tree_of staged directories); exit = outcome.exit } ∷ []))
+  pub ran : IfRunsTold runs last (IsOnlyRun command staged directories outcome.exit)
 
 -- all files were staged
 abbrev pub HaveStaged : List InputFile → List Given → Type 0
@@ -51,7 +60,7 @@ HaveStaged files answers = (staged : List FileOut) × AreStaged files answers st
 -- what was read before a step of the bench failed
 abbrev pub IsReadBefore : BenchStep → List InputFile → List Given → Type 0
 IsReadBefore Make files answers = answers ≡ []
-IsReadBefore Put files answers = IsUnputInput files answers
+IsReadBefore Put files answers = IsRefusedInput files answers
 IsReadBefore MakeDir files answers = HaveStaged files answers
 IsReadBefore Run files answers = HaveStaged files answers
 IsReadBefore Take files answers = HaveStaged files answers
@@ -68,7 +77,47 @@ IsCauseOf tool honest command files directories answers (BenchFault step) = IsRe
 IsCauseOf tool honest command files directories answers (OutputMissing path) = IsMissingOf tool honest command files directories answers path
 IsCauseOf tool honest command files directories answers (InputChanged path first second) = IsChangedInput files answers path first second
 IsCauseOf tool honest command files directories answers (SourceFault path) = IsLostInput files answers path
-IsCauseOf tool honest command files directories answers NoMemory = Unit {0}
+IsCauseOf tool honest command files directories answers NoMemory = IsCutShort files answers
+
+-- the steps of a bench before the command runs on it
+abbrev pub IsStepBefore : BenchStep → Type 0
+IsStepBefore Make = ⊥
+IsStepBefore Put = Unit {0}
+IsStepBefore MakeDir = Unit {0}
+IsStepBefore Run = ⊥
+IsStepBefore Take = ⊥
+
+-- the causes on a bench before the command runs
+abbrev pub IsBeforeRun : Cause → Type 0
+IsBeforeRun (BenchFault step) = IsStepBefore step
+IsBeforeRun (InputChanged path first second) = Unit {0}
+IsBeforeRun (SourceFault path) = Unit {0}
+IsBeforeRun (OutputMissing path) = ⊥
+IsBeforeRun NoMemory = ⊥
+
+-- the causes after the command ran
+abbrev pub IsAfterRun : Cause → Type 0
+IsAfterRun (BenchFault step) = step ≡ Take
+IsAfterRun (OutputMissing path) = Unit {0}
+IsAfterRun (InputChanged path first second) = ⊥
+IsAfterRun (SourceFault path) = ⊥
+IsAfterRun NoMemory = ⊥
+
+-- the files were staged, and the bench that came last ran just once, over them and to code 0
+pub record HasRunOnce {B : Type 0} (runs : B → Option (List BenchRun)) (last : Option B) (command : Command) (files : List InputFile)
+    (directories : List (List ℕ)) (answers : List Given) : Type 0 where
+  pub staged : List FileOut
+  pub each : AreStaged files answers staged
+  pub exit : Exit
+  pub code_is : exit.code ≡ pos 0
+  pub ran : IfRunsTold runs last (IsOnlyRun command staged directories exit)
+
+-- a cause, with what was read and what had run on the bench that came last
+pub record IsFailureOf {B : Type 0} (runs : B → Option (List BenchRun)) (last : Option B) (tool : Command → Tree → Outcome) (honest : Type 0)
+    (command : Command) (files : List InputFile) (directories : List (List ℕ)) (answers : List Given) (cause : Cause) : Type 0 where
+  pub caused : IsCauseOf tool honest command files directories answers cause
+  pub not_run : IsBeforeRun cause → IfRunsTold runs last (λ all. all ≡ [])
+  pub run_once : IsAfterRun cause → HasRunOnce runs last command files directories answers
 
 -- for a fault the count of its part rose, of the benches or of the source tree
 abbrev pub IsCounted : ℕ → ℕ → ℕ → ℕ → Cause → Type 0

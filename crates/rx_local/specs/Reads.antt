@@ -37,10 +37,15 @@ pub record IsChange (file : InputFile) (answers : List Given) (path : List ℕ) 
   pub path_is : path ≡ file.path
   pub differ : Differ file look bytes first second
 
+-- of these files the next was read once, or nothing was read
+abbrev pub IsNextRead : List InputFile → List Given → Type 0
+IsNextRead [] answers = answers ≡ []
+IsNextRead (file ∷ rest) answers = (answers ≡ []) ⊎ ((look : Look) × (bytes : List ℕ) × (answers ≡ given_bytes file.path look bytes ∷ []))
+
 -- each cause of a file that can't be read as it was gathered, over what was answered and the count of faults
 abbrev pub IsReadCause : InputFile → ℕ → ℕ → List Given → Cause → Type 0
 IsReadCause file before now answers (InputChanged path first second) = IsChange file answers path first second
 IsReadCause file before now answers (SourceFault path) = (answers ≡ []) × (path ≡ file.path) × Rose before now
 IsReadCause file before now answers (BenchFault step) = ⊥
 IsReadCause file before now answers (OutputMissing path) = ⊥
-IsReadCause file before now answers NoMemory = Unit {0}
+IsReadCause file before now answers NoMemory = IsNextRead (file ∷ []) answers

@@ -3,7 +3,7 @@ use Rattle.std.specs.Prelude.{◌≡◌, ℕ, List, [], ◌∷◌, ◌++◌, Opt
 use Rattle.rx_base.specs.Digests.{digest_of}
 use Rattle.rx_base.specs.Told.{Told}
 use Rattle.rx_world.specs.declared.attempts.BenchStep.{BenchStep}
-use Rattle.rx_world.specs.declared.attempts.BenchStep.TheVariants.{Make, MakeDir, Put, Run, Take}
+use Rattle.rx_world.specs.declared.attempts.BenchStep.TheVariants.{Put, Take}
 use Rattle.rx_world.specs.declared.attempts.Cause.{Cause}
 use Rattle.rx_world.specs.declared.attempts.Cause.TheVariants.{BenchFault, InputChanged, NoMemory, OutputMissing, SourceFault}
 use Rattle.rx_world.specs.declared.input_files.InputFile.{InputFile}
@@ -17,7 +17,7 @@ use Rattle.rx_world.specs.Answers.{Gives}
 use Rattle.rx_world.specs.Causes.{Rose}
 use Rattle.rx_world.specs.Sources.{given_bytes}
 use Rattle.rx_world.specs.Trees.{tree_with_directories, tree_with_files}
-use Rattle.rx_local.specs.Reads.{IsChange, look_of}
+use Rattle.rx_local.specs.Reads.{IsChange, IsNextRead, look_of}
 
 -- all these files are put into the tree
 abbrev pub PutsAll : Option Tree → Option Tree → List FileOut → Type 0
@@ -64,21 +64,28 @@ pub record IsLostInput (files : List InputFile) (answers : List Given) (path : L
   pub front : IsFront files (file ∷ rest) answers []
   pub path_is : path ≡ file.path
 
--- the next file after a front was read as it was gathered, and couldn't be put
-pub record IsUnputInput (files : List InputFile) (answers : List Given) : Type 0 where
+-- the next file was read as it was gathered, and the bench refused it
+pub record IsRefusedInput (files : List InputFile) (answers : List Given) : Type 0 where
   pub file : InputFile
   pub rest : List InputFile
   pub bytes : List ℕ
   pub front : IsFront files (file ∷ rest) answers (given_bytes file.path (look_of file) bytes ∷ [])
   pub digest_is : digest_of bytes ≡ file.digest
 
+-- the files of a front were staged, and of those that are left at most the next was read
+pub record IsCutShort (files : List InputFile) (answers : List Given) : Type 0 where
+  pub rest : List InputFile
+  pub last : List Given
+  pub front : IsFront files rest answers last
+  pub next : IsNextRead rest last
+
 -- each cause for which the files don't stand on the bench
 abbrev pub IsStageCause : List InputFile → List Given → Cause → Type 0
-IsStageCause files answers (BenchFault step) = (step ≡ Put) × IsUnputInput files answers
+IsStageCause files answers (BenchFault step) = (step ≡ Put) × IsRefusedInput files answers
 IsStageCause files answers (InputChanged path first second) = IsChangedInput files answers path first second
 IsStageCause files answers (SourceFault path) = IsLostInput files answers path
 IsStageCause files answers (OutputMissing path) = ⊥
-IsStageCause files answers NoMemory = Unit {0}
+IsStageCause files answers NoMemory = IsCutShort files answers
 
 -- From one state of a source tree to another all these files were staged, and this holds of what was put.
 pub record HasStaged {T : Type 0} (listed : T → Option (List SourceEntry)) (keeps : T → Type 0) (given : T → Option (List Given))
@@ -89,18 +96,10 @@ pub record HasStaged {T : Type 0} (listed : T → Option (List SourceEntry)) (ke
   pub each : AreStaged files answers staged
   pub put : IsPut staged
 
--- the steps at which all files stand on the bench
-abbrev pub IsAfterFiles : BenchStep → Type 0
-IsAfterFiles Make = ⊥
-IsAfterFiles Put = ⊥
-IsAfterFiles MakeDir = Unit {0}
-IsAfterFiles Run = Unit {0}
-IsAfterFiles Take = Unit {0}
-
--- each cause of such a step
-abbrev pub IsStepCause : ℕ → ℕ → Cause → Type 0
-IsStepCause before now (BenchFault step) = IsAfterFiles step × Rose before now
-IsStepCause before now (OutputMissing path) = Unit {0}
-IsStepCause before now (InputChanged path first second) = ⊥
-IsStepCause before now (SourceFault path) = ⊥
-IsStepCause before now NoMemory = Unit {0}
+-- each cause of this step, at which all files stand on the bench; a missing output is found where outputs are taken
+abbrev pub IsStepCause : BenchStep → ℕ → ℕ → Cause → Type 0
+IsStepCause step before now (BenchFault at) = (at ≡ step) × Rose before now
+IsStepCause step before now (OutputMissing path) = step ≡ Take
+IsStepCause step before now (InputChanged path first second) = ⊥
+IsStepCause step before now (SourceFault path) = ⊥
+IsStepCause step before now NoMemory = Unit {0}

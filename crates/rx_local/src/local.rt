@@ -1,13 +1,14 @@
 //! One attempt on this machine: a fresh bench, its tree, the run, the outputs, and the bench back.
 
-ghost use Rattle.std.specs.Prelude.{◌≡◌, ◌≤◌, [], ◌∷◌, All, List, MatchResult, Some, IfErr, IfOk, IfSome, map, pos};
+ghost use Rattle.std.specs.Prelude.{◌≡◌, ◌≤◌, ◌⊎◌, [], ◌∷◌, All, List, MatchResult, Some, IfErr, IfOk, IfSome, map, pos};
+ghost use Rattle.rx_world.specs.declared.outcomes.Exit.{Exit};
 ghost use Rattle.rx_world.specs.declared.sources.Given.{Given};
 ghost use Rattle.rx_world.specs.Answers.{Gives};
 ghost use Rattle.rx_world.specs.Benches.{IsFresh, Runs};
 ghost use Rattle.rx_world.specs.Files.{cut_files};
 ghost use Rattle.rx_world.specs.Outcomes.{IsClean, IsProper};
 ghost use Rattle.rx_world.specs.Trees.{tree_of};
-ghost use Rattle.rx_local.specs.Local.{IfMissing, IsAsListed, IsCauseOf, IsChanged, IsCounted, IsRunOf, LacksOutput, first_missing, listed_copy, world_copy};
+ghost use Rattle.rx_local.specs.Local.{IfMissing, IsAfterRun, IsAsListed, IsChanged, IsCounted, IsFailureOf, IsRunOf, LacksOutput, first_missing, listed_copy, world_copy};
 ghost use Rattle.rx_local.specs.Stage.{IsStepCause};
 
 use crate::stage::prepare;
@@ -36,10 +37,10 @@ pub fn run_local<W: World, M: BenchMaker<W>, S: Sources<W>>(
     benches: &mut M,
     sources: &mut S,
 ) -> Result<Outcome, Cause>
-    // What was read, and the run over it or the cause.
+    // What was read, and the run over it, or the cause and what had run.
     ensures attempted { (answers : List Given) × Gives S.listed S.keeps S.given W.content W.stamps_honest sources.old sources.new answers
         × MatchResult result (IsRunOf M.B.runs (M.last benches.new) W.tool W.tools_honest command.now files.now directories.now answers)
-        (IsCauseOf W.tool W.tools_honest command.now files.now directories.now answers) }
+        (IsFailureOf M.B.runs (M.last benches.new) W.tool W.tools_honest command.now files.now directories.now answers) }
     ensures proper { IfOk result (IsProper command.now) }
     // Its files are those of the bench that came back.
     ensures taken { IfOk result (λ outcome. IfSome (M.last benches.new) (λ bench. IfSome (M.B.tree bench) (λ tree.
@@ -81,7 +82,7 @@ fn run_on<W: World, B: Bench<W>, S: Sources<W>>(
     requires { IsFresh W.tools_honest (B.tree bench.old) (B.runs bench.old) (B.faults bench.old) }
     ensures attempted { (answers : List Given) × Gives S.listed S.keeps S.given W.content W.stamps_honest sources.old sources.new answers
         × MatchResult result (IsRunOf B.runs (Some bench.new) W.tool W.tools_honest command.now files.now directories.now answers)
-        (IsCauseOf W.tool W.tools_honest command.now files.now directories.now answers) }
+        (IsFailureOf B.runs (Some bench.new) W.tool W.tools_honest command.now files.now directories.now answers) }
     ensures proper { IfOk result (IsProper command.now) }
     ensures taken { IfOk result (λ outcome. IfSome (B.tree bench.new) (λ tree. outcome.exit.code ≡ pos 0 → outcome.files ≡ cut_files command.now.outputs tree.files)) }
     ensures later { (B.faults bench.old ≤ B.faults bench.new) × (S.faults sources.old ≤ S.faults sources.new) }
@@ -103,7 +104,8 @@ fn run_staged<W: World, B: Bench<W>>(
     ensures ran { IfOk result (λ outcome. Runs (B.tree bench.old) (B.runs bench.old) (B.runs bench.new) command.now outcome.exit) }
     ensures taken { IfOk result (λ outcome. IfSome (B.tree bench.new) (λ tree. outcome.exit.code ≡ pos 0 → outcome.files ≡ cut_files command.now.outputs tree.files)) }
     ensures later { B.faults bench.old ≤ B.faults bench.new }
-    ensures cause { IfErr result (IsStepCause (B.faults bench.old) (B.faults bench.new)) }
+    ensures cause { IfErr result (λ cause. IsStepCause BenchStep.Run (B.faults bench.old) (B.faults bench.new) cause ⊎ IsStepCause BenchStep.Take (B.faults bench.old) (B.faults bench.new) cause) }
+    ensures ended { IfErr result (λ cause. IsAfterRun cause → (exit : Exit) × (exit.code ≡ pos 0) × Runs (B.tree bench.old) (B.runs bench.old) (B.runs bench.new) command.now exit) }
     ensures missing { IfErr result (λ cause. IfMissing cause (λ path. W.tools_honest → IfSome (B.tree bench.old) (λ tree. LacksOutput W.tool command.now tree path))) }
     ensures lacks { IfErr result (λ cause. IfMissing cause (λ path. IfSome (B.tree bench.new) (λ tree. first_missing command.now.outputs tree.files ≡ Some path))) }
 {

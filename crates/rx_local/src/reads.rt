@@ -6,7 +6,7 @@ ghost use Rattle.rx_base.specs.Digests.{digest_of};
 ghost use Rattle.rx_world.specs.declared.sources.Given.{Given};
 ghost use Rattle.rx_world.specs.Answers.{Gives};
 ghost use Rattle.rx_world.specs.Sources.{given_bytes};
-ghost use Rattle.rx_local.specs.Reads.{Differ, IsReadCause, look_of, seen_content, seen_look};
+ghost use Rattle.rx_local.specs.Reads.{Differ, IsReadCause, look_of, seen_content};
 
 use rx_base::{Bytes, Digest, RelPath, TryClone, digest_of};
 use rx_world::{Cause, InputFile, Look, Refused, Seen, Sources, World};
@@ -54,20 +54,13 @@ fn change_of(file: &InputFile, look: Look, bytes: &[u8]) -> Option<(Seen, Seen)>
         executable: file.executable,
     };
     if look != gathered {
-        return Some((seen_look(gathered), seen_look(look)));
+        return Some((Seen::from(gathered), Seen::from(look)));
     }
     let digest = digest_of(bytes);
     if digest != file.digest {
         return Some((seen_content(look, file.digest), seen_content(look, digest)));
     }
     None
-}
-
-/// A look alone.
-fn seen_look(look: Look) -> Seen
-    ensures { result ≡ seen_look look }
-{
-    Seen { look, digest: None }
 }
 
 /// A look with the digest of the content.

@@ -1,6 +1,6 @@
 //! What stands on a bench before a run: the files, the directories, and those of the outputs.
 
-ghost use Rattle.std.specs.Prelude.{◌≡◌, ◌≤◌, [], ◌∷◌, List, option_to_list, IfErr, OnOk};
+ghost use Rattle.std.specs.Prelude.{◌≡◌, ◌≤◌, ◌⊎◌, [], ◌∷◌, List, option_to_list, IfErr, OnOk};
 ghost use Rattle.rx_base.specs.Paths.{parent_of};
 ghost use Rattle.rx_base.specs.Told.{Told};
 ghost use Rattle.rx_world.specs.declared.failures.Refused.TheVariants.{Failed as failed};
@@ -8,7 +8,7 @@ ghost use Rattle.rx_world.specs.declared.sources.Given.{Given};
 ghost use Rattle.rx_world.specs.Answers.{Gives};
 ghost use Rattle.rx_world.specs.Causes.{HasCause, HasCauseOf};
 ghost use Rattle.rx_world.specs.Trees.{parents_of, tree_with_directories, tree_with_files, with_parents};
-ghost use Rattle.rx_local.specs.Local.{IfMissing, IsCauseOf, IsCounted};
+ghost use Rattle.rx_local.specs.Local.{IsBeforeRun, IsCauseOf, IsCounted};
 ghost use Rattle.rx_local.specs.Stage.{HasStaged, IsStepCause, IsStageCause, MakesAll, PutsAll};
 
 use crate::reads::read_again;
@@ -30,7 +30,7 @@ pub fn prepare<W: World, B: Bench<W>, S: Sources<W>>(
         (λ staged. Told (B.tree bench.old) (B.tree bench.new) (λ x y. y ≡ with_parents command.now.outputs (tree_with_directories directories.now (tree_with_files staged x))))) }
     ensures err { IfErr result (λ cause. (answers : List Given) × Gives S.listed S.keeps S.given W.content W.stamps_honest sources.old sources.new answers
         × IsCauseOf W.tool W.tools_honest command.now files.now directories.now answers cause) }
-    ensures missing { IfErr result (λ cause. IfMissing cause (λ path. ⊥)) }
+    ensures before { IfErr result (λ cause. IsBeforeRun cause ⊎ (cause ≡ Cause.NoMemory)) }
     ensures runs { B.runs bench.new ≡ B.runs bench.old }
     ensures later { (B.faults bench.old ≤ B.faults bench.new) × (S.faults sources.old ≤ S.faults sources.new) }
     ensures cause { IfErr result (IsCounted (B.faults bench.old) (B.faults bench.new) (S.faults sources.old) (S.faults sources.new)) }
@@ -91,8 +91,7 @@ fn make_all<W: World, B: Bench<W>>(
     ensures tree { OnOk result (Told (B.tree bench.old) (B.tree bench.new) (λ x y. y ≡ with_parents outputs.now (tree_with_directories directories.now x))) }
     ensures runs { B.runs bench.new ≡ B.runs bench.old }
     ensures later { B.faults bench.old ≤ B.faults bench.new }
-    ensures cause { IfErr result (IsStepCause (B.faults bench.old) (B.faults bench.new)) }
-    ensures missing { IfErr result (λ cause. IfMissing cause (λ path. ⊥)) }
+    ensures cause { IfErr result (IsStepCause BenchStep.MakeDir (B.faults bench.old) (B.faults bench.new)) }
 {
     let Ok(()) = make_directories::<W, B>(directories, bench) else {
         return Err(Cause::BenchFault {

@@ -21,7 +21,7 @@ pub fn take_outputs<W: World, B: Bench<W>>(
     ensures same { B.tree bench.new ≡ B.tree bench.old }
     ensures runs { B.runs bench.new ≡ B.runs bench.old }
     ensures later { B.faults bench.old ≤ B.faults bench.new }
-    ensures cause { IfErr result (IsStepCause (B.faults bench.old) (B.faults bench.new)) }
+    ensures cause { IfErr result (IsStepCause BenchStep.Take (B.faults bench.old) (B.faults bench.new)) }
     ensures missing { IfErr result (λ cause. IfMissing cause (λ path. IfSome (B.tree bench.old) (λ tree. first_missing outputs.now tree.files ≡ Some path))) }
 {
     let Ok(mut files) = Vec::with_capacity(alloc, outputs.len()) else {
@@ -46,7 +46,7 @@ fn take_output<W: World, B: Bench<W>>(
     ensures same { B.tree bench.new ≡ B.tree bench.old }
     ensures runs { B.runs bench.new ≡ B.runs bench.old }
     ensures later { B.faults bench.old ≤ B.faults bench.new }
-    ensures cause { IfErr result (IsStepCause (B.faults bench.old) (B.faults bench.new)) }
+    ensures cause { IfErr result (IsStepCause BenchStep.Take (B.faults bench.old) (B.faults bench.new)) }
     ensures missing { IfErr result (λ cause. IfMissing cause (λ missing. (missing ≡ path.now) × Takes (B.tree bench.old) path.now None)) }
 {
     match bench.take(path) {

@@ -1,6 +1,6 @@
 use Rattle.std.proofs.Common.{[], ◌∷◌, refl}
 use Rattle.std.proofs.lemmas.Result.{err_from_is_err_and}
-use Rattle.rx_local.proofs.Staging.{copy_of, read-cause, read_of, staged-one, unput-one}
+use Rattle.rx_local.proofs.Staging.{copy_of, read-cause, read_of, refused-one, staged-one}
 use Rattle.rx_local.proofs.stage.stage_file.Goals as goal
 
 pub returns-in_err-bytes-clause-err : goal.returns-in_err-bytes-clause-err
@@ -20,4 +20,4 @@ returns-in-Ok-clause-ok g c = record {
 
 pub returns-clause-err : goal.returns-clause-err
 returns-clause-err g c =
-    (_, c.in_ok-bytes.ensures.ok.1, (refl, unput-one c.args.file.now c.in_ok-bytes.bytes c.in_ok-bytes.ensures.ok.0))
+    (_, c.in_ok-bytes.ensures.ok.1, (refl, refused-one c.args.file.now c.in_ok-bytes.bytes c.in_ok-bytes.ensures.ok.0))
