@@ -1,3 +1,4 @@
+pub mod DistinctLemmas
 pub mod FrameLemmas
 pub mod MessageLemmas
 pub mod NameLemmas

@@ -1,13 +1,17 @@
 -- Fields read one after the other.
-use Rattle.std.proofs.Common.{◌≡◌, ℕ, zero, suc, ◌+◌, ◌<◌, ◌≤◌, ◌==◌, true, false, List, [], ◌∷◌, length, length-append, ap, Result, Ok, Err, refl, sym, ◌∙◌, arith, eq-eqb}
+use Rattle.std.proofs.Common.{◌≡◌, ℕ, zero, suc, ◌+◌, ◌<◌, ◌≤◌, ◌==◌, true, false, List, [], ◌∷◌, length, length-append, ap, Option, None, Some, Result, Ok, Err, refl, sym, ◌∙◌, subst, arith, eq-eqb}
 use Rattle.std.proofs.lemmas.Bool.{ne_eqb}
 use Rattle.rx_wire.specs.declared.faults.WireFault.{WireFault}
-use Rattle.rx_wire.specs.Fields.{Placed, Reads as ReadsField, field_at}
+use Rattle.rx_base.specs.Results.{◌>>=◌}
+use Rattle.rx_wire.specs.Fields.{Placed, Reads as ReadsField, ReadsAll, field_at}
 use Rattle.rx_wire.specs.Values.{Field}
 use Rattle.rx_wire.specs.Varints.{IsVarint}
+use Rattle.rx_wire.proofs.FieldLaws.{field_stands}
+use Rattle.rx_wire.proofs.Grammar.{IsBytes}
 use Rattle.rx_session.specs.declared.message_fault.MessageFault.{MessageFault}
 use Rattle.rx_session.specs.declared.message_fault.MessageFault.TheVariants as faults
-use Rattle.rx_session.specs.Messages.{Reads, fields_from, message_from}
+use Rattle.rx_session.specs.declared.raw_request.RawRequest.{RawRequest}
+use Rattle.rx_session.specs.Messages.{Reads, fields_from, made_of, message_from, no_request, raw_request_of, request_with}
 
 -- the fields from here on make of the value what all of them make
 pub record IsReadingOn {X : Type 0} (with : X → Placed → Result X WireFault) (whole : Result X WireFault) (text : List ℕ) (at : ℕ) (value : X) : Type 0 where
@@ -83,3 +87,36 @@ grows all at end f r =
     let size = r.size in
     let whole : length r.text ≡ length r.spelled.tag + length r.spelled.value = ap length r.spelled.whole ∙ length-append r.spelled.tag r.spelled.value in
     omega arith
+
+-- ---- fields that are told as a row
+
+same_then : {X : Type 0} (first : Result X WireFault) (f g : X → Result X WireFault) → ((x : X) → f x ≡ g x) → (first >>= f) ≡ (first >>= g)
+same_then (Ok x) f g h = h x
+same_then (Err fault) f g h = refl
+
+made_at : {X : Type 0} (with : X → Placed → Result X WireFault) (text : List ℕ) → IsBytes text → (most : ℕ) (value : X) (at : ℕ) (row : List Placed) (fault : Option WireFault)
+    → length text ≤ at + most → ReadsAll text at row fault → fields_from with most value text at ≡ made_of with value row fault
+unfolding fields_from
+made_at with text h zero value at [] None enough r = refl
+made_at with text h zero value at [] (Some fault) enough r = absurd (omega (arith, r.0))
+made_at with text h zero value at (placed ∷ more) fault enough r = absurd (omega (arith, r.0))
+made_at with text h (suc most) value at [] None enough r =
+    let test : (at == length text) ≡ true = eq-eqb at (length text) r in
+    rw test refl
+made_at with text h (suc most) value at [] (Some fault) enough r =
+    let test : (at == length text) ≡ false = ne_eqb at (length text) (λ e. omega (arith, r.0)) in
+    rw (test, r.1) refl
+made_at with text h (suc most) value at (placed ∷ more) fault enough r =
+    let test : (at == length text) ≡ false = ne_eqb at (length text) (λ e. omega (arith, r.0)) in
+    let further = grows text at placed.end placed.field (field_stands text at placed h r.1) in
+    rw (test, r.1)
+    (same_then (with value placed) (λ next. fields_from with most next text placed.end) (λ next. made_of with next more fault) (λ next. made_at with text h most next placed.end more fault (omega arith) r.2))
+
+-- what is read of a payload is what its fields make
+pub made_is : (payload : List ℕ) → IsBytes payload → (row : List Placed) (fault : Option WireFault) → ReadsAll payload 0 row fault → raw_request_of payload ≡ made_of (request_with payload) no_request row fault
+unfolding raw_request_of
+made_is payload h row fault r = made_at (request_with payload) payload h (length payload) no_request 0 row fault (omega arith) r
+
+pub by_fields : {Y : Type 0} (view : Y → RawRequest) (result : Result Y MessageFault) (payload : List ℕ) → IsBytes payload → (row : List Placed) (fault : Option WireFault) → ReadsAll payload 0 row fault
+    → Reads view result (raw_request_of payload) → Reads view result (made_of (request_with payload) no_request row fault)
+by_fields view result payload h row fault r told = subst (λ (given : Result RawRequest WireFault). Reads view result given) (made_is payload h row fault r) told

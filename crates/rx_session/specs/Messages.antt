@@ -1,5 +1,5 @@
 -- The Request message by its bytes: the wire format's rules on unknown, repeated and missing fields.
-use Rattle.std.specs.Prelude.{◌≡◌, ℕ, zero, suc, ◌==◌, ◌||◌, Bool, List, [], ◌∷◌, ◌++◌, length, take, Result, Ok, Err, if◌then◌else◌}
+use Rattle.std.specs.Prelude.{◌≡◌, ℕ, zero, suc, ◌==◌, ◌||◌, Bool, List, [], ◌∷◌, ◌++◌, length, take, Option, None, Some, Result, Ok, Err, if◌then◌else◌}
 use Rattle.std.specs.Str.{is_utf8}
 use Rattle.rx_base.specs.Results.{◌>>=◌}
 use Rattle.rx_wire.specs.declared.faults.WireFault.{WireFault}
@@ -37,6 +37,14 @@ fields_from with (suc most) value text at =
       placed ← field_at text at
       next ← with value placed
       fields_from with most next text placed.end
+
+-- What a row of fields makes of a value: each in turn changes it or is refused. The wire format refuses what stands behind them, where it does.
+abbrev pub made_of : {X : Type 0} → (X → Placed → Result X WireFault) → X → List Placed → Option WireFault → Result X WireFault
+made_of with value [] None = Ok value
+made_of with value [] (Some fault) = Err fault
+made_of with value (placed ∷ more) fault = do
+  next ← with value placed
+  made_of with next more fault
 
 -- what all fields from an offset on make of a value; each has a byte at least
 abbrev pub message_from : {X : Type 0} → (X → Placed → Result X WireFault) → X → List ℕ → ℕ → Result X WireFault

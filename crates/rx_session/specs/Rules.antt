@@ -3,9 +3,6 @@ use Rattle.std.specs.Prelude.{ℕ, ◌==◌, ◌&&◌, Bool, true, false, not, n
 use Rattle.std.specs.List.{list_any, list_all}
 use Rattle.std.specs.Result.{result_unwrap_or}
 use Rattle.std.specs.Str.{bytes_eq}
-use Rattle.std.specs.Ordering.{nat_cmp}
-use Rattle.std.specs.Cmp.Lexicographic.{slice_cmp}
-use Rattle.rx_base.specs.SortedPaths.{sorted_once}
 use Rattle.rx_base.specs.Paths.{read_of, is_below}
 use Rattle.rx_base.specs.Results.{◌>>=◌}
 use Rattle.rx_world.specs.declared.commands.Kind.{Kind}
@@ -36,9 +33,10 @@ path_in text = result_unwrap_or (read_of text) []
 abbrev pub paths_in : List (List ℕ) → List (List ℕ)
 paths_in texts = map path_in texts
 
--- no two of the texts are equal: taking each once loses none
-unfoldable pub are_distinct : List (List ℕ) → Bool
-are_distinct texts = length (sorted_once (slice_cmp nat_cmp) texts) == length texts
+-- no two of the texts are equal: none stands among those behind it
+abbrev pub are_distinct : List (List ℕ) → Bool
+are_distinct [] = true
+are_distinct (text ∷ texts) = not (list_any (bytes_eq text) texts) && are_distinct texts
 
 -- ---- the fields' rules
 

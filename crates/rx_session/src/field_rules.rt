@@ -81,7 +81,6 @@ fn sort_once(texts: Vec<&Text>) -> Result<Vec<&Text>, NoMemory>
 }
 
 /// Whether no two texts are equal.
-#[tactic(auto, unfolding(crate::specs::Rules::are_distinct))]
 fn are_distinct(texts: Vec<&Text>) -> Result<bool, NoMemory>
     ensures { IfOk result (λ distinct. distinct ≡ are_distinct (map (λ text. text.now) texts.entry.items)) }
 {

@@ -6,7 +6,7 @@ ghost use Rattle.rx_session.specs.Jobs.{command_of, declared_of};
 use crate::paths_in::{path_in, paths_in};
 use crate::requests::Request;
 use rx_base::{Items, NoMemory, RelPath, TryClone, sort_paths};
-use rx_world::{Command, Pair};
+use rx_world::Command;
 use std::alloc::Global;
 
 /// The command of a request. Its outputs are sorted by their bytes, each once.
@@ -16,10 +16,10 @@ pub fn command_for(alloc: Global, request: &Request) -> Result<Command, NoMemory
 {
     Ok(Command {
         words: request.words.try_clone(alloc)?,
-        environment: copy_pairs(alloc, request.environment.as_slice())?,
+        environment: request.environment.try_clone(alloc)?,
         working_directory: path_in(alloc, &request.working_directory)?,
         outputs: sort_paths(paths_in(alloc, request.outputs.as_slice())?)?,
-        platform: copy_pairs(alloc, request.platform.as_slice())?,
+        platform: request.platform.try_clone(alloc)?,
         timeout_seconds: request.timeout_seconds,
     })
 }
@@ -34,16 +34,4 @@ pub fn declared_inputs(alloc: Global, request: &Request) -> Result<Items<RelPath
     let mut more = paths_in(alloc, request.toolchain_inputs.as_slice())?.into_vec();
     paths.append(&mut more)?;
     sort_paths(Items::from_vec(paths))
-}
-
-fn copy_pairs(alloc: Global, pairs: &[Pair]) -> Result<Items<Pair>, NoMemory>
-    ensures { IfOk result (λ copy. copy ≡ pairs.now) }
-{
-    let mut copy = Vec::with_capacity(alloc, pairs.len())?;
-    for pair in pairs {
-        let name = pair.name.try_clone(alloc)?;
-        let value = pair.value.try_clone(alloc)?;
-        copy.push(Pair { name, value })?;
-    }
-    Ok(Items::from_vec(copy))
 }

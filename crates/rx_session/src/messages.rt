@@ -1,10 +1,11 @@
 //! The Request message read field by field: each field in turn changes what was read so far. A
 //! text is copied once, when it is read; nothing else of the payload is kept.
 
-ghost use Rattle.std.specs.Prelude.{◌≡◌, OnOk};
+ghost use Rattle.std.specs.Prelude.{◌≡◌, List, Option, OnOk};
+ghost use Rattle.rx_wire.specs.declared.faults.WireFault.{WireFault};
 ghost use Rattle.rx_wire.specs.Values.{content_of};
-ghost use Rattle.rx_wire.specs.Fields.{placed_before};
-ghost use Rattle.rx_session.specs.Messages.{Reads, bytes_before, is_pair_field, is_text_field, pair_from, pair_with_content, pair_with_text, raw_request_of, no_pair, no_request, request_with, text_at, with_bytes, with_number, with_pair, with_text};
+ghost use Rattle.rx_wire.specs.Fields.{Placed, ReadsAll, placed_before};
+ghost use Rattle.rx_session.specs.Messages.{Reads, bytes_before, is_pair_field, is_text_field, made_of, pair_from, pair_with_content, pair_with_text, raw_request_of, no_pair, no_request, request_with, text_at, with_bytes, with_number, with_pair, with_text};
 
 use crate::message_fault::MessageFault;
 use crate::raw_request::RawRequest;
@@ -16,7 +17,10 @@ use std::alloc::Global;
 /// The Request message of a payload.
 #[tactic(auto, unfolding(crate::specs::Messages::raw_request_of))]
 pub(crate) fn read_raw_request(alloc: Global, payload: &[u8]) -> Result<RawRequest, MessageFault>
-    ensures { Reads (λ raw. raw) result (raw_request_of payload.now) }
+    ensures message { Reads (λ raw. raw) result (raw_request_of payload.now) }
+    // It is what the fields make, one after the other, of a message without fields.
+    ensures fields { (row : List Placed) (fault : Option WireFault) → ReadsAll payload.now 0 row fault
+        → Reads (λ raw. raw) result (made_of (request_with payload.now) no_request row fault) }
 {
     let mut raw = no_request(alloc);
     let mut fields = Fields::new(payload);

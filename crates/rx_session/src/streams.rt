@@ -60,6 +60,7 @@ fn read_piece<S: Source>(
 pub fn write_frame<K: Sink>(sink: &mut K, frame: &[u8]) -> (usize, Result<(), Failed>)
     ensures bound { result.0 ≤ length frame.now }
     ensures whole { OnOk result.1 (result.0 ≡ length frame.now) }
+    ensures cut { OnErr result.1 (result.0 < length frame.now) }
     ensures written { Appends (K.taken sink.old) (K.taken sink.new) (take result.0 frame.now) }
     ensures later { K.faults sink.old ≤ K.faults sink.new }
     ensures failed { OnErr result.1 (Rose (K.faults sink.old) (K.faults sink.new)) }
