@@ -5,9 +5,9 @@
 #
 # Run by hand, on a machine that does nothing else. The program gather_bench gathers ROUNDS times (9) and times each round by the
 # clock; told is the median. There are 900 headers of some 40,000 bytes, each with ten includes, and a compiler that has four
-# directories to search. A scan reads each file that an include can reach whether or not its digest is kept, so the cache of
-# digests is measured by a tool that declares the headers: with a new cache each time, and with one that has them all. The tree
-# is made before the first round, so that `gather` alone is measured.
+# directories to search. A scan reads each file that an include can reach whether or not its digest is kept, and a tool that
+# declares the headers has only those read whose digest isn't: so both are measured with a new cache of digests each time, and
+# with one that has them all. The tree is made before the first round, so that `gather` alone is measured.
 set -eu
 export LC_ALL=C
 
@@ -27,6 +27,7 @@ tell() {
     echo "$2: $("$bench" "$1" 900 "$rounds" 2>&1 > /dev/null | median) milliseconds"
 }
 
-tell compile "a translation unit that reaches 900 headers"
+tell compile "a translation unit that reaches 900 headers, no digest kept"
+tell compile-warm "a translation unit that reaches 900 headers, all digests kept"
 tell cold "a tool that declares them, no digest kept"
 tell warm "a tool that declares them, all digests kept"

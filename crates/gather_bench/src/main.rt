@@ -1,9 +1,9 @@
 //! Gathers what a command runs on from a source tree in memory, and tells what that took:
 //! `gather_bench WORK HEADERS ROUNDS`.
 //!
-//! WORK is `compile` for a translation unit that reaches so many headers, and `cold` or `warm` for a
-//! tool that declares them: with a new cache of digests for each round, or with one for all, which is
-//! filled before the first. Standard output has what was gathered, which is the same each time;
+//! WORK is `compile` or `compile-warm` for a translation unit that reaches so many headers, and `cold`
+//! or `warm` for a tool that declares them: with a new cache of digests for each round, or with one
+//! for all, which is filled before the first. Standard output has what was gathered, which is the same each time;
 //! standard error has a line for each round, its microseconds. The tree is made once, before the first.
 #![tactic(auto)]
 
@@ -36,7 +36,8 @@ struct Task {
 /// The work of a word.
 fn work_of(word: &str) -> Option<Work> {
     match word {
-        "compile" => Some(Work::Compile),
+        "compile" => Some(Work::CompileCold),
+        "compile-warm" => Some(Work::CompileWarm),
         "cold" => Some(Work::ToolCold),
         "warm" => Some(Work::ToolWarm),
         _ => None,
@@ -94,8 +95,14 @@ fn measure<R: Clock + Print + Eprint + Wait>(
     println!(rt; "{} files", first.files.len())?;
     for _ in 0..task.rounds {
         match work {
-            Work::ToolWarm => gather_timed(rt, alloc, &mut headers, &shared, work)?,
-            Work::Compile | Work::ToolCold => {
+            Work::CompileWarm | Work::ToolWarm => gather_timed(
+                rt,
+                alloc,
+                &mut headers,
+                &shared,
+                work,
+            )?,
+            Work::CompileCold | Work::ToolCold => {
                 let cache = DigestCache::new(alloc, DIGEST_CACHE_LIMIT)?;
                 gather_timed(rt, alloc, &mut headers, &cache, work)?
             }
@@ -106,7 +113,7 @@ fn measure<R: Clock + Print + Eprint + Wait>(
 
 fn main(rt: HostRuntime) -> ExitCode {
     let Ok(Some(task)) = read_words(&rt) else {
-        let _ = eprintln!(rt; "usage: gather_bench compile|cold|warm HEADERS ROUNDS");
+        let _ = eprintln!(rt; "usage: gather_bench compile|compile-warm|cold|warm HEADERS ROUNDS");
         return ExitCode::FAILURE;
     };
     match measure(&rt, rt.alloc(), task) {

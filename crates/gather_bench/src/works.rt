@@ -13,8 +13,10 @@ use std::sync::Wait;
 /// What is measured.
 #[derive(Clone, Copy, Debug, PartialEq, Eq)]
 pub enum Work {
-    /// A translation unit, whose includes are scanned.
-    Compile,
+    /// A translation unit, whose includes are scanned, with a new cache of digests.
+    CompileCold,
+    /// The same with a cache that has them.
+    CompileWarm,
     /// A tool that declares all headers, with a new cache of digests.
     ToolCold,
     /// The same with a cache that has them.
@@ -50,7 +52,7 @@ pub fn gather_work(
 ) -> Result<Gathered, Fault> {
     let command = command(alloc)?;
     let (kind, input) = match work {
-        Work::Compile => (Kind::Compile, "project/src/main.cc"),
+        Work::CompileCold | Work::CompileWarm => (Kind::Compile, "project/src/main.cc"),
         Work::ToolCold | Work::ToolWarm => (Kind::Tool, "project/include"),
     };
     let inputs = [RelPath::read(alloc, input)?];

@@ -16,18 +16,18 @@ use Rattle.rx_world.specs.declared.sources.Given.{Given}
 use Rattle.rx_world.specs.declared.sources.SourceEntry.{SourceEntry}
 use Rattle.rx_world.specs.Sources.{is_file}
 use Rattle.rx_world.proofs.Among.{Among, among-filter, among-from, among-from_filter, contains-from}
-use Rattle.rx_scan.specs.declared.faults.SightFault.{SightFault}
-use Rattle.rx_scan.specs.declared.faults.SightFault.TheVariants.{InputChanged as Changed, NoMemory as OutOfMemory, SourceFault as Lost}
+use Rattle.rx_reach.specs.declared.faults.SightFault.{SightFault}
+use Rattle.rx_reach.specs.declared.faults.SightFault.TheVariants.{InputChanged as Changed, NoMemory as OutOfMemory, SourceFault as Lost}
 use Rattle.rx_scan.specs.declared.gather_fault.GatherFault.{GatherFault}
 use Rattle.rx_scan.specs.declared.gather_fault.GatherFault.TheVariants.{Blocked, InputChanged, InputMissing, NoMemory, NotRemotable, SourceFault, TooLarge}
 use Rattle.rx_scan.specs.declared.inputs.Looked.{Looked}
-use Rattle.rx_scan.specs.Candidates.{is_dir}
+use Rattle.rx_reach.specs.Candidates.{is_dir}
 use Rattle.rx_scan.specs.GatherFault.{fault_of}
 use Rattle.rx_scan.specs.Inputs.{BlamesInputs, BlamesLists, HasListed, HasTooMany, IsDeclared, IsDeclaredBy, IsLooked, IsOver, IsUnderOne, OnlyTooMany, empty_among, first_missing}
 use Rattle.rx_scan.specs.Lists.{Fails, IsListed, Learns, Listing, Shows, is_under, paths_of}
-use Rattle.rx_scan.specs.Scenes.{Scene}
-use Rattle.rx_scan.specs.Sights.{Blames, Notes}
-use Rattle.rx_scan.proofs.SightLemmas.{blames-later}
+use Rattle.rx_reach.specs.Scenes.{Scene}
+use Rattle.rx_reach.specs.Sights.{Blames, Notes}
+use Rattle.rx_reach.proofs.SightLemmas.{blames-later}
 use Rattle.rx_scan.proofs.Learning.{fails-after, fails-join, fails-so, learns-join, learns-none, shows-first, shows-then}
 use Rattle.rx_scan.proofs.InputSteps.{taken}
 

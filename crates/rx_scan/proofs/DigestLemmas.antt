@@ -1,5 +1,5 @@
 -- Files that are known by their paths, a read that is noted again, and files that get their digests one by one.
-use Rattle.std.proofs.Common.{arith, ◌≡◌, ℕ, ◌+◌, ◌<◌, Bool, List, [], ◌∷◌, ◌++◌, length, map, take, get_or, sym, ap, subst, ◌∙◌}
+use Rattle.std.proofs.Common.{◌≡◌, ℕ, ◌+◌, ◌<◌, Bool, List, [], ◌∷◌, ◌++◌, length, map, take, get_or, sym, ap, subst, ◌∙◌}
 use Rattle.std.specs.Borrow.{Bor}
 use Rattle.std.specs.Prelude.{All, Contains, IfSome, Ok, Err, Option, None, Some, Result}
 use Rattle.std.specs.declared.cmp.Ordering.TheVariants.{Equal}
@@ -21,9 +21,9 @@ use Rattle.rx_world.specs.declared.sources.Given.{Given}
 use Rattle.rx_world.specs.Sources.{GivesContent}
 use Rattle.rx_scan.specs.declared.seen_files.SeenFile.{SeenFile}
 use Rattle.rx_scan.specs.Digests.{IsSeen, seen_file}
-use Rattle.rx_scan.specs.Explored.{HaveDigests}
-use Rattle.rx_scan.specs.Sights.{Notes, answer_of, seen_at}
-use Rattle.rx_scan.proofs.SightLemmas.{notes-keep}
+use Rattle.rx_reach.specs.Explored.{HaveDigests}
+use Rattle.rx_reach.specs.Sights.{Notes, seen_at}
+use Rattle.rx_reach.proofs.SightLemmas.{notes-keep}
 
 abbrev Sights : Type 0
 Sights = List (List ℕ × Look)
@@ -40,12 +40,9 @@ file-found files path (Ok place) at (Some f) found e item =
       exact_bytes f.now.path path (subst (λ (one : InputFile). slice_cmp nat_cmp one.path path ≡ Equal) (ap (λ n. get_or files n f.now) (sym same) ∙ sym is) (found f.now)),
     )
 
--- a look that is noted at a path that was seen is the one that was seen
-pub noted-again : (old new : Sights) (path : List ℕ) (first look : Look) (bytes : Option (List ℕ)) → seen_at old path ≡ Some first → Notes old new (answer_of path look bytes ∷ []) → look ≡ first
-noted-again old new path first look bytes e n =
-    let here = notes-keep old new (answer_of path look bytes ∷ []) path first n e in
-    let told = All-get_or (λ (answer : Given). seen_at new answer.path ≡ Some answer.look) (answer_of path look bytes ∷ []) 0 (answer_of path look bytes) (omega arith) n.same in
-    cc
+-- what is seen at a path that was seen before is the same
+pub seen-again : (old new : Sights) (answers : List Given) (path : List ℕ) (first look : Look) → seen_at old path ≡ Some first → Notes old new answers → seen_at new path ≡ Some look → look ≡ first
+seen-again old new answers path first look e n there = let here = notes-keep old new answers path first n e in cc
 
 -- the digest of bytes that were read, where they are the content of the path under the stamp
 pub digest-read : (content : List ℕ → Stamp → List ℕ) (path bytes lent : List ℕ) (look : Look) (stamp : Stamp) (executable : Bool) (digest : Digest)

@@ -12,13 +12,13 @@ use Rattle.rx_world.specs.declared.refusals.LocalCause.TheVariants as local
 use Rattle.rx_world.specs.declared.sources.Given.{Given}
 use Rattle.rx_world.specs.declared.sources.SourceEntry.{SourceEntry}
 use Rattle.rx_world.proofs.AnswerLemmas.{gives-none}
-use Rattle.rx_scan.specs.declared.faults.SightFault.{SightFault}
-use Rattle.rx_scan.specs.declared.faults.SightFault.TheVariants.{InputChanged as Changed, NoMemory as OutOfMemory, SourceFault as Lost}
+use Rattle.rx_reach.specs.declared.faults.SightFault.{SightFault}
+use Rattle.rx_reach.specs.declared.faults.SightFault.TheVariants.{InputChanged as Changed, NoMemory as OutOfMemory, SourceFault as Lost}
 use Rattle.rx_scan.specs.declared.gather_fault.GatherFault.{GatherFault}
 use Rattle.rx_scan.specs.declared.gather_fault.GatherFault.TheVariants.{Blocked, InputChanged, InputMissing, NoMemory, NotRemotable, SourceFault, TooLarge}
 use Rattle.rx_scan.specs.declared.limits.Extent.TheVariants.{WholeList}
 use Rattle.rx_scan.specs.declared.scanned.Scanned.{Scanned}
-use Rattle.rx_scan.specs.declared.searches.Search.{Search}
+use Rattle.rx_reach.specs.declared.searches.Search.{Search}
 use Rattle.rx_scan.specs.declared.seen_files.SeenFile.{SeenFile}
 use Rattle.rx_scan.specs.declared.words.Said.{Said}
 use Rattle.rx_scan.specs.Gathering.{AllowsWords, Asked, BlamesGather, FitsScan, HasPlan, IsInput, IsKept, IsKeptAfter, IsWithin, command_asked, plan_of, reading_asked, said_asked, search_asked}
@@ -27,16 +27,16 @@ use Rattle.rx_scan.specs.InputTrees.{BlamesTree, IsFilesIf, cause_of, paths_of}
 use Rattle.rx_scan.specs.Limits.{check_of}
 use Rattle.rx_scan.specs.Lists.{Fails, Learns, Listing, Shows}
 use Rattle.rx_scan.specs.Plans.{local_plan}
-use Rattle.rx_scan.specs.Reach.{IsHard, IsLeastPath}
+use Rattle.rx_reach.specs.Reach.{IsHard, IsLeastPath}
 use Rattle.rx_scan.specs.Scanned.{BlamesScan, IsScanOf}
-use Rattle.rx_scan.specs.Scans.{Ends, Scans}
-use Rattle.rx_scan.specs.Scenes.{Scene}
-use Rattle.rx_scan.specs.Sights.{Blames, Notes}
+use Rattle.rx_reach.specs.Scans.{Ends, Scans}
+use Rattle.rx_reach.specs.Scenes.{Scene}
+use Rattle.rx_reach.specs.Sights.{Blames, Notes}
 use Rattle.rx_scan.specs.Whole.{IsListOf}
 use Rattle.rx_scan.specs.Words.{search_for, with_outputs, word_for}
 use Rattle.rx_scan.proofs.Learning.{fails-after, fails-join, fails-one, fails-so, learns-join, shows-first, shows-then}
 use Rattle.rx_scan.proofs.ScanBlames.{fails-ends, learns-scans}
-use Rattle.rx_scan.proofs.SightLemmas.{blames-later, seen-later}
+use Rattle.rx_reach.proofs.SightLemmas.{blames-later, seen-later}
 
 abbrev Sights : Type 0
 Sights = List (List ℕ × Look)

@@ -4,7 +4,7 @@ use Rattle.std.specs.Prelude.{All, Contains, None, Option, Some, ◌↔◌}
 use Rattle.std.specs.Cmp.Lexicographic.{nat_list_cmp_total}
 use Rattle.std.specs.FinMap.{nat_cmp-IsAntisymmetric, slice_cmp-IsAntisymmetric}
 use Rattle.std.specs.List.{AllByRecursion, list_any}
-use Rattle.std.specs.Option.{is_some, option_or}
+use Rattle.std.specs.Option.{is_some, option_map, option_or}
 use Rattle.std.proofs.lemmas.List.{length-map}
 use Rattle.std.proofs.lemmas.List.Elements.{All-from_recursion, Contains-append_cases, Contains-get_or, recursion_from_All}
 use Rattle.std.proofs.lemmas.Slice.Eq.{bytes_eq-Decides}
@@ -12,13 +12,17 @@ use Rattle.rx_base.specs.Paths.{is_below}
 use Rattle.rx_base.specs.SortedPaths.{AreSorted, first_at_or_above, sorted_paths}
 use Rattle.rx_base.proofs.Orders.{HasSameMembers-sorted_once}
 use Rattle.rx_base.proofs.SortedSearch.{position_is_any}
+use Rattle.rx_cppflags.specs.declared.readings.Reading.{Reading}
+use Rattle.rx_cppflags.specs.declared.readings.Reading.TheVariants as reading
 use Rattle.rx_cppflags.specs.Readings.{IsSafeOutput}
+use Rattle.rx_world.specs.declared.attempts.Plan.{Plan}
 use Rattle.rx_world.specs.declared.commands.Command.{Command}
 use Rattle.rx_world.specs.declared.input_files.InputFile.{InputFile}
 use Rattle.rx_world.specs.declared.looks.Look.{Look}
 use Rattle.rx_world.specs.declared.looks.Look.TheVariants.{File}
 use Rattle.rx_world.specs.declared.looks.Stamp.{Stamp}
 use Rattle.rx_world.specs.declared.refusals.LocalCause.{LocalCause}
+use Rattle.rx_world.specs.declared.refusals.LocalCause.TheVariants as local
 use Rattle.rx_world.specs.declared.sources.Given.{Given}
 use Rattle.rx_world.specs.declared.sources.SourceEntry.{SourceEntry}
 use Rattle.rx_world.proofs.Among.{Among, all-among, among-from}
@@ -26,21 +30,22 @@ use Rattle.rx_scan.specs.declared.gathering.Gathered.{Gathered}
 use Rattle.rx_scan.specs.declared.input_trees.InputTree.{InputTree}
 use Rattle.rx_scan.specs.declared.scanned.Scanned.{Scanned}
 use Rattle.rx_scan.specs.declared.seen_files.SeenFile.{SeenFile}
+use Rattle.rx_scan.specs.declared.words.Said.{Said}
 use Rattle.rx_scan.specs.Digests.{seen_file}
-use Rattle.rx_scan.specs.Gathering.{AreApart, Asked, IsGathered, IsInput, IsInputDir, IsOrderly, command_asked, plan_of, said_asked}
+use Rattle.rx_scan.specs.Gathering.{AreApart, Asked, IsGathered, IsInput, IsInputDir, IsOrderly, IsPlanned, MayKeep, command_asked, plan_of, reading_asked, said_asked}
 use Rattle.rx_scan.specs.InputTrees.{IsFilesIf, IsOrderlyTree, cause_of, paths_of}
 use Rattle.rx_scan.specs.Lists.{Learns}
 use Rattle.rx_scan.specs.Scanned.{IsScanOf}
-use Rattle.rx_scan.specs.Scans.{Scans}
-use Rattle.rx_scan.specs.Scenes.{Scene}
-use Rattle.rx_scan.specs.Sights.{sights_of}
+use Rattle.rx_reach.specs.Scans.{Scans}
+use Rattle.rx_reach.specs.Scenes.{Scene}
+use Rattle.rx_reach.specs.Sights.{sights_of}
 use Rattle.rx_scan.specs.Ways.{above_among, blocked, blocked_in, over_among, upper_among}
 use Rattle.rx_scan.specs.Whole.{IsSeenIn}
-use Rattle.rx_scan.specs.Words.{with_outputs}
+use Rattle.rx_scan.specs.Words.{search_for, with_outputs, word_for}
 use Rattle.rx_scan.proofs.DeclaredSteps.{any-contains}
 use Rattle.rx_scan.proofs.GatherSteps.{inputs-so, kept-so, within-so}
 use Rattle.rx_scan.proofs.Learning.{learns-join}
-use Rattle.rx_scan.proofs.OpenedLemmas.{opened-reached}
+use Rattle.rx_reach.proofs.OpenedLemmas.{opened-reached}
 use Rattle.rx_scan.proofs.ScanBlames.{learns-scans}
 
 abbrev Sights : Type 0
@@ -205,12 +210,13 @@ outputs-apart command inputs outputs safe own upper lower u l t =
     ]
 
 pub orderly-so : (asked : Asked) (inputs outputs beside : List (List ℕ)) (tree : InputTree) (gathered : Gathered) → gathered.command ≡ command_asked asked → gathered.command ≡ with_outputs asked.command outputs → AllByRecursion (IsSafeOutput asked.command inputs outputs) outputs
-    → IsOrderlyTree gathered.command beside tree → gathered.dirs ≡ tree.dirs → map seen_file gathered.files ≡ tree.files → AreSorted (map (λ found. found.path) gathered.view) → IsOrderly asked gathered
-orderly-so asked inputs outputs beside tree gathered e w safe t ds same view =
+    → IsOrderlyTree gathered.command beside tree → gathered.dirs ≡ tree.dirs → map seen_file gathered.files ≡ tree.files → AreSorted (map (λ found. found.path) gathered.view) → IsPlanned asked gathered.plan → IsOrderly asked gathered
+orderly-so asked inputs outputs beside tree gathered e w safe t ds same view planned =
     let paths : inputs_of gathered.files ≡ paths_of tree.files = same-paths gathered.files tree.files same in
     let there : (path : List ℕ) → Contains (inputs_of gathered.files) path → Contains (paths_of tree.files) path = λ path c. subst (λ ps. Contains ps path) paths c in
     record {
       command_is = e;
+      planned = planned;
       few = omega (arith, t.few, ap length same, length-map gathered.files seen_file);
       sorted = subst AreSorted (sym paths) t.sorted;
       sorted_dirs = subst AreSorted (sym ds) t.sorted_dirs;
@@ -226,6 +232,21 @@ orderly-so asked inputs outputs beside tree gathered e w safe t ds same view =
       outputs_apart = λ own. subst (λ (c : Command). AreApart c.outputs) (sym w) (outputs-apart asked.command inputs outputs safe own);
       outputs_below = λ own. subst (λ (c : Command). All (λ output. is_below output asked.command.working_directory ≡ true) c.outputs) (sym w) (outputs-below asked.command inputs outputs safe own);
     }
+
+-- ---- the plan
+
+may-keep : (command : Command) (read : Option Reading) (hard : Option (List ℕ)) → (search_for command read ≡ None → hard ≡ None) → MayKeep read (cause_of (word_for read) hard)
+may-keep command None hard h = ap (option_map (λ path. local.Path path)) (h refl)
+may-keep command (Some (reading.Compile source quote_dirs dirs forced sysroots outputs is_c)) hard h = (hard, refl)
+may-keep command (Some (reading.LocalOnly word)) hard h = refl
+
+pub planned-so : (asked : Asked) (said : Said) (hard : Option (List ℕ)) (cause : Option LocalCause) (plan : Plan) → said ≡ said_asked asked → cause ≡ cause_of (said_asked asked).word hard → (said.search ≡ None → hard ≡ None)
+    → plan_of asked.strategy cause ≡ Some plan → IsPlanned asked plan
+planned-so asked said hard cause plan e k unsought p = (
+  cause_of (said_asked asked).word hard,
+  may-keep asked.command (reading_asked asked) hard (λ none. unsought (ap (λ (s : Said). s.search) e ∙ none)),
+  subst (λ (o : Option LocalCause). plan_of asked.strategy o ≡ Some plan) k p,
+)
 
 -- ---- over the steps
 

@@ -16,17 +16,17 @@ use Rattle.rx_world.specs.declared.sources.Given.{Given}
 use Rattle.rx_world.specs.declared.sources.SourceEntry.{SourceEntry}
 use Rattle.rx_world.specs.Answers.{Gives}
 use Rattle.rx_world.specs.Sources.{is_file}
-use Rattle.rx_scan.specs.declared.faults.SightFault.{SightFault}
-use Rattle.rx_scan.specs.declared.faults.SightFault.TheVariants.{InputChanged as Changed, NoMemory as OutOfMemory, SourceFault as Lost}
+use Rattle.rx_reach.specs.declared.faults.SightFault.{SightFault}
+use Rattle.rx_reach.specs.declared.faults.SightFault.TheVariants.{InputChanged as Changed, NoMemory as OutOfMemory, SourceFault as Lost}
 use Rattle.rx_scan.specs.declared.gather_fault.GatherFault.TheVariants.{InputMissing, NoMemory}
 use Rattle.rx_scan.specs.declared.inputs.Looked.{Looked}
-use Rattle.rx_scan.specs.Candidates.{is_dir}
+use Rattle.rx_reach.specs.Candidates.{is_dir}
 use Rattle.rx_scan.specs.GatherFault.{fault_of}
 use Rattle.rx_scan.specs.Inputs.{BlamesInputs, IsLooked, empty_among, first_missing, is_absent, with_look}
 use Rattle.rx_scan.specs.Lists.{Fails, Learns, Listing}
-use Rattle.rx_scan.specs.Scenes.{Scene}
-use Rattle.rx_scan.specs.Sights.{Blames, Notes, seen_at}
-use Rattle.rx_scan.proofs.SightLemmas.{blames-later}
+use Rattle.rx_reach.specs.Scenes.{Scene}
+use Rattle.rx_reach.specs.Sights.{Blames, Notes, seen_at}
+use Rattle.rx_reach.proofs.SightLemmas.{blames-later}
 use Rattle.rx_scan.proofs.Learning.{fails-after, fails-join, fails-one, learns-join, learns-look, learns-none}
 
 abbrev Sights : Type 0

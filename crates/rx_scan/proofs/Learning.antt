@@ -9,9 +9,9 @@ use Rattle.rx_world.specs.declared.sources.SourceEntry.{SourceEntry}
 use Rattle.rx_world.specs.Answers.{Gives}
 use Rattle.rx_world.proofs.AnswerLemmas.{gives-join, gives-none}
 use Rattle.rx_scan.specs.Lists.{Fails, IsRightList, Learns, Listing, Shows}
-use Rattle.rx_scan.specs.Scenes.{AreRight, IsRight, Scene, scene_of}
-use Rattle.rx_scan.specs.Sights.{Notes, seen_at}
-use Rattle.rx_scan.proofs.SightLemmas.{notes-join, notes-none, right-noted}
+use Rattle.rx_reach.specs.Scenes.{AreRight, IsRight, Scene, scene_of}
+use Rattle.rx_reach.specs.Sights.{Notes, seen_at}
+use Rattle.rx_reach.proofs.SightLemmas.{notes-join, notes-none, right-noted}
 
 abbrev Sights : Type 0
 Sights = List (List ℕ × Look)

@@ -5,7 +5,7 @@ use Rattle.std.proofs.lemmas.List.Elements.{All-cons, All-nil}
 use Rattle.std.proofs.lemmas.List.Sums.{sum_by-le}
 use Rattle.rx_scan.specs.declared.seen_files.SeenFile.{SeenFile}
 use Rattle.rx_scan.specs.Limits.{large_file, total_size}
-use Rattle.rx_scan.specs.Searches.{most_file_bytes}
+use Rattle.rx_reach.specs.Searches.{most_file_bytes}
 
 abbrev pub IsSmall : SeenFile → Type 0
 IsSmall file = file.stamp.size ≤ most_file_bytes

@@ -16,12 +16,12 @@ use Rattle.rx_world.specs.Answers.{Gives, HasContent, IsAnswerOf}
 use Rattle.rx_world.specs.Sources.{Adds, Lists, entry_at, files_under, given_all, given_look, is_file}
 use Rattle.rx_world.proofs.Among.{Among, all-among, among-from, among-from_map, among-map, contains-from}
 use Rattle.rx_world.proofs.FilesUnder.{entry_at-path, list-is_right, under-has, under-is, under-only, under-sorted}
-use Rattle.rx_scan.specs.declared.faults.SightFault.{SightFault}
-use Rattle.rx_scan.specs.declared.faults.SightFault.TheVariants.{InputChanged, NoMemory, SourceFault}
+use Rattle.rx_reach.specs.declared.faults.SightFault.{SightFault}
+use Rattle.rx_reach.specs.declared.faults.SightFault.TheVariants.{InputChanged, NoMemory, SourceFault}
 use Rattle.rx_scan.specs.Lists.{IsListed, IsRightList, Learns, is_under, paths_of}
-use Rattle.rx_scan.specs.Scenes.{IsRight, Scene, scene_of}
-use Rattle.rx_scan.specs.Sights.{Blames, Notes, WasSeen}
-use Rattle.rx_scan.proofs.SightLemmas.{blames-later, notes-join}
+use Rattle.rx_reach.specs.Scenes.{IsRight, Scene, scene_of}
+use Rattle.rx_reach.specs.Sights.{Blames, Notes, WasSeen}
+use Rattle.rx_reach.proofs.SightLemmas.{blames-later, notes-join}
 use Rattle.rx_scan.proofs.Learning.{RightBy}
 
 abbrev Sights : Type 0

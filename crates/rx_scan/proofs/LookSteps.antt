@@ -7,14 +7,14 @@ use Rattle.rx_world.specs.declared.looks.Stamp.{Stamp}
 use Rattle.rx_world.specs.declared.sources.Given.{Given}
 use Rattle.rx_world.specs.declared.sources.SourceEntry.{SourceEntry}
 use Rattle.rx_world.specs.Answers.{Gives}
-use Rattle.rx_scan.specs.declared.faults.SightFault.{SightFault}
-use Rattle.rx_scan.specs.Scans.{Ends, Scans}
-use Rattle.rx_scan.specs.Scenes.{AreRight, Scene}
+use Rattle.rx_reach.specs.declared.faults.SightFault.{SightFault}
+use Rattle.rx_reach.specs.Scans.{Ends, Scans}
+use Rattle.rx_reach.specs.Scenes.{AreRight, Scene}
 use Rattle.rx_scan.specs.SeenDirs.{IsKnownAt}
-use Rattle.rx_scan.specs.Sights.{Blames, Notes, seen_at}
+use Rattle.rx_reach.specs.Sights.{Blames, Notes, seen_at}
 use Rattle.rx_scan.proofs.InputSteps.{taken}
-use Rattle.rx_scan.proofs.ScanLemmas.{ends-join, scans-join, scans-look, scans-none}
-use Rattle.rx_scan.proofs.SightLemmas.{notes-keep, right-noted}
+use Rattle.rx_reach.proofs.ScanLemmas.{ends-join, scans-join, scans-look, scans-none}
+use Rattle.rx_reach.proofs.SightLemmas.{notes-keep, right-noted}
 
 abbrev Sights : Type 0
 Sights = List (List ℕ × Look)

@@ -10,13 +10,13 @@ use Rattle.rx_world.specs.declared.looks.Look.{Look}
 use Rattle.rx_world.specs.declared.looks.Stamp.{Stamp}
 use Rattle.rx_world.specs.declared.sources.Given.{Given}
 use Rattle.rx_world.specs.declared.sources.SourceEntry.{SourceEntry}
-use Rattle.rx_scan.specs.declared.reach.Reached.{Reached}
-use Rattle.rx_scan.specs.declared.searches.Search.{Search}
-use Rattle.rx_scan.specs.Explored.{HaveDigests}
-use Rattle.rx_scan.specs.FileTables.{paths_of}
+use Rattle.rx_reach.specs.declared.reach.Reached.{Reached}
+use Rattle.rx_reach.specs.declared.searches.Search.{Search}
+use Rattle.rx_reach.specs.Explored.{HaveDigests}
+use Rattle.rx_reach.specs.FileTables.{paths_of}
 use Rattle.rx_scan.specs.Scanned.{IsReachOf}
-use Rattle.rx_scan.specs.Scans.{Scans}
-use Rattle.rx_scan.proofs.ScanLemmas.{scans-none}
+use Rattle.rx_reach.specs.Scans.{Scans}
+use Rattle.rx_reach.proofs.ScanLemmas.{scans-none}
 
 abbrev pub nothing : Reached
 nothing = record { files = []; hard = None; left = [] }

@@ -10,33 +10,33 @@ use Rattle.rx_world.specs.declared.looks.Look.{Look}
 use Rattle.rx_world.specs.declared.looks.Stamp.{Stamp}
 use Rattle.rx_world.specs.declared.sources.Given.{Given}
 use Rattle.rx_world.specs.declared.sources.SourceEntry.{SourceEntry}
-use Rattle.rx_scan.specs.declared.faults.SightFault.{SightFault}
-use Rattle.rx_scan.specs.declared.faults.SightFault.TheVariants.{InputChanged as Changed, NoMemory as OutOfMemory, SourceFault as Lost}
+use Rattle.rx_reach.specs.declared.faults.SightFault.{SightFault}
+use Rattle.rx_reach.specs.declared.faults.SightFault.TheVariants.{InputChanged as Changed, NoMemory as OutOfMemory, SourceFault as Lost}
 use Rattle.rx_scan.specs.declared.gather_fault.GatherFault.{GatherFault}
 use Rattle.rx_scan.specs.declared.gather_fault.GatherFault.TheVariants.{Blocked, InputChanged, InputMissing, NoMemory, NotRemotable, SourceFault, TooLarge}
 use Rattle.rx_scan.specs.declared.inputs.Declared.{Declared}
 use Rattle.rx_scan.specs.declared.limits.Extent.TheVariants.{Scan}
-use Rattle.rx_scan.specs.declared.reach.Reached.{Reached}
+use Rattle.rx_reach.specs.declared.reach.Reached.{Reached}
 use Rattle.rx_scan.specs.declared.scanned.ScanPaths.{ScanPaths}
-use Rattle.rx_scan.specs.declared.searches.Search.{Search}
+use Rattle.rx_reach.specs.declared.searches.Search.{Search}
 use Rattle.rx_scan.specs.declared.seen_files.SeenFile.{SeenFile}
 use Rattle.rx_scan.specs.declared.words.Said.{Said}
-use Rattle.rx_scan.specs.FileTables.{paths_of}
+use Rattle.rx_reach.specs.FileTables.{paths_of}
 use Rattle.rx_scan.specs.GatherFault.{fault_of}
 use Rattle.rx_scan.specs.Inputs.{BlamesInputs, HasTooMany, IsDeclared, IsDeclaredBy, OnlyTooMany, first_missing}
 use Rattle.rx_scan.specs.Limits.{check_of}
 use Rattle.rx_scan.specs.Lists.{Fails, Learns, Listing, Shows}
-use Rattle.rx_scan.specs.Reach.{IsReached}
+use Rattle.rx_reach.specs.Reach.{IsReached}
 use Rattle.rx_scan.specs.Scanned.{BlamesScan, IsPathsOf, IsReachOf, IsScanListBy, IsScanOf, IsScannedBy}
-use Rattle.rx_scan.specs.Scans.{Ends, Scans}
-use Rattle.rx_scan.specs.Scenes.{AreRight, Scene}
+use Rattle.rx_reach.specs.Scans.{Ends, Scans}
+use Rattle.rx_reach.specs.Scenes.{AreRight, Scene}
 use Rattle.rx_scan.specs.SeenDirs.{IsKnownAt, is_dir_seen}
 use Rattle.rx_scan.specs.SeenFiles.{file_seen}
-use Rattle.rx_scan.specs.Sights.{Blames, seen_at}
+use Rattle.rx_reach.specs.Sights.{Blames, seen_at}
 use Rattle.rx_scan.proofs.DeclaredSteps.{many-so}
 use Rattle.rx_scan.proofs.Learning.{by-none, fails-after, fails-join, fails-one, fails-so, learns-join, learns-so}
 use Rattle.rx_scan.proofs.ScannedSteps.{list-of-scan, paths-of, scan-of}
-use Rattle.rx_scan.proofs.SightLemmas.{blames-later}
+use Rattle.rx_reach.proofs.SightLemmas.{blames-later}
 use Rattle.rx_scan.proofs.WholeTaken.{only-large}
 
 abbrev Sights : Type 0

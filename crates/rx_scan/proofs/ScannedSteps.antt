@@ -1,33 +1,31 @@
 -- The paths of a scan, and what they were seen as.
-use Rattle.std.proofs.Common.{◌≡◌, ◌≢◌, ℕ, ◌≤◌, ◌==◌, ◌⊎◌, inl, inr, Bool, true, false, cond, List, [], ◌∷◌, filter, filter_map, length, refl, sym, ap, subst, ◌∙◌, arith, true≢false}
+use Rattle.std.proofs.Common.{◌≡◌, ◌≢◌, ℕ, ◌≤◌, ◌⊎◌, inl, inr, true, List, [], ◌∷◌, filter, filter_map, length, refl, sym, ap, subst, ◌∙◌}
 use Rattle.std.specs.Prelude.{All, Contains, None, Ok, Option, Some, ◌↔◌}
 use Rattle.std.specs.List.{AllByRecursion}
-use Rattle.std.proofs.lemmas.Bool.Decides.{nat_tests}
 use Rattle.std.proofs.lemmas.List.Elements.{recursion_from_All}
 use Rattle.rx_base.specs.SortedPaths.{AreSorted}
 use Rattle.rx_world.specs.declared.input_files.InputFile.{InputFile}
 use Rattle.rx_world.specs.declared.looks.Look.{Look}
-use Rattle.rx_world.specs.declared.looks.Look.TheVariants.{Dir}
 use Rattle.rx_world.specs.Sources.{is_file}
 use Rattle.rx_world.proofs.Among.{Among, all-among, among-from, contains-from}
-use Rattle.rx_scan.specs.declared.candidates.Step.{Step}
 use Rattle.rx_scan.specs.declared.inputs.Declared.{Declared}
 use Rattle.rx_scan.specs.declared.limits.Extent.TheVariants.{Scan}
-use Rattle.rx_scan.specs.declared.reach.Reached.{Reached}
+use Rattle.rx_reach.specs.declared.reach.Reached.{Reached}
 use Rattle.rx_scan.specs.declared.scanned.ScanPaths.{ScanPaths}
-use Rattle.rx_scan.specs.declared.searches.Search.{Search}
+use Rattle.rx_reach.specs.declared.searches.Search.{Search}
 use Rattle.rx_scan.specs.declared.seen_files.SeenFile.{SeenFile}
 use Rattle.rx_scan.specs.declared.words.Said.{Said}
-use Rattle.rx_scan.specs.Candidates.{is_dir, is_passable, step_look, walked, way}
-use Rattle.rx_scan.specs.FileTables.{paths_of}
+use Rattle.rx_reach.specs.Candidates.{is_dir}
+use Rattle.rx_reach.specs.FileTables.{paths_of}
 use Rattle.rx_scan.specs.Inputs.{IsDeclaredBy}
 use Rattle.rx_scan.specs.Limits.{check_of}
-use Rattle.rx_scan.specs.Reach.{IsHard, IsLeastPath, IsLeft, IsReached, LeadsTo}
+use Rattle.rx_reach.specs.Reach.{IsHard, IsLeastPath, IsLeft, IsReached, LeadsTo}
 use Rattle.rx_scan.specs.Scanned.{IsDirBy, IsPathsOf, IsReachOf, IsReachedBy, IsScanListBy, IsScanOf, IsScannedBy}
-use Rattle.rx_scan.specs.Scenes.{AreRight, Scene}
+use Rattle.rx_reach.specs.Scenes.{AreRight, Scene}
 use Rattle.rx_scan.specs.SeenDirs.{IsKnownAt, is_dir_seen}
 use Rattle.rx_scan.specs.SeenFiles.{file_seen}
-use Rattle.rx_scan.specs.Sights.{seen_at}
+use Rattle.rx_reach.specs.Sights.{seen_at}
+use Rattle.rx_reach.proofs.LeftLemmas.{left-dir}
 use Rattle.rx_scan.proofs.PathSteps.{in-filter}
 use Rattle.rx_scan.proofs.WholeTaken.{IsKnown, same-looks, same-paths, sorted-seen}
 
@@ -109,31 +107,9 @@ scanned-file : (scene : Scene) (inputs : List (List ℕ)) (said : Said) (path : 
 scanned-file scene inputs said path (inl d) = d.0
 scanned-file scene inputs said path (inr r) = leads-file scene r.0 r.2.0 path r.2.1
 
-passed_case : (scene : Scene) (b : Bool) (step q : Step) (rest : List Step) → is_passable scene step ≡ b → (Among q rest → is_passable scene q ≡ true) → Among q (cond b (step ∷ rest) []) → is_passable scene q ≡ true
-passed_case scene true step q rest e f (inl is) = subst (λ x. is_passable scene x ≡ true) is e
-passed_case scene true step q rest e f (inr a) = f a
-passed_case scene false step q rest e f a = absurd a
-
-walked-passes : (scene : Scene) (steps : List Step) (q : Step) → Among q (walked scene steps) → is_passable scene q ≡ true
-walked-passes scene [] q a = absurd a
-walked-passes scene (step ∷ steps) q a = passed_case scene (is_passable scene step) step q (walked scene steps) refl (walked-passes scene steps q) a
-
-some-length : (x : ℕ) (xs : List ℕ) → (length (x ∷ xs) == 0) ≡ false
-some-length x xs = grind (arith, nat_tests)
-
-look-case : (b : Bool) (look : Look) → b ≡ false → is_dir (cond b Dir look) ≡ true → is_dir look ≡ true
-look-case false look e t = t
-look-case true look e t = absurd (true≢false e)
-
-below_root_look : (scene : Scene) (path : List ℕ) → path ≢ [] → is_dir (step_look scene path) ≡ true → is_dir (scene.look path) ≡ true
-below_root_look scene [] f t = absurd (f refl)
-below_root_look scene (x ∷ xs) f t = look-case (length (x ∷ xs) == 0) (scene.look (x ∷ xs)) (some-length x xs) t
-
 dir-is : (scene : Scene) (inputs : List (List ℕ)) (said : Said) (path : List ℕ) → IsDirBy scene inputs said path → is_dir (scene.look path) ≡ true
 dir-is scene inputs said path (some, inl e) = e.1
-dir-is scene inputs said path (some, inr l) =
-    let left = l.2.2 in
-    below_root_look scene path some (walked-passes scene (way l.2.0) (record { path = path; left = true }) (among-from (record { path = path; left = true }) (walked scene (way l.2.0)) left.2))
+dir-is scene inputs said path (some, inr l) = left-dir scene l.2.0 path some l.2.2
 
 known-all : (sights : Sights) (scene : Scene) (paths : List (List ℕ)) → AreRight scene sights → AllByRecursion (IsKnownAt sights) paths → ((path : List ℕ) → Among path paths → is_file (scene.look path) ≡ true) → AllByRecursion (IsKnown sights scene) paths
 known-all sights scene [] r k f = tt

@@ -13,7 +13,7 @@ use Rattle.rx_scan.specs.declared.seen_files.SeenFile.{SeenFile}
 use Rattle.rx_scan.specs.Digests.{IsSeen}
 use Rattle.rx_scan.specs.SeenDirs.{IsDirSeen, is_dir_seen}
 use Rattle.rx_scan.specs.SeenFiles.{file_of_seen, file_seen}
-use Rattle.rx_scan.specs.Sights.{seen_at}
+use Rattle.rx_reach.specs.Sights.{seen_at}
 use Rattle.rx_scan.proofs.PathSteps.{in-filter}
 
 abbrev Sights : Type 0

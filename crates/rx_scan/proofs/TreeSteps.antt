@@ -26,14 +26,14 @@ use Rattle.rx_scan.specs.Digests.{IsSeen}
 use Rattle.rx_scan.specs.Gathering.{plan_of}
 use Rattle.rx_scan.specs.InputTrees.{BlamesTree, BlamesWholeIf, IsFilesIf, paths_of}
 use Rattle.rx_scan.specs.Lists.{Fails, Learns, Listing, Shows}
-use Rattle.rx_scan.specs.Scenes.{Scene}
+use Rattle.rx_reach.specs.Scenes.{Scene}
 use Rattle.rx_scan.specs.SeenDirs.{IsDirSeen}
-use Rattle.rx_scan.specs.Sights.{IsChangeFrom, Notes, WasSeen, seen_at}
+use Rattle.rx_reach.specs.Sights.{IsChangeFrom, Notes, WasSeen, seen_at}
 use Rattle.rx_scan.specs.Ways.{BlamesWay, above_among, blocked, change_above, over_among, upper_among}
 use Rattle.rx_scan.specs.Whole.{BlamesWhole, IsWholeBy}
 use Rattle.rx_scan.proofs.BlockedLemmas.{or_cases}
 use Rattle.rx_scan.proofs.Learning.{fails-after, fails-one, fails-so, learns-none, learns-so}
-use Rattle.rx_scan.proofs.SightLemmas.{notes-keep, seen-later}
+use Rattle.rx_reach.proofs.SightLemmas.{notes-keep, seen-later}
 
 abbrev Sights : Type 0
 Sights = List (List ℕ × Look)

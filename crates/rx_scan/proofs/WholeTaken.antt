@@ -21,8 +21,8 @@ use Rattle.rx_world.specs.declared.sources.Given.{Given}
 use Rattle.rx_world.specs.declared.sources.SourceEntry.{SourceEntry}
 use Rattle.rx_world.specs.Sources.{given_all, is_file}
 use Rattle.rx_world.proofs.Among.{all-among, among-filter, among-from, among-from_filter, contains-from}
-use Rattle.rx_scan.specs.declared.faults.SightFault.{SightFault}
-use Rattle.rx_scan.specs.declared.faults.SightFault.TheVariants.{InputChanged as Changed, NoMemory as OutOfMemory, SourceFault as Lost}
+use Rattle.rx_reach.specs.declared.faults.SightFault.{SightFault}
+use Rattle.rx_reach.specs.declared.faults.SightFault.TheVariants.{InputChanged as Changed, NoMemory as OutOfMemory, SourceFault as Lost}
 use Rattle.rx_scan.specs.declared.gather_fault.GatherFault.{GatherFault}
 use Rattle.rx_scan.specs.declared.gather_fault.GatherFault.TheVariants.{Blocked, InputChanged, InputMissing, NoMemory, NotRemotable, SourceFault, TooLarge}
 use Rattle.rx_scan.specs.declared.limits.Extent.{Extent}
@@ -31,9 +31,9 @@ use Rattle.rx_scan.specs.declared.seen_files.SeenFile.{SeenFile}
 use Rattle.rx_scan.specs.GatherFault.{fault_of}
 use Rattle.rx_scan.specs.Limits.{check_of, large_file, most_bytes, most_files, sizes_of, total_size}
 use Rattle.rx_scan.specs.Lists.{Fails, IsListed, Learns, Listing, Shows, is_under, paths_of}
-use Rattle.rx_scan.specs.Scenes.{Scene}
+use Rattle.rx_reach.specs.Scenes.{Scene}
 use Rattle.rx_scan.specs.SeenFiles.{file_of_seen, file_seen}
-use Rattle.rx_scan.specs.Sights.{Blames, Notes, seen_at}
+use Rattle.rx_reach.specs.Sights.{Blames, Notes, seen_at}
 use Rattle.rx_scan.specs.Whole.{BlamesWhole, IsListOf, IsSeenIn, IsWholeBy, without}
 use Rattle.rx_scan.proofs.Learning.{fails-after, fails-so, learns-so}
 

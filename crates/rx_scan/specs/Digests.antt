@@ -5,7 +5,7 @@ use Rattle.rx_world.specs.declared.input_files.InputFile.{InputFile}
 use Rattle.rx_world.specs.declared.looks.Look.{Look}
 use Rattle.rx_world.specs.declared.looks.Look.TheVariants.{File}
 use Rattle.rx_scan.specs.declared.seen_files.SeenFile.{SeenFile}
-use Rattle.rx_scan.specs.Sights.{seen_at}
+use Rattle.rx_reach.specs.Sights.{seen_at}
 
 -- the file as it was seen, without its digest
 abbrev pub seen_file : InputFile → SeenFile

@@ -20,21 +20,21 @@ use Rattle.rx_scan.specs.declared.gathering.Gathered.{Gathered}
 use Rattle.rx_scan.specs.declared.gather_fault.GatherFault.{GatherFault}
 use Rattle.rx_scan.specs.declared.gather_fault.GatherFault.TheVariants.{Blocked, InputChanged, InputMissing, NoMemory, NotRemotable, SourceFault, TooLarge}
 use Rattle.rx_scan.specs.declared.limits.Extent.TheVariants.{Scan, WholeList}
-use Rattle.rx_scan.specs.declared.searches.Search.{Search}
+use Rattle.rx_reach.specs.declared.searches.Search.{Search}
 use Rattle.rx_scan.specs.declared.seen_files.SeenFile.{SeenFile}
 use Rattle.rx_scan.specs.declared.words.Said.{Said}
 use Rattle.rx_scan.specs.Inputs.{IsEmptyDir, first_missing}
 use Rattle.rx_scan.specs.Limits.{check_of}
 use Rattle.rx_scan.specs.Lists.{Listing, Shows}
-use Rattle.rx_scan.specs.Opened.{IsOpened}
+use Rattle.rx_reach.specs.Opened.{IsOpened}
 use Rattle.rx_scan.specs.Plans.{local_plan, ordinary_plan}
-use Rattle.rx_scan.specs.Reach.{IsHard, IsLeastPath, IsLeft}
+use Rattle.rx_reach.specs.Reach.{IsHard, IsLeastPath, IsLeft}
 use Rattle.rx_scan.specs.Scanned.{IsScanListBy, IsScannedBy, PassesScanBy}
-use Rattle.rx_scan.specs.Scenes.{Scene}
-use Rattle.rx_scan.specs.Sights.{IsChangeFrom}
+use Rattle.rx_reach.specs.Scenes.{Scene}
+use Rattle.rx_reach.specs.Sights.{IsChangeFrom}
 use Rattle.rx_scan.specs.Ways.{blocked}
 use Rattle.rx_scan.specs.Whole.{IsListOf}
-use Rattle.rx_scan.specs.Words.{outputs_for, reading_for, said_by, search_for, with_outputs, word_for}
+use Rattle.rx_scan.specs.Words.{outputs_for, reading_for, said_by, search_for, with_outputs, word_for, word_in}
 
 -- ---- what is asked for
 
@@ -76,6 +76,19 @@ pub record IsKept (scene : Scene) (asked : Asked) (cause : Option LocalCause) : 
 abbrev pub plan_of : Strategy → Option LocalCause → Option Plan
 plan_of strategy None = Some (ordinary_plan strategy)
 plan_of strategy (Some cause) = local_plan strategy
+
+-- what may keep the command here, whatever the source tree tells: nothing of a tool, a word that is no compile word, else perhaps a path
+abbrev pub MayKeepBy : Option (List ℕ) → Option LocalCause → Type 0
+MayKeepBy (Some word) cause = cause ≡ Some (local.Word word)
+MayKeepBy None cause = (hard : Option (List ℕ)) × (cause ≡ option_map (λ path. local.Path path) hard)
+
+abbrev pub MayKeep : Option Reading → Option LocalCause → Type 0
+MayKeep None cause = cause ≡ None
+MayKeep (Some read) cause = MayKeepBy (word_in read) cause
+
+-- a plan that the strategy has for such a command
+abbrev pub IsPlanned : Asked → Plan → Type 0
+IsPlanned asked plan = (cause : Option LocalCause) × MayKeep (reading_asked asked) cause × (plan_of asked.strategy cause ≡ Some plan)
 
 -- a file of the input tree: one of the scan; of a command that is kept here, any that isn't its output
 abbrev pub IsInput : Scene → Asked → Option LocalCause → List ℕ → Type 0
@@ -136,10 +149,11 @@ pub record IsGathered (scene : Scene) (asked : Asked) (gathered : Gathered) : Ty
 abbrev pub AreApart : List (List ℕ) → Type 0
 AreApart paths = (upper lower : List ℕ) → Contains paths upper → Contains paths lower → is_below lower upper ≡ true → ⊥
 
--- What was gathered can be staged and built, whatever the source tree answered: there are no more files than a tree may have, each
--- once, in order; none stands above another, at or above a directory or the working directory, or above an output.
+-- What was gathered can be staged and built, whatever the source tree answered: the plan is one of the strategy; there are no more
+-- files than a tree may have, each once, in order; none stands above another, at or above a directory or the working directory, or above an output.
 pub record IsOrderly (asked : Asked) (gathered : Gathered) : Type 0 where
   pub command_is : gathered.command ≡ command_asked asked
+  pub planned : IsPlanned asked gathered.plan
   pub few : length gathered.files ≤ 50000
   pub sorted : AreSorted (map (λ file. file.path) gathered.files)
   pub sorted_dirs : AreSorted gathered.dirs

@@ -17,8 +17,8 @@ use Rattle.rx_scan.specs.declared.seen_files.SeenFile.{SeenFile}
 use Rattle.rx_scan.specs.Gathering.{plan_of}
 use Rattle.rx_scan.specs.Limits.{check_of}
 use Rattle.rx_scan.specs.Lists.{Listing, Shows}
-use Rattle.rx_scan.specs.Scenes.{Scene}
-use Rattle.rx_scan.specs.Sights.{IsChangeFrom}
+use Rattle.rx_reach.specs.Scenes.{Scene}
+use Rattle.rx_reach.specs.Sights.{IsChangeFrom}
 use Rattle.rx_scan.specs.Ways.{blocked, over_among, upper_among}
 use Rattle.rx_scan.specs.Whole.{BlamesWhole, IsListOf, IsWholeBy}
 

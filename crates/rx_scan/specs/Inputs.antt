@@ -8,16 +8,16 @@ use Rattle.rx_world.specs.declared.looks.Look.TheVariants.{Absent, Dir, File, Ot
 use Rattle.rx_world.specs.declared.sources.Given.{Given}
 use Rattle.rx_world.specs.Causes.{Rose}
 use Rattle.rx_world.specs.Sources.{is_file}
-use Rattle.rx_scan.specs.declared.faults.SightFault.TheVariants.{InputChanged as Changed}
+use Rattle.rx_reach.specs.declared.faults.SightFault.TheVariants.{InputChanged as Changed}
 use Rattle.rx_scan.specs.declared.gather_fault.GatherFault.{GatherFault}
 use Rattle.rx_scan.specs.declared.gather_fault.GatherFault.TheVariants.{Blocked, InputChanged, InputMissing, NoMemory, NotRemotable, SourceFault, TooLarge}
 use Rattle.rx_world.specs.declared.refusals.Limit.TheVariants.{ScanFiles}
 use Rattle.rx_scan.specs.declared.inputs.Declared.{Declared}
 use Rattle.rx_scan.specs.declared.inputs.Looked.{Looked}
-use Rattle.rx_scan.specs.Candidates.{is_dir}
+use Rattle.rx_reach.specs.Candidates.{is_dir}
 use Rattle.rx_scan.specs.Lists.{Listing, Shows, is_under}
-use Rattle.rx_scan.specs.Scenes.{Scene}
-use Rattle.rx_scan.specs.Sights.{Blames}
+use Rattle.rx_reach.specs.Scenes.{Scene}
+use Rattle.rx_reach.specs.Sights.{Blames}
 
 abbrev pub is_absent : Look → Bool
 is_absent Absent = true

@@ -8,7 +8,7 @@ use Rattle.rx_world.specs.declared.refusals.Limit.TheVariants.{FileBytes, ListBy
 use Rattle.rx_scan.specs.declared.limits.Extent.{Extent}
 use Rattle.rx_scan.specs.declared.limits.Extent.TheVariants.{Scan, WholeList}
 use Rattle.rx_scan.specs.declared.seen_files.SeenFile.{SeenFile}
-use Rattle.rx_scan.specs.Searches.{most_file_bytes}
+use Rattle.rx_reach.specs.Searches.{most_file_bytes}
 
 -- how many files there may be, and how many bytes they may have together
 abbrev pub most_files : Extent → ℕ

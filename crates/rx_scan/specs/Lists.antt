@@ -10,8 +10,8 @@ use Rattle.rx_world.specs.declared.sources.Given.{Given}
 use Rattle.rx_world.specs.declared.sources.SourceEntry.{SourceEntry}
 use Rattle.rx_world.specs.Answers.{Gives}
 use Rattle.rx_world.specs.Sources.{is_file}
-use Rattle.rx_scan.specs.Scenes.{AreRight, IsRight, Scene, scene_of}
-use Rattle.rx_scan.specs.Sights.{Notes}
+use Rattle.rx_reach.specs.Scenes.{AreRight, IsRight, Scene, scene_of}
+use Rattle.rx_reach.specs.Sights.{Notes}
 
 -- a list that a source tree gave: what it found at or below a path, up to one more than so many
 pub record Listing : Type 0 where

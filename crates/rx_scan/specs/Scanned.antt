@@ -6,22 +6,22 @@ use Rattle.rx_world.specs.declared.refusals.Limit.{Limit}
 use Rattle.rx_world.specs.declared.refusals.Limit.TheVariants.{ScanFiles}
 use Rattle.rx_world.specs.declared.sources.Given.{Given}
 use Rattle.rx_world.specs.Causes.{Rose}
-use Rattle.rx_scan.specs.declared.faults.SightFault.TheVariants.{InputChanged as Changed}
+use Rattle.rx_reach.specs.declared.faults.SightFault.TheVariants.{InputChanged as Changed}
 use Rattle.rx_scan.specs.declared.gather_fault.GatherFault.{GatherFault}
 use Rattle.rx_scan.specs.declared.gather_fault.GatherFault.TheVariants.{Blocked, InputChanged, InputMissing, NoMemory, NotRemotable, SourceFault, TooLarge}
 use Rattle.rx_scan.specs.declared.limits.Extent.TheVariants.{Scan}
-use Rattle.rx_scan.specs.declared.reach.Reached.{Reached}
+use Rattle.rx_reach.specs.declared.reach.Reached.{Reached}
 use Rattle.rx_scan.specs.declared.scanned.ScanPaths.{ScanPaths}
 use Rattle.rx_scan.specs.declared.scanned.Scanned.{Scanned}
-use Rattle.rx_scan.specs.declared.searches.Search.{Search}
+use Rattle.rx_reach.specs.declared.searches.Search.{Search}
 use Rattle.rx_scan.specs.declared.seen_files.SeenFile.{SeenFile}
 use Rattle.rx_scan.specs.declared.words.Said.{Said}
 use Rattle.rx_scan.specs.Inputs.{HasTooMany, IsDeclared, IsEmptyDir, first_missing}
 use Rattle.rx_scan.specs.Limits.{check_of}
 use Rattle.rx_scan.specs.Lists.{Listing, Shows}
-use Rattle.rx_scan.specs.Reach.{IsHard, IsLeastPath, IsLeft, IsReach, IsReached, most_tree_files}
-use Rattle.rx_scan.specs.Scenes.{Scene}
-use Rattle.rx_scan.specs.Sights.{Blames}
+use Rattle.rx_reach.specs.Reach.{IsHard, IsLeastPath, IsLeft, IsReach, IsReached, most_tree_files}
+use Rattle.rx_reach.specs.Scenes.{Scene}
+use Rattle.rx_reach.specs.Sights.{Blames}
 use Rattle.rx_scan.specs.Whole.{IsSeenIn}
 
 -- a file that an include can reach

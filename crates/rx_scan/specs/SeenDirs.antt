@@ -2,8 +2,8 @@
 use Rattle.std.specs.Prelude.{◌≡◌, ℕ, Bool, false, List, Option, None, Some}
 use Rattle.rx_world.specs.declared.looks.Look.{Look}
 use Rattle.rx_world.specs.declared.looks.Look.TheVariants.{Dir}
-use Rattle.rx_scan.specs.Candidates.{is_dir}
-use Rattle.rx_scan.specs.Sights.{seen_at}
+use Rattle.rx_reach.specs.Candidates.{is_dir}
+use Rattle.rx_reach.specs.Sights.{seen_at}
 
 -- something was seen at the path, or that nothing is there
 abbrev pub IsKnownAt : List (List ℕ × Look) → List ℕ → Type 0

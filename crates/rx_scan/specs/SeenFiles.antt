@@ -3,7 +3,7 @@ use Rattle.std.specs.Prelude.{ℕ, List, Option, None, Some}
 use Rattle.rx_world.specs.declared.looks.Look.{Look}
 use Rattle.rx_world.specs.declared.looks.Look.TheVariants.{Absent, Dir, File, Other}
 use Rattle.rx_scan.specs.declared.seen_files.SeenFile.{SeenFile}
-use Rattle.rx_scan.specs.Sights.{seen_at}
+use Rattle.rx_reach.specs.Sights.{seen_at}
 
 -- a file with this look
 abbrev pub file_of : List ℕ → Look → Option SeenFile

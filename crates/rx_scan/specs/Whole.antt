@@ -8,15 +8,15 @@ use Rattle.rx_world.specs.declared.looks.Look.TheVariants.{File}
 use Rattle.rx_world.specs.declared.sources.Given.{Given}
 use Rattle.rx_world.specs.Causes.{Rose}
 use Rattle.rx_world.specs.Sources.{is_file}
-use Rattle.rx_scan.specs.declared.faults.SightFault.TheVariants.{InputChanged as Changed}
+use Rattle.rx_reach.specs.declared.faults.SightFault.TheVariants.{InputChanged as Changed}
 use Rattle.rx_scan.specs.declared.gather_fault.GatherFault.{GatherFault}
 use Rattle.rx_scan.specs.declared.gather_fault.GatherFault.TheVariants.{Blocked, InputChanged, InputMissing, NoMemory, NotRemotable, SourceFault, TooLarge}
 use Rattle.rx_scan.specs.declared.limits.Extent.TheVariants.{WholeList}
 use Rattle.rx_scan.specs.declared.seen_files.SeenFile.{SeenFile}
 use Rattle.rx_scan.specs.Limits.{check_of}
 use Rattle.rx_scan.specs.Lists.{Listing, Shows}
-use Rattle.rx_scan.specs.Scenes.{Scene}
-use Rattle.rx_scan.specs.Sights.{Blames}
+use Rattle.rx_reach.specs.Scenes.{Scene}
+use Rattle.rx_reach.specs.Sights.{Blames}
 
 -- the paths that aren't among the others
 abbrev pub without : List (List ℕ) → List (List ℕ) → List (List ℕ)

@@ -7,7 +7,7 @@ use Rattle.rx_cppflags.specs.Readings.{reading_of}
 use Rattle.rx_world.specs.declared.commands.Command.{Command}
 use Rattle.rx_world.specs.declared.commands.Kind.{Kind}
 use Rattle.rx_world.specs.declared.commands.Kind.TheVariants.{Compile, Tool}
-use Rattle.rx_scan.specs.declared.searches.Search.{Search}
+use Rattle.rx_reach.specs.declared.searches.Search.{Search}
 use Rattle.rx_scan.specs.declared.words.Said.{Said}
 
 -- how the words are read; those of a tool aren't

@@ -6,15 +6,14 @@ ghost use Rattle.std.specs.Cmp.Lexicographic.{slice_cmp};
 ghost use Rattle.std.specs.Ordering.{nat_cmp};
 ghost use Rattle.rx_base.specs.Digests.{digest_of};
 ghost use Rattle.rx_scan.specs.Digests.{IsKnownOf, IsSeen, seen_file};
-ghost use Rattle.rx_scan.specs.Explored.{HaveDigests};
-ghost use Rattle.rx_scan.specs.Scans.{Ends, Scans};
+ghost use Rattle.rx_reach.specs.Explored.{HaveDigests};
+ghost use Rattle.rx_reach.specs.Scans.{Ends, Scans};
 
-use crate::faults::SightFault;
 use crate::seen_files::SeenFile;
-use crate::sights::Sights;
 use rx_base::{Digest, Items, RelPath, TryClone, digest_of};
 use rx_digest_cache::{DigestCache, StampedDigest};
-use rx_world::{InputFile, Refused, Sources, World};
+use rx_reach::{SightFault, Sights, read_file};
+use rx_world::{InputFile, Sources, World};
 use std::alloc::Global;
 use std::cmp::Ordering;
 use std::sync::Wait;
@@ -58,19 +57,11 @@ fn read_digest<W: World, S: Sources<W>>(
     ensures err { IfErr result (Ends S.listed S.keeps S.given W.content W.stamps_honest sources.old sources.new sights.old (S.faults sources.old) (S.faults sources.new)) }
     ensures later { S.faults sources.old ≤ S.faults sources.new }
 {
-    match sources.read(&file.path) {
-        Ok((look, bytes)) => {
-            sights.note(alloc, &file.path, look)?;
-            let digest = digest_of(bytes.as_slice());
-            let stamp = file.stamp;
-            cache.keep(rt, alloc, &file.path, StampedDigest { stamp, digest });
-            Ok(digest)
-        }
-        Err(Refused::Failed) => Err(SightFault::SourceFault {
-            path: file.path.try_clone(alloc)?,
-        }),
-        Err(Refused::NoMemory) => Err(SightFault::NoMemory),
-    }
+    let (_, bytes) = read_file::<W, S>(alloc, sources, sights, &file.path)?;
+    let digest = digest_of(bytes.as_slice());
+    let stamp = file.stamp;
+    cache.keep(rt, alloc, &file.path, StampedDigest { stamp, digest });
+    Ok(digest)
 }
 
 /// The digest of a file: the known one, else the one that the cache has, else that of a read.

@@ -4,8 +4,8 @@ ghost use Rattle.std.specs.Prelude.{◌≡◌};
 ghost use Rattle.rx_scan.specs.declared.gather_fault.GatherFault.TheVariants.{NoMemory as no_memory};
 ghost use Rattle.rx_scan.specs.GatherFault.{fault_of};
 
-use crate::faults::SightFault;
 use rx_base::RelPath;
+use rx_reach::SightFault;
 use rx_world::{Limit, LocalCause, Seen};
 use std::alloc::{AllocError, AllocFailed};
 use thiserror::Error;

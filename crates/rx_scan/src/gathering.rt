@@ -3,21 +3,21 @@
 ghost use Rattle.std.specs.Prelude.{◌≡◌, ◌≢◌, ◌≤◌, ℕ, [], IfErr, IfOk, List, MatchResult, OnOk};
 ghost use Rattle.rx_world.specs.declared.refusals.LocalCause.TheVariants.{Word as word_cause};
 ghost use Rattle.rx_scan.specs.declared.gather_fault.GatherFault.TheVariants.{NoMemory as no_memory, NotRemotable as not_remotable};
-ghost use Rattle.rx_scan.specs.Explored.{HaveDigests};
+ghost use Rattle.rx_reach.specs.Explored.{HaveDigests};
 ghost use Rattle.rx_scan.specs.Gathering.{Asked, BlamesGather, IsGathered, IsOrderly};
 ghost use Rattle.rx_scan.specs.Lists.{Fails, Learns};
 ghost use Rattle.rx_scan.specs.Plans.{local_plan};
-ghost use Rattle.rx_scan.specs.Sights.{sights_of};
+ghost use Rattle.rx_reach.specs.Sights.{sights_of};
 
 use crate::digests::with_digests;
 use crate::gather_fault::GatherFault;
 use crate::input_trees::{cause_of, take_tree};
 use crate::plans::local_plan;
 use crate::scanned::scan;
-use crate::sights::Sights;
 use crate::words::{read_words, with_outputs};
 use rx_base::{Items, RelPath, Text, TryClone};
 use rx_digest_cache::DigestCache;
+use rx_reach::Sights;
 use rx_world::{Command, Found, InputFile, Kind, LocalCause, Plan, Sources, Strategy, World};
 use std::alloc::Global;
 use std::sync::Wait;
@@ -76,7 +76,7 @@ pub fn gather<W: World, S: Sources<W>>(
     refuse_word(alloc, strategy, &said.word)?;
     let command = with_outputs(alloc, command, said.outputs.as_slice())?;
     let mut sights = Sights::new(alloc);
-    let scanned = scan::<W, S>(alloc, sources, &mut sights, inputs, &said)?;
+    let scanned = scan(rt, alloc, sources, &mut sights, cache, inputs, &said)?;
     let cause = cause_of(said.word, scanned.hard);
     let tree = take_tree::<W, S>(
         alloc,

@@ -16,10 +16,10 @@ use crate::gather_fault::GatherFault;
 use crate::path_lists::{file_paths, with_directory};
 use crate::plans::{local_plan, ordinary_plan};
 use crate::seen_files::SeenFile;
-use crate::sights::Sights;
 use crate::ways::check_way;
 use crate::whole::take_whole;
 use rx_base::{Items, RelPath, Text};
+use rx_reach::Sights;
 use rx_world::{Command, LocalCause, Plan, Sources, Strategy, World};
 use std::alloc::Global;
 

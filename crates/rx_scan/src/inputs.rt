@@ -9,8 +9,8 @@ ghost use Rattle.rx_scan.specs.Lists.{Fails, Learns, paths_of};
 use crate::gather_fault::GatherFault;
 use crate::limits::MAX_SCAN_FILES;
 use crate::lists::list_noted;
-use crate::sights::Sights;
 use rx_base::{Items, NoMemory, RelPath, TryClone, first_below, sort_paths};
+use rx_reach::Sights;
 use rx_world::{Found, Limit, Look, Sources, World};
 use std::alloc::Global;
 

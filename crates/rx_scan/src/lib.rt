@@ -2,10 +2,7 @@
 //! that an include can reach in any branch. Nothing here runs a command or talks to a farm.
 #![tactic(auto)]
 
-mod candidates;
 mod digests;
-mod faults;
-mod file_tables;
 mod gather_fault;
 mod gathering;
 mod input_trees;
@@ -13,17 +10,10 @@ mod inputs;
 mod limits;
 mod lists;
 mod path_lists;
-mod path_sets;
 mod plans;
-mod progress;
-mod reach;
 mod scanned;
-mod searches;
-mod seeks;
 mod seen_dirs;
 mod seen_files;
-mod sights;
-mod visits;
 mod ways;
 mod whole;
 mod words;

@@ -4,16 +4,14 @@ ghost use Rattle.std.specs.Prelude.{◌≡◌, ◌<◌, ◌≤◌, ◌^◌, All,
 ghost use Rattle.rx_base.specs.Results.{Equals, Gives};
 ghost use Rattle.rx_scan.specs.declared.gather_fault.GatherFault.TheVariants.{NoMemory as no_memory, TooLarge};
 ghost use Rattle.rx_scan.specs.Limits.{bytes_limit, check_of, files_limit, large_file, most_files, sizes_of, total_of, total_size};
-ghost use Rattle.rx_scan.specs.Searches.{most_file_bytes};
+ghost use Rattle.rx_reach.specs.Searches.{most_file_bytes};
 
 use crate::gather_fault::GatherFault;
 use crate::seen_files::SeenFile;
 use rx_base::TryClone;
+use rx_reach::MAX_FILE_BYTES;
 use rx_world::Limit;
 use std::alloc::Global;
-
-/// The most bytes of one file.
-pub(crate) const MAX_FILE_BYTES: u64 = 67_108_864;
 
 /// The most files of a scan.
 pub(crate) const MAX_SCAN_FILES: usize = 20_000;

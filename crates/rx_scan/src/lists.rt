@@ -3,11 +3,10 @@
 ghost use Rattle.std.specs.Prelude.{◌≡◌, ◌≤◌, ℕ, ◌∷◌, [], All, IfErr, IfOk, MatchResult, OnOk, Some};
 ghost use Rattle.rx_world.specs.Sources.{given_all};
 ghost use Rattle.rx_scan.specs.Lists.{Fails, IsListed, Learns};
-ghost use Rattle.rx_scan.specs.Sights.{Blames, Notes, seen_at};
+ghost use Rattle.rx_reach.specs.Sights.{Blames, Notes, seen_at};
 
-use crate::faults::SightFault;
-use crate::sights::Sights;
 use rx_base::{Items, RelPath, TryClone};
+use rx_reach::{SightFault, Sights};
 use rx_world::{Found, Refused, Sources, World};
 use std::alloc::Global;
 

@@ -2,7 +2,7 @@
 
 ghost use Rattle.std.specs.Prelude.{◌≡◌, ◌≢◌, ◌↔◌, ◌⊎◌, ◌++◌, ◌==◌, ℕ, [], Contains, IfOk, List, filter, length, map, not};
 ghost use Rattle.rx_base.specs.SortedPaths.{AreSorted};
-ghost use Rattle.rx_scan.specs.FileTables.{paths_of};
+ghost use Rattle.rx_reach.specs.FileTables.{paths_of};
 ghost use Rattle.rx_scan.specs.InputTrees.{paths_of as seen_paths};
 
 use crate::seen_files::SeenFile;

@@ -1,32 +1,31 @@
 //! The scan of a command: the files that it declares and that its includes reach, and where they
 //! keep it on this machine.
 
-ghost use Rattle.std.specs.Prelude.{◌≡◌, ◌<◌, ◌≤◌, [], All, IfErr, IfOk, MatchResult, OnOk, length};
+ghost use Rattle.std.specs.Prelude.{◌≡◌, ◌<◌, ◌≤◌, [], All, IfErr, IfOk, MatchResult, None, OnOk, length};
 ghost use Rattle.rx_base.specs.SortedPaths.{AreSorted};
 ghost use Rattle.rx_scan.specs.Digests.{IsSeen};
-ghost use Rattle.rx_scan.specs.Explored.{HaveDigests};
-ghost use Rattle.rx_scan.specs.FileTables.{paths_of};
+ghost use Rattle.rx_reach.specs.Explored.{HaveDigests};
+ghost use Rattle.rx_reach.specs.FileTables.{paths_of};
 ghost use Rattle.rx_scan.specs.InputTrees.{paths_of as seen_paths};
 ghost use Rattle.rx_scan.specs.Inputs.{OnlyTooMany};
 ghost use Rattle.rx_scan.specs.Lists.{Fails, Learns};
 ghost use Rattle.rx_scan.specs.Scanned.{BlamesScan, IsPathsOf, IsReachOf, IsScanOf};
-ghost use Rattle.rx_scan.specs.Scans.{Ends, Scans};
+ghost use Rattle.rx_reach.specs.Scans.{Ends, Scans};
 ghost use Rattle.rx_scan.specs.SeenDirs.{IsDirSeen};
 
-use crate::faults::SightFault;
 use crate::gather_fault::GatherFault;
 use crate::inputs::{Declared, take_inputs, too_many};
 use crate::limits::{Extent, MAX_SCAN_FILES, check_limits};
 use crate::path_lists::{join_dirs, join_files};
-use crate::reach::{Reached, reach};
-use crate::searches::Search;
 use crate::seen_dirs::{dirs_seen, look_at_both};
 use crate::seen_files::{SeenFile, files_seen};
-use crate::sights::Sights;
 use crate::words::Said;
 use rx_base::{Items, RelPath};
+use rx_digest_cache::DigestCache;
+use rx_reach::{Reached, Search, SightFault, Sights, reach_files};
 use rx_world::{InputFile, Sources, World};
 use std::alloc::Global;
+use std::sync::Wait;
 
 /// The paths that a scan found.
 #[derive(Debug, Drop)]
@@ -58,19 +57,22 @@ pub(crate) struct Scanned {
 
 /// What includes reach, where they are followed at all.
 fn reach_from<W: World, S: Sources<W>>(
+    rt: &impl Wait,
     alloc: Global,
     sources: &mut S,
     sights: &mut Sights,
+    cache: &DigestCache<W>,
     search: &Option<Search>,
 ) -> Result<Reached, SightFault>
     ensures ok { IfOk result (λ reached. Scans S.listed S.keeps S.given W.content W.stamps_honest sources.old sources.new sights.old sights.new (λ scene. IsReachOf scene search.now reached)) }
     ensures sorted { IfOk result (λ reached. AreSorted (paths_of reached.files)) }
+    ensures unsought { IfOk result (λ reached. search.now ≡ None → reached.hard ≡ None) }
     ensures digests { IfOk result (λ reached. W.stamps_honest → HaveDigests W.content reached.files) }
     ensures err { IfErr result (Ends S.listed S.keeps S.given W.content W.stamps_honest sources.old sources.new sights.old (S.faults sources.old) (S.faults sources.new)) }
     ensures later { S.faults sources.old ≤ S.faults sources.new }
 {
     match search {
-        Some(search) => reach::<W, S>(alloc, sources, sights, search),
+        Some(search) => reach_files(rt, alloc, sources, sights, cache, search),
         None => Ok(nothing_reached(alloc)),
     }
 }
@@ -98,13 +100,16 @@ fn refuse_many(reached: &[InputFile]) -> Result<(), GatherFault>
 
 /// Finds the paths of a command's files and directories.
 fn find_paths<W: World, S: Sources<W>>(
+    rt: &impl Wait,
     alloc: Global,
     sources: &mut S,
     sights: &mut Sights,
+    cache: &DigestCache<W>,
     inputs: &[RelPath],
     said: &Said,
 ) -> Result<ScanPaths, GatherFault>
     ensures sorted { IfOk result (λ paths. AreSorted paths.files × AreSorted paths.dirs) }
+    ensures unsought { IfOk result (λ paths. said.now.search ≡ None → paths.hard ≡ None) }
     ensures digests { IfOk result (λ paths. W.stamps_honest → HaveDigests W.content paths.known) }
     ensures found { MatchResult result
         (λ paths. Learns S.listed S.keeps S.given W.content W.stamps_honest sources.old sources.new sights.old sights.new (λ scene. IsPathsOf scene inputs.now said.now paths))
@@ -112,7 +117,7 @@ fn find_paths<W: World, S: Sources<W>>(
     ensures later { S.faults sources.old ≤ S.faults sources.new }
 {
     let declared = take_inputs::<W, S>(alloc, sources, sights, inputs, said.roots.as_slice())?;
-    let reached = reach_from::<W, S>(alloc, sources, sights, &said.search)?;
+    let reached = reach_from(rt, alloc, sources, sights, cache, &said.search)?;
     let Declared { files, empty_dirs } = declared;
     let Reached {
         files: known,
@@ -133,14 +138,17 @@ fn find_paths<W: World, S: Sources<W>>(
 /// Scans for what a command runs on whose declared inputs are these, in order, and whose words say
 /// this.
 pub(crate) fn scan<W: World, S: Sources<W>>(
+    rt: &impl Wait,
     alloc: Global,
     sources: &mut S,
     sights: &mut Sights,
+    cache: &DigestCache<W>,
     inputs: &[RelPath],
     said: &Said,
 ) -> Result<Scanned, GatherFault>
     ensures few { IfOk result (λ scanned. length scanned.files ≤ 20000) }
     ensures sorted { IfOk result (λ scanned. AreSorted (seen_paths scanned.files) × AreSorted scanned.dirs) }
+    ensures unsought { IfOk result (λ scanned. said.now.search ≡ None → scanned.hard ≡ None) }
     ensures seen { IfOk result (λ scanned. All (IsSeen sights.new) scanned.files × All (IsDirSeen sights.new) scanned.dirs) }
     ensures digests { IfOk result (λ scanned. W.stamps_honest → HaveDigests W.content scanned.known) }
     ensures scanned { MatchResult result
@@ -148,7 +156,7 @@ pub(crate) fn scan<W: World, S: Sources<W>>(
         (λ fault. Fails S.listed S.keeps S.given W.content W.stamps_honest sources.old sources.new (BlamesScan sights.old inputs.now said.now (S.faults sources.old) (S.faults sources.new) fault)) }
     ensures later { S.faults sources.old ≤ S.faults sources.new }
 {
-    let found = find_paths::<W, S>(alloc, sources, sights, inputs, said)?;
+    let found = find_paths(rt, alloc, sources, sights, cache, inputs, said)?;
     let ScanPaths {
         files,
         dirs,

@@ -1,15 +1,13 @@
 //! Paths that are looked at, so that all of an input tree was seen, and the directories among them.
 
 ghost use Rattle.std.specs.Prelude.{◌≡◌, ◌≤◌, All, IfErr, IfOk, OnOk, filter};
-ghost use Rattle.rx_scan.specs.Candidates.{is_dir};
-ghost use Rattle.rx_scan.specs.Scans.{Ends, Scans};
-ghost use Rattle.rx_scan.specs.Scenes.{AreRight};
+ghost use Rattle.rx_reach.specs.Scans.{Ends, Scans};
+ghost use Rattle.rx_reach.specs.Scenes.{AreRight};
 ghost use Rattle.rx_scan.specs.SeenDirs.{IsKnownAt, is_dir_seen};
-ghost use Rattle.rx_scan.specs.Sights.{seen_at};
+ghost use Rattle.rx_reach.specs.Sights.{seen_at};
 
-use crate::faults::SightFault;
-use crate::sights::Sights;
 use rx_base::{Items, NoMemory, RelPath, TryClone};
+use rx_reach::{SightFault, Sights};
 use rx_world::{Look, Sources, World};
 use std::alloc::Global;
 
@@ -71,17 +69,5 @@ pub(crate) fn dirs_seen(
 fn is_dir_at(sights: &Sights, path: &RelPath) -> bool
     ensures { result ≡ is_dir_seen (seen_at sights.now path.now) }
 {
-    match sights.seen(path) {
-        Some(look) => is_dir(look),
-        None => false,
-    }
-}
-
-fn is_dir(look: Look) -> bool
-    ensures { result ≡ is_dir look }
-{
-    match look {
-        Look::Dir => true,
-        Look::Absent | Look::File { .. } | Look::Other => false,
-    }
+    matches!(sights.seen(path), Some(Look::Dir))
 }

@@ -4,8 +4,8 @@ ghost use Rattle.std.specs.Prelude.{◌≡◌, ◌++◌, IfOk, OnOk, filter_map}
 ghost use Rattle.std.specs.Option.{option_to_list};
 ghost use Rattle.rx_scan.specs.SeenFiles.{file_of, file_seen};
 
-use crate::sights::Sights;
 use rx_base::{Items, NoMemory, RelPath, TryClone};
+use rx_reach::Sights;
 use rx_world::{Look, Stamp};
 use std::alloc::Global;
 

@@ -77,24 +77,17 @@ pub(crate) fn blocked_path<'a>(command: &'a Command, files: &[RelPath]) -> Optio
     None
 }
 
-/// A look alone.
-fn seen(look: Look) -> Seen
-    ensures { result ≡ record { look = look; digest = None } }
-{
-    Seen { look, digest: None }
-}
-
 /// The refusal of a file that is also a directory, since something stands below it.
 fn changed_above(alloc: Global, file: &SeenFile) -> Result<GatherFault, NoMemory>
     ensures { IfOk result (λ fault. fault ≡ change_above file.now) }
 {
     Ok(GatherFault::InputChanged {
         path: file.path.try_clone(alloc)?,
-        first: seen(Look::File {
+        first: Seen::from(Look::File {
             stamp: file.stamp,
             executable: file.executable,
         }),
-        second: seen(Look::Dir),
+        second: Seen::from(Look::Dir),
     })
 }
 

@@ -14,8 +14,8 @@ use crate::inputs::with_found;
 use crate::limits::{Extent, MAX_LIST_FILES, check_limits};
 use crate::lists::list_noted;
 use crate::seen_files::{SeenFile, files_seen};
-use crate::sights::Sights;
 use rx_base::{Items, NoMemory, RelPath, TryClone, sort_paths};
+use rx_reach::Sights;
 use rx_world::{Sources, World};
 use std::alloc::Global;
 

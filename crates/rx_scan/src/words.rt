@@ -6,10 +6,10 @@ ghost use Rattle.rx_cppflags.specs.Readings.{IsSafeOutput, reading_of};
 ghost use Rattle.rx_scan.specs.Words.{reading_for, said_by, with_outputs};
 
 use crate::path_lists::with_paths;
-use crate::searches::Search;
 use rx_base::{Items, NoMemory, RelPath, Text, TryClone, sort_paths};
 use rx_cppflags::{Reading, read_command};
-use rx_world::{Command, Kind, Pair};
+use rx_reach::Search;
+use rx_world::{Command, Kind};
 use std::alloc::Global;
 
 /// What the words of a command say. Those of a tool say nothing.
@@ -107,23 +107,10 @@ pub(crate) fn with_outputs(
     let all = with_paths(alloc, command.outputs.try_clone(alloc)?, outputs)?;
     Ok(Command {
         words: command.words.try_clone(alloc)?,
-        environment: copy_pairs(alloc, command.environment.as_slice())?,
+        environment: command.environment.try_clone(alloc)?,
         working_directory: command.working_directory.try_clone(alloc)?,
         outputs: sort_paths(all)?,
-        platform: copy_pairs(alloc, command.platform.as_slice())?,
+        platform: command.platform.try_clone(alloc)?,
         timeout_seconds: command.timeout_seconds,
     })
-}
-
-fn copy_pairs(alloc: Global, pairs: &[Pair]) -> Result<Items<Pair>, NoMemory>
-    ensures { IfOk result (λ copies. copies ≡ pairs.now) }
-{
-    let mut copies = Vec::with_capacity(alloc, pairs.len())?;
-    for pair in pairs {
-        copies.push(Pair {
-            name: pair.name.try_clone(alloc)?,
-            value: pair.value.try_clone(alloc)?,
-        })?;
-    }
-    Ok(Items::from_vec(copies))
 }

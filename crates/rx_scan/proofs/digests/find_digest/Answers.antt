@@ -1,4 +1,4 @@
-use Rattle.rx_scan.proofs.ScanLemmas.{scans-none}
+use Rattle.rx_reach.proofs.ScanLemmas.{scans-none}
 use Rattle.rx_scan.proofs.digests.find_digest.Goals as goal
 
 pub returns-in-Some-clause-ok : goal.returns-in-Some-clause-ok

@@ -5,9 +5,9 @@ use Rattle.rx_base.specs.Digests.{digest_of}
 use Rattle.rx_world.specs.declared.input_files.InputFile.{InputFile}
 use Rattle.rx_scan.specs.declared.seen_files.SeenFile.{SeenFile}
 use Rattle.rx_scan.specs.Digests.{seen_file}
-use Rattle.rx_scan.specs.Explored.{HaveDigests}
+use Rattle.rx_reach.specs.Explored.{HaveDigests}
 use Rattle.rx_scan.proofs.DigestLemmas.{file-seen, honest-more, same-more}
-use Rattle.rx_scan.proofs.ScanLemmas.{ends-join, ends-memory, scans-join, scans-none}
+use Rattle.rx_reach.proofs.ScanLemmas.{ends-join, ends-memory, scans-join, scans-none}
 use Rattle.rx_scan.proofs.digests.with_digests.Goals as goal
 
 pub loop-file-init : goal.loop-file-init

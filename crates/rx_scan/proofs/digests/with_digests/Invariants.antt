@@ -1,7 +1,7 @@
 use Rattle.std.proofs.Common.{◌≡◌, ◌≤◌, map, take}
 use Rattle.rx_scan.specs.Digests.{seen_file}
-use Rattle.rx_scan.specs.Explored.{HaveDigests}
-use Rattle.rx_scan.specs.Scans.{Scans}
+use Rattle.rx_reach.specs.Explored.{HaveDigests}
+use Rattle.rx_reach.specs.Scans.{Scans}
 use Rattle.rx_scan.proofs.digests.with_digests.Given as goal
 
 abbrev pub invariant-loop-file : goal.invariant-loop-file

@@ -5,7 +5,7 @@ use Rattle.rx_base.proofs.PathsSorted.{AreSorted-sorted_paths}
 use Rattle.rx_world.specs.declared.commands.Command.{Command}
 use Rattle.rx_scan.specs.Gathering.{Asked}
 use Rattle.rx_scan.proofs.GatherSteps.{allows-said, cause-asked, command-asked, memory-at_once, memory-last, refused-said, refused-scan, refused-sight, refused-tree, scanned-asked}
-use Rattle.rx_scan.proofs.GatheredSteps.{all-gathered, orderly-so, tree-scanned}
+use Rattle.rx_scan.proofs.GatheredSteps.{all-gathered, orderly-so, planned-so, tree-scanned}
 use Rattle.rx_scan.proofs.gathering.gather.Goals as goal
 
 pub returns-in_err-said-clause-gathered : goal.returns-in_err-said-clause-gathered
@@ -82,10 +82,12 @@ returns-clause-orderly g c =
     let asked : Asked = record { command = c.args.command.now; kind = c.args.kind; inputs = c.args.inputs.now; strategy = c.args.strategy } in
     let command = command-asked asked c.in_ok-said.said _ c.in_ok-command.command c.in_ok-said.ensures.said c.as_slice.ensures c.in_ok-command.ensures in
     let with = rw c.as_slice.ensures at c.in_ok-command.ensures in
+    let cause = cause-asked asked c.in_ok-said.said c.in_ok-scanned.scanned.hard c.cause_of-cause.result c.in_ok-said.ensures.said c.cause_of-cause.ensures in
     let same = rw c.as_slice-2.ensures at c.in_ok-files.ensures.same in
     orderly-so asked c.args.inputs.now c.in_ok-said.said.outputs c.in_ok-scanned.scanned.dirs c.in_ok-tree.tree
     (record { command = c.in_ok-command.command; view = c.in_ok-view.view; files = c.in_ok-files.files; dirs = c.in_ok-tree.tree.dirs; plan = c.in_ok-tree.tree.plan })
     command with c.in_ok-said.ensures.safe c.in_ok-tree.ensures.orderly refl same c.in_ok-view.ensures.sorted
+    (planned-so asked c.in_ok-said.said c.in_ok-scanned.scanned.hard c.cause_of-cause.result c.in_ok-tree.tree.plan c.in_ok-said.ensures.said cause c.in_ok-scanned.ensures.unsought c.in_ok-tree.ensures.plan)
 
 pub returns-clause-digests : goal.returns-clause-digests
 returns-clause-digests g c = λ honest.

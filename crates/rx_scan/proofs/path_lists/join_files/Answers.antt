@@ -1,4 +1,4 @@
-use Rattle.rx_scan.specs.FileTables.{paths_of}
+use Rattle.rx_reach.specs.FileTables.{paths_of}
 use Rattle.rx_scan.proofs.PathSteps.{in-joined}
 use Rattle.rx_scan.proofs.path_lists.join_files.Goals as goal
 

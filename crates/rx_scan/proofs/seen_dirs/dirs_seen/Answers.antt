@@ -1,6 +1,6 @@
 use Rattle.std.proofs.Common.{[], ◌∷◌, ◌++◌, true, false, ap, append-nil, sym, ◌∙◌}
 use Rattle.rx_scan.specs.SeenDirs.{is_dir_seen}
-use Rattle.rx_scan.specs.Sights.{seen_at}
+use Rattle.rx_reach.specs.Sights.{seen_at}
 use Rattle.rx_scan.proofs.PathSteps.{filter-more}
 use Rattle.rx_scan.proofs.seen_dirs.dirs_seen.Goals as goal
 use Rattle.rx_scan.proofs.seen_dirs.dirs_seen.Goals.{then-is_dir_at+in_ok-try_clone+in_ok-push, else-is_dir_at}

@@ -1,6 +1,6 @@
 use Rattle.std.proofs.lemmas.Result.{err_from_is_err_and}
 use Rattle.rx_scan.proofs.LookSteps.{both-looked, scans-known}
-use Rattle.rx_scan.proofs.ScanLemmas.{ends-join}
+use Rattle.rx_reach.proofs.ScanLemmas.{ends-join}
 use Rattle.rx_scan.proofs.seen_dirs.look_at_both.Goals as goal
 
 pub returns-clause-ok : goal.returns-clause-ok

@@ -1,6 +1,6 @@
 use Rattle.std.proofs.Common.{◌≤◌, take}
 use Rattle.std.specs.Prelude.{All}
-use Rattle.rx_scan.specs.Scans.{Scans}
+use Rattle.rx_reach.specs.Scans.{Scans}
 use Rattle.rx_scan.specs.SeenDirs.{IsKnownAt}
 use Rattle.rx_scan.proofs.seen_dirs.look_at_each.Given as goal
 

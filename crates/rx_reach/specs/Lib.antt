@@ -1,0 +1,13 @@
+pub mod Candidates
+pub mod Explored
+pub mod FileTables
+pub mod Opened
+pub mod PathSets
+pub mod Progress
+pub mod Reach
+pub mod Scans
+pub mod Scenes
+pub mod Searches
+pub mod Sights
+pub mod Tries
+pub mod Visits

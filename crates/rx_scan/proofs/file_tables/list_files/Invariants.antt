@@ -1,6 +1,0 @@
-use Rattle.std.proofs.Common.{◌≡◌, map}
-use Rattle.rx_scan.specs.FileTables.{file_of}
-use Rattle.rx_scan.proofs.file_tables.list_files.Given as goal
-
-abbrev pub invariant-loop-path : goal.invariant-loop-path
-invariant-loop-path l = l.items ≡ map file_of l.yielded

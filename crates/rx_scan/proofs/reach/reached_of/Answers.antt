@@ -1,5 +1,0 @@
-use Rattle.rx_scan.proofs.EndLemmas.{first-least}
-use Rattle.rx_scan.proofs.reach.reached_of.Goals as goal
-
-pub returns-clause-hard : goal.returns-clause-hard
-returns-clause-hard c = first-least c.args.progress.hard c.pop_first.new.self c.pop_first.result c.pop_first.ensures.sorted c.pop_first.ensures.taken

@@ -1,9 +1,0 @@
-use Rattle.std.proofs.Common.{◌∙◌}
-use Rattle.rx_scan.proofs.ViewSteps.{view-sights, view-sorted}
-use Rattle.rx_scan.proofs.sights.Sights.into_view.Goals as goal
-
-pub returns-clause-seen : goal.returns-clause-seen
-returns-clause-seen c = view-sights c.self.inside.looks.entries c.in_ok-view.view c.in_ok-view.ensures ∙ c.self.view_is
-
-pub returns-clause-sorted : goal.returns-clause-sorted
-returns-clause-sorted c = view-sorted c.self.inside.looks.entries c.in_ok-view.view c.self.invariant c.in_ok-view.ensures

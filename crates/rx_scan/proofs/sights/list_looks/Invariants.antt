@@ -1,6 +1,0 @@
-use Rattle.std.proofs.Common.{◌≡◌, map}
-use Rattle.rx_scan.specs.Sights.{found_of}
-use Rattle.rx_scan.proofs.sights.list_looks.Given as goal
-
-abbrev pub invariant-loop-path : goal.invariant-loop-path
-invariant-loop-path l = l.view ≡ map found_of l.yielded
