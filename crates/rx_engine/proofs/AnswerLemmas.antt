@@ -7,11 +7,11 @@ use Rattle.rx_board.specs.declared.journal.Receipt.{Receipt}
 use Rattle.rx_scan.specs.declared.gather_fault.GatherFault.{GatherFault}
 use Rattle.rx_scan.specs.declared.gather_fault.GatherFault.TheVariants.{Blocked, InputChanged, InputMissing, NoMemory, NotRemotable, SourceFault, TooLarge}
 use Rattle.rx_scan.specs.declared.gathering.Gathered.{Gathered}
-use Rattle.rx_scan.specs.Explored.{HaveDigests}
+use Rattle.rx_reach.specs.Explored.{HaveDigests}
 use Rattle.rx_scan.specs.Gathering.{Asked, BlamesGather, IsGathered, IsOrderly, plan_of}
-use Rattle.rx_scan.specs.Sights.{sights_of}
+use Rattle.rx_reach.specs.Sights.{sights_of}
 use Rattle.rx_scan.specs.Lists.{IsRightList, Learns}
-use Rattle.rx_scan.specs.Scenes.{scene_of}
+use Rattle.rx_reach.specs.Scenes.{scene_of}
 use Rattle.rx_session.specs.declared.replies.Reply.{Reply}
 use Rattle.rx_session.specs.declared.replies.Reply.TheVariants as reply
 use Rattle.rx_session.specs.declared.requests.Request.{Request}
@@ -28,7 +28,7 @@ use Rattle.rx_world.specs.declared.sources.Given.{Given}
 use Rattle.rx_world.specs.declared.sources.SourceEntry.{SourceEntry}
 use Rattle.rx_engine.specs.declared.answers.Answered.{Answered}
 use Rattle.rx_engine.specs.Answered.{AnswersFault}
-use Rattle.rx_engine.specs.Answers.{Answers, HasGathered, RunGrounds, RunsOn, ScanGrounds, Tells, asked_of}
+use Rattle.rx_engine.specs.Answers.{Answers, HasGathered, IsIdle, RunGrounds, RunsOn, ScanGrounds, Tells, asked_of}
 use Rattle.rx_engine.specs.Journal.{Enters}
 use Rattle.rx_world.proofs.AnswerLemmas.{gives-none}
 
@@ -71,7 +71,7 @@ has-gathered listed keeps given content honest a b asked request gathered before
   viewed = l.notes;
   orderly = rw e at orderly;
   digests = digests;
-  plan = λ local scene shows. let g = rw e at (l.fact scene shows) in plan-by request.strategy g.cause gathered.plan local g.plan_is;
+  plan = λ local. let planned = (rw e at orderly).planned in plan-by request.strategy planned.0 gathered.plan local planned.2;
 }
 
 -- a run on what was gathered answers the request
@@ -97,14 +97,14 @@ runs-answers s r stamps tools request gathered receipt ends reply.NoMemory g h =
 
 -- the refusal of the gathering answers the request
 pub refusal-answers : (s : ScanGrounds) (r : RunGrounds) (stamps tools : Type 0) (request : Request) (why : GatherFault) (a : Answered)
-    → BlamesGather (asked_of request) s.before s.now why s.answers s.lists → r.answers ≡ [] → AnswersFault why a
+    → BlamesGather (asked_of request) s.before s.now why s.answers s.lists → IsIdle r → AnswersFault why a
     → Answers s r stamps tools request a.receipt a.ends a.reply
-refusal-answers s r stamps tools request (NotRemotable cause) a b u h = rw h.reply_is (record { cause = b; unread = u; ends_are = h.ends_are; receipt_is = h.receipt_is })
-refusal-answers s r stamps tools request (InputMissing path) a b u h = rw h.reply_is (record { cause = b; unread = u; ends_are = h.ends_are; receipt_is = h.receipt_is })
-refusal-answers s r stamps tools request (InputChanged path first second) a b u h = rw h.reply_is (record { cause = b; unread = u; ends_are = h.ends_are; receipt_is = h.receipt_is })
-refusal-answers s r stamps tools request (SourceFault path) a b u h = rw h.reply_is (record { cause = b; unread = u; ends_are = h.ends_are; receipt_is = h.receipt_is })
-refusal-answers s r stamps tools request (TooLarge limit n path) a b u h = rw h.reply_is (record { cause = b; unread = u; ends_are = h.ends_are; receipt_is = h.receipt_is })
-refusal-answers s r stamps tools request (Blocked path) a b u h = rw h.reply_is (record { cause = b; unread = u; ends_are = h.ends_are; receipt_is = h.receipt_is })
+refusal-answers s r stamps tools request (NotRemotable cause) a b u h = rw h.reply_is (record { cause = b; idle = u; ends_are = h.ends_are; receipt_is = h.receipt_is })
+refusal-answers s r stamps tools request (InputMissing path) a b u h = rw h.reply_is (record { cause = b; idle = u; ends_are = h.ends_are; receipt_is = h.receipt_is })
+refusal-answers s r stamps tools request (InputChanged path first second) a b u h = rw h.reply_is (record { cause = b; idle = u; ends_are = h.ends_are; receipt_is = h.receipt_is })
+refusal-answers s r stamps tools request (SourceFault path) a b u h = rw h.reply_is (record { cause = b; idle = u; ends_are = h.ends_are; receipt_is = h.receipt_is })
+refusal-answers s r stamps tools request (TooLarge limit n path) a b u h = rw h.reply_is (record { cause = b; idle = u; ends_are = h.ends_are; receipt_is = h.receipt_is })
+refusal-answers s r stamps tools request (Blocked path) a b u h = rw h.reply_is (record { cause = b; idle = u; ends_are = h.ends_are; receipt_is = h.receipt_is })
 refusal-answers s r stamps tools request NoMemory a b u h = absurd h
 
 false-true : false ≡ true → ⊥
@@ -133,7 +133,7 @@ ok-answers s r stamps tools request gathered (Ok a) g h = runs-answers s r stamp
 ok-answers s r stamps tools request gathered (Err e) g h = tt
 
 pub err-answers : {E : Type 0} (s : ScanGrounds) (r : RunGrounds) (stamps tools : Type 0) (asked : Asked) (request : Request) (why : GatherFault) (result : Result Answered E)
-    → asked ≡ asked_of request → BlamesGather asked s.before s.now why s.answers s.lists → r.answers ≡ []
+    → asked ≡ asked_of request → BlamesGather asked s.before s.now why s.answers s.lists → IsIdle r
     → IfOk result (AnswersFault why)
     → IfOk result (λ a. Answers s r stamps tools request a.receipt a.ends a.reply)
 err-answers s r stamps tools asked request why (Ok a) e b u h = refusal-answers s r stamps tools request why a (rw e at b) u h

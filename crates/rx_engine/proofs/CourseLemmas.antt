@@ -70,12 +70,12 @@ session-finished m keeps keeps_local stamps tools root before after number read 
 pub session-lost : {I O T L B : Type 0} (m : Meanings I O T L B) (keeps : T → Type 0) (keeps_local : L → Type 0) (stamps tools : Type 0) (root : List ℕ) (before after : Parts I O T L B) (number : ℕ) (read : List ℕ) (t : Transcript)
     → Consumes (m.left before.input) (m.left after.input) read
     → Appends (m.taken before.output) (m.taken after.output) []
-    → after.tree ≡ before.tree → after.tree_local ≡ before.tree_local
+    → after.tree ≡ before.tree → after.tree_local ≡ before.tree_local → after.benches ≡ before.benches
     → IsLost number read t
     → Rose (m.input_faults before.input) (m.input_faults after.input)
     → AreLater m before after
     → IsSession m keeps keeps_local stamps tools root before after t
-session-lost m keeps keeps_local stamps tools root before after number read t consumed written same same_local lost rose later = record {
+session-lost m keeps keeps_local stamps tools root before after number read t consumed written same same_local same_benches lost rose later = record {
   answers = [];
   lists = [];
   local_answers = [];
@@ -83,7 +83,16 @@ session-lost m keeps keeps_local stamps tools root before after number read t co
   written = rw lost.written_is written;
   looked = rw same (tells-none m.listed keeps m.given m.content stamps before.tree);
   looked_again = rw same_local (gives-none m.local_listed keeps_local m.local_given m.content stamps before.tree_local);
-  course = rw lost.ending_is (lost.reply_is, lost.request_is, lost.written_is, lost.ends_are, lost.receipt_is);
+  course = rw lost.ending_is (
+    lost.reply_is,
+    lost.request_is,
+    lost.written_is,
+    lost.ends_are,
+    lost.receipt_is,
+    refl,
+    refl,
+    record { unread = refl; source_is = ap m.local_faults same_local; bench_is = ap m.bench_faults same_benches },
+  );
   source = λ e. rose;
   sink = λ e. absurd (let x = lost.ending_is in cc);
   later = later;

@@ -2,6 +2,7 @@ mod AnswerLemmas
 mod CourseLemmas
 mod EachDone
 mod Early
+mod HonestRuns
 mod LegalLemmas
 mod Quiet
 mod ReadyLemmas

@@ -1,8 +1,8 @@
 -- A session in which nothing fails, in an honest world.
-use Rattle.std.proofs.Common.{◌≡◌, ◌≢◌, ℕ, true, false, List, [], ◌∷◌, ◌++◌, refl, ap, sym, subst, ◌∙◌, append-nil, arith, length, inl, inr, map}
-use Rattle.std.specs.Prelude.{All, Contains, Err, IfSome, MatchOption, None, Ok, Option, Result, Some}
+use Rattle.std.proofs.Common.{◌≡◌, ℕ, true, false, List, [], ◌∷◌, ◌++◌, refl, ap, sym, subst, ◌∙◌, append-nil, arith, length, inl, inr}
+use Rattle.std.specs.Prelude.{All, Contains, Err, MatchOption, None, Ok, Option, Result, Some}
 use Rattle.std.specs.Io.KnownBytes.{Consumes, IsAtEnd}
-use Rattle.std.proofs.lemmas.List.Elements.{All-contains, All-weaker, Contains-append_right}
+use Rattle.std.proofs.lemmas.List.Elements.{All-contains, Contains-append_right}
 use Rattle.rx_base.specs.Digests.{digest_of}
 use Rattle.rx_board.specs.declared.journal.Entry.{Entry}
 use Rattle.rx_board.specs.declared.journal.Receipt.{Receipt}
@@ -12,11 +12,9 @@ use Rattle.rx_local.specs.Stage.{IsChangedInput}
 use Rattle.rx_local.proofs.Staging.{staged-listed}
 use Rattle.rx_scan.specs.declared.gather_fault.GatherFault.{GatherFault}
 use Rattle.rx_scan.specs.declared.gather_fault.GatherFault.TheVariants as fault
-use Rattle.rx_scan.specs.declared.gathering.Gathered.{Gathered}
 use Rattle.rx_scan.specs.Gathering.{IsChangeOf}
-use Rattle.rx_scan.specs.Lists.{IsRightList, Listing, Shows}
-use Rattle.rx_scan.specs.Scenes.{IsRight, scene_of}
-use Rattle.rx_scan.specs.Sights.{WasSeen}
+use Rattle.rx_reach.specs.Scenes.{scene_of}
+use Rattle.rx_reach.specs.Sights.{WasSeen}
 use Rattle.rx_session.specs.declared.bad.Bad.{Bad}
 use Rattle.rx_session.specs.declared.bad.BadReason.TheVariants.{CutShort}
 use Rattle.rx_session.specs.declared.replies.Reply.{Reply}
@@ -46,6 +44,7 @@ use Rattle.rx_engine.specs.Meanings.{Meanings}
 use Rattle.rx_engine.specs.Quiet.{AreApart, CanGather, HasRoom, IsDoneOr, IsDoneReply, IsQuiet, MakesFrom}
 use Rattle.rx_engine.specs.Session.{grounds_of, IsCourse, IsSession, Replies, RepliesTo}
 use Rattle.rx_engine.proofs.Early.{early}
+use Rattle.rx_engine.proofs.HonestRuns.{IsByList, by-list, same-request, shows}
 
 none-some : {A : Type 0} {a : A} → None ≡ Some a → ⊥
 none-some h = cc
@@ -62,12 +61,6 @@ errs b = Err b
 err-ok : (a : Bad) (b : Request) → errs a ≡ Ok b → ⊥
 err-ok a b h = cc
 
--- what was read to its end is all that was told
-read-all : (old new : Option (List ℕ)) (bytes read : List ℕ) → old ≡ Some bytes → Consumes old new read → IsAtEnd new → read ≡ bytes
-read-all None new bytes read e h k = absurd (none-some e)
-read-all (Some xs) None bytes read e h k = absurd h
-read-all (Some xs) (Some ys) bytes read e h k = let same : xs ≡ bytes = some-inj e in sym (append-nil read) ∙ ap (λ s. read ++ s) (sym k) ∙ sym h ∙ same
-
 -- a refusal contradicts a request that is told whole
 pub not-refused : (root : List ℕ) (old new : Option (List ℕ)) (bytes read : List ℕ) (why : Bad) (asked : Request)
     → old ≡ Some bytes → Consumes old new read → request_of root read ≡ Err why → (why.reason ≡ CutShort → IsAtEnd new) → request_of root bytes ≡ Ok asked → ⊥
@@ -81,20 +74,6 @@ not-refused root (Some xs) (Some ys) bytes read why asked e h d cut v =
     let same : request_of root read ≡ Ok asked = ap (request_of root) (sym (append-nil read) ∙ ap (λ s. read ++ s) (sym end)) ∙ valid in
     err-ok why asked (sym d ∙ same))
     valid
-
--- what a source tree that keeps its list answers and lists is right in the list's scene
-right-by : (entries : List SourceEntry) (answer : Given) (bytes : Option (List ℕ)) → answer.bytes ≡ bytes → IsAnswerOf entries answer → IsRight (scene_of entries) answer
-right-by entries answer None e h = record { look_is = h.look_is; bytes_are = rw e tt }
-right-by entries answer (Some bytes) e h = record { look_is = h.look_is; bytes_are = rw e (rw e at h.bytes_are) }
-
-all-right : (entries : List SourceEntry) (answers : List Given) → All (IsAnswerOf entries) answers → All (IsRight (scene_of entries)) answers
-all-right entries answers h = All-weaker (IsAnswerOf entries) (IsRight (scene_of entries)) (λ answer. right-by entries answer answer.bytes refl) answers h
-
-nothing-seen : (entries : List SourceEntry) (path : List ℕ) (look : Look) → None ≡ Some look → look ≡ (entry_at path entries).look
-nothing-seen entries path look h = absurd (none-some h)
-
-shows : (entries : List SourceEntry) (answers : List Given) (lists : List Listing) → All (IsAnswerOf entries) answers → All (IsRightList (scene_of entries)) lists → Shows (scene_of entries) [] answers lists
-shows entries answers lists a l = record { seen = λ path look e. nothing-seen entries path look e; answered = all-right entries answers a; listed = l }
 
 -- what was seen is what the list has
 seen-by : (entries : List SourceEntry) (answers : List Given) (path : List ℕ) (look : Look) → All (IsAnswerOf entries) answers → WasSeen [] answers path look → look ≡ (entry_at path entries).look
@@ -138,16 +117,10 @@ not-changed-again entries content files answers path first second c listed conte
           (All-contains (HasContent content) answers answer contents given))
     ]
 
-ok-inj : (root read bytes : List ℕ) (a b : Request) → read ≡ bytes → request_of root read ≡ Ok a → request_of root bytes ≡ Ok b → a ≡ b
-ok-inj root read bytes a b e h k = let j : request_of root read ≡ Ok b = ap (request_of root) e ∙ k in cc
-
 -- What a quiet session stands on: its source trees told what the list has, and no count rose.
 record IsCalm (entries : List SourceEntry) (stamps tools : Type 0) (s : ScanGrounds) (r : RunGrounds) (asked : Request) : Type 0 where
+  by_list : IsByList entries tools s r
   stamps_hold : stamps
-  tools_hold : tools
-  answers : All (IsAnswerOf entries) s.answers
-  lists : All (IsRightList (scene_of entries)) s.lists
-  again : All (IsAnswerOf entries) r.answers
   contents : All (HasContent s.content) r.answers
   apart : AreApart entries
   gathers : CanGather (scene_of entries) (asked_of asked)
@@ -156,20 +129,12 @@ record IsCalm (entries : List SourceEntry) (stamps tools : Type 0) (s : ScanGrou
   tree_local : Rose r.source_before r.source_now → ⊥
   benches : Rose r.bench_before r.bench_now → ⊥
 
--- of what was told this holds
-told-by : (P : List SourceEntry → Type 0) (o : Option (List SourceEntry)) (entries : List SourceEntry) → o ≡ Some entries → IfSome o P → P entries
-told-by P None entries e h = absurd (none-some e)
-told-by P (Some told) entries e h = let same : told ≡ entries = some-inj e in subst P same h
-
 calm : {I O T L B : Type 0} (m : Meanings I O T L B) (keeps : T → Type 0) (keeps_local : L → Type 0) (stamps tools : Type 0) (root : List ℕ) (before after : Parts I O T L B) (t : Transcript) (bytes : List ℕ) (asked : Request)
     → (s : IsSession m keeps keeps_local stamps tools root before after t) → (q : IsQuiet m keeps keeps_local stamps tools root before after bytes asked)
     → IsCalm q.entries stamps tools (grounds_of m root before after s.answers s.lists s.local_answers).scan (grounds_of m root before after s.answers s.lists s.local_answers).run asked
 calm m keeps keeps_local stamps tools root before after t bytes asked s q = record {
+  by_list = by-list m keeps keeps_local stamps tools root before after t bytes asked q.entries s q.honest;
   stamps_hold = q.stamps;
-  tools_hold = q.tools;
-  answers = told-by (λ entries. All (IsAnswerOf entries) s.answers) (m.listed before.tree) q.entries q.listed (s.looked.gives.by_list q.kept);
-  lists = told-by (λ entries. All (IsRightList (scene_of entries)) s.lists) (m.listed before.tree) q.entries q.listed (s.looked.by_list q.kept);
-  again = told-by (λ entries. All (IsAnswerOf entries) s.local_answers) (m.local_listed before.tree_local) q.entries q.local_listed (s.looked_again.by_list q.local_kept);
   contents = s.looked_again.contents q.stamps;
   apart = q.apart;
   gathers = q.gathers;
@@ -183,19 +148,19 @@ calm m keeps keeps_local stamps tools root before after t bytes asked s q = reco
 not-refused-by : (entries : List SourceEntry) (stamps tools : Type 0) (s : ScanGrounds) (r : RunGrounds) (asked : Request) (receipt : Option Receipt) (ends : List Ended) (why : GatherFault)
     → IsCalm entries stamps tools s r asked → IsRefused s r asked receipt ends why → (why ≡ fault.NoMemory → ⊥) → ⊥
 not-refused-by entries stamps tools s r asked receipt ends (fault.InputMissing path) c f n =
-    none-some (sym c.gathers.there ∙ f.cause.1 (scene_of entries) (shows entries s.answers s.lists c.answers c.lists))
+    none-some (sym c.gathers.there ∙ f.cause.1 (scene_of entries) (shows entries tools s r c.by_list))
 not-refused-by entries stamps tools s r asked receipt ends (fault.SourceFault path) c f n = c.tree f.cause
 not-refused-by entries stamps tools s r asked receipt ends (fault.TooLarge limit count path) c f n =
-    elim (f.cause (scene_of entries) (shows entries s.answers s.lists c.answers c.lists)) [
+    elim (f.cause (scene_of entries) (shows entries tools s r c.by_list)) [
       | inl scan ↦ c.gathers.scan limit count path scan.1
       | inr list ↦ c.gathers.list limit count path list.1
     ]
 not-refused-by entries stamps tools s r asked receipt ends (fault.InputChanged path first second) c f n =
-    not-changed entries s.answers path first second c.answers c.apart f.cause
+    not-changed entries s.answers path first second c.by_list.answers c.apart f.cause
 not-refused-by entries stamps tools s r asked receipt ends (fault.NotRemotable why) c f n =
-    c.gathers.planned why (f.cause.2 (scene_of entries) (shows entries s.answers s.lists c.answers c.lists)) f.cause.0
+    c.gathers.planned why (f.cause.2 (scene_of entries) (shows entries tools s r c.by_list)) f.cause.0
 not-refused-by entries stamps tools s r asked receipt ends (fault.Blocked path) c f n =
-    let b = f.cause (scene_of entries) (shows entries s.answers s.lists c.answers c.lists) in
+    let b = f.cause (scene_of entries) (shows entries tools s r c.by_list) in
     none-some (sym (c.gathers.free b.0 b.1 b.2 b.5 b.6) ∙ b.7)
 not-refused-by entries stamps tools s r asked receipt ends fault.NoMemory c f n = n refl
 
@@ -207,14 +172,14 @@ not-failed entries stamps tools s r asked ends (cause.SourceFault path) c f = c.
 not-failed entries stamps tools s r asked ends cause.NoMemory c f = f.failed.memory refl
 not-failed entries stamps tools s r asked ends (cause.OutputMissing path) c f =
     let caused = f.failed.caused in
-    let here = f.inputs.shown (scene_of entries) (shows entries s.answers s.lists c.answers c.lists) in
-    let same = staged-listed entries f.gathered.files r.answers caused.staged caused.each c.again in
-    let lacks = subst (λ copies. LacksOutput r.tool f.gathered.command (tree_of copies f.gathered.dirs) path) same (caused.lacks c.tools_hold) in
+    let here = f.inputs.shown (scene_of entries) (shows entries tools s r c.by_list) in
+    let same = staged-listed entries f.gathered.files r.answers caused.staged caused.each c.by_list.again in
+    let lacks = subst (λ copies. LacksOutput r.tool f.gathered.command (tree_of copies f.gathered.dirs) path) same (caused.lacks c.by_list.tools_hold) in
     none-some (sym (c.proper f.gathered here f.inputs.orderly lacks.code_is) ∙ lacks.first)
 not-failed entries stamps tools s r asked ends (cause.InputChanged path first second) c f =
     let caused = f.failed.caused in
-    let here = f.inputs.shown (scene_of entries) (shows entries s.answers s.lists c.answers c.lists) in
-    not-changed-again entries s.content f.gathered.files r.answers path first second caused c.again c.contents here.looks (f.inputs.digests c.stamps_hold)
+    let here = f.inputs.shown (scene_of entries) (shows entries tools s r c.by_list) in
+    not-changed-again entries s.content f.gathered.files r.answers path first second caused c.by_list.again c.contents here.looks (f.inputs.digests c.stamps_hold)
 
 -- what a quiet session answers to its request
 done-to : (entries : List SourceEntry) (stamps tools : Type 0) (s : ScanGrounds) (r : RunGrounds) (asked : Request) (limit : ℕ) (old new : List Entry) (pb pn : ℕ) (t : Transcript) (answer : Reply)
@@ -252,8 +217,7 @@ to-asked : {I O T L B : Type 0} (m : Meanings I O T L B) (keeps : T → Type 0) 
     → RepliesTo (grounds_of m root before after s.answers s.lists s.local_answers) stamps tools t.read t.request t.receipt t.ends answer
     → IsDoneReply (Some answer)
 to-asked m keeps keeps_local stamps tools root before after limit old new pb pn t bytes asked answer s q j r e a =
-    let whole = read-all (m.left before.input) (m.left after.input) bytes t.read q.told s.read a.1.ended in
-    let same = ok-inj root t.read bytes a.0 asked whole a.1.decoded q.valid in
+    let same = same-request root (m.left before.input) (m.left after.input) bytes t.read a.0 asked q.honest.told s.read a.1.ended a.1.decoded q.honest.valid in
     let g = grounds_of m root before after s.answers s.lists s.local_answers in
     done-to q.entries stamps tools g.scan g.run asked limit old new pb pn t answer (calm m keeps keeps_local stamps tools root before after t bytes asked s q) j r e
     (subst (λ x. Answers g.scan g.run stamps tools x t.receipt t.ends answer) same a.2)
@@ -264,7 +228,7 @@ done-at : {I O T L B : Type 0} (m : Meanings I O T L B) (keeps : T → Type 0) (
     → Replies (grounds_of m root before after s.answers s.lists s.local_answers) stamps tools t.read t.request t.receipt t.ends answer
     → IsDoneReply (Some answer)
 done-at m keeps keeps_local stamps tools root before after limit old new pb pn t bytes asked (reply.BadRequest bad) s q j r e a =
-    not-refused root (m.left before.input) (m.left after.input) bytes t.read bad asked q.told s.read a.0 a.7 q.valid
+    not-refused root (m.left before.input) (m.left after.input) bytes t.read bad asked q.honest.told s.read a.0 a.7 q.honest.valid
 done-at m keeps keeps_local stamps tools root before after limit old new pb pn t bytes asked reply.NoMemory s q j r e a = tt
 done-at m keeps keeps_local stamps tools root before after limit old new pb pn t bytes asked (reply.Done exit stdout stderr from number placed) s q j r e a = tt
 done-at m keeps keeps_local stamps tools root before after limit old new pb pn t bytes asked (reply.PlaceFault number placed) s q j r e a =

@@ -25,7 +25,7 @@ use Rattle.rx_world.specs.declared.trees.Tree.{Tree}
 use Rattle.rx_engine.specs.declared.answers.Answered.{Answered}
 use Rattle.rx_engine.specs.declared.sessions.Ready.{Ready}
 use Rattle.rx_engine.specs.Answered.{IsPlain, bad_request, reply_no_memory}
-use Rattle.rx_engine.specs.Answers.{Answers, Tells}
+use Rattle.rx_engine.specs.Answers.{Answers, IsIdle, Tells}
 use Rattle.rx_world.specs.Answers.{Gives}
 use Rattle.rx_engine.specs.Ready.{EntersAs, EntersReady, IsOrGivenUp, IsReady, IsReadyAs, IsRefusalOf}
 use Rattle.rx_engine.specs.Session.{Grounds, IsAsked, Replies}
@@ -75,7 +75,7 @@ ready-ok g stamps tools read asked (Ok a) answered i h f o = rw o (f, replies-as
 ready-ok g stamps tools read asked (Err e) answered i h f o = given-up g stamps tools read (Some asked) answered i.decoded o
 
 ready-bad : (g : Grounds) (stamps tools : Type 0) (read : List ℕ) (bad : Bad) (answered : Option Answered)
-    → request_of g.root read ≡ Err bad → g.scan.answers ≡ [] → g.scan.lists ≡ [] → g.run.answers ≡ [] → (bad.reason ≡ CutShort → IsAtEnd g.left)
+    → request_of g.root read ≡ Err bad → g.scan.answers ≡ [] → g.scan.lists ≡ [] → IsIdle g.run → (bad.reason ≡ CutShort → IsAtEnd g.left)
     → IfSome answered (λ a. IsPlain (bad_request bad) a ⊎ IsPlain reply_no_memory a)
     → IsReadyAs g stamps tools read None answered
 ready-bad g stamps tools read bad None d none bare idle cut h = tt
@@ -92,7 +92,7 @@ ready-request g stamps tools read asked request made answered e d end h f o =
     ready-ok g stamps tools read request made answered (record { request_is = refl; decoded = rw e at d; ended = rw e at end; strategy_is = strategy-served g.root read request (rw e at d) }) h f o
 
 pub ready-refused : (g : Grounds) (stamps tools : Type 0) (read : List ℕ) (fault : SessionFault) (ready : Ready)
-    → g.scan.answers ≡ [] → g.scan.lists ≡ [] → g.run.answers ≡ [] → Decodes (λ x. x) (Err fault) (request_of g.root read) → EndsRead g.left (Err fault)
+    → g.scan.answers ≡ [] → g.scan.lists ≡ [] → IsIdle g.run → Decodes (λ x. x) (Err fault) (request_of g.root read) → EndsRead g.left (Err fault)
     → IsRefusalOf fault (Some ready)
     → IsReady g stamps tools read ready
 ready-refused g stamps tools read (faults.Bad bad) ready none bare idle d end h = rw h.0 (ready-bad g stamps tools read bad ready.answered d none bare idle end h.1)
@@ -126,7 +126,7 @@ ready-refusal listed keeps given local_listed keeps_local local_given content st
   [],
   tells-none listed keeps given content stamps tree,
   gives-none local_listed keeps_local local_given content stamps tree_local,
-  λ root read left d end. ready-refused _ stamps tools read fault ready refl refl refl (rw e at d) (rw e at end) h,
+  λ root read left d end. ready-refused _ stamps tools read fault ready refl refl (record { unread = refl; source_is = refl; bench_is = refl }) (rw e at d) (rw e at end) h,
 )
 
 enters-answered : (limit : ℕ) (old : List Entry) (before now session : ℕ) (answered : Option Answered) (answer : Reply) → (answer ≡ reply.JournalFull → ⊥) → IfSome answered (IsPlain answer) → EntersAs limit old old before now session answered

@@ -10,11 +10,11 @@ use Rattle.rx_local.specs.Stage.{AreStaged}
 use Rattle.rx_scan.specs.declared.gather_fault.GatherFault.{GatherFault}
 use Rattle.rx_scan.specs.declared.gather_fault.GatherFault.TheVariants as fault
 use Rattle.rx_scan.specs.declared.gathering.Gathered.{Gathered}
-use Rattle.rx_scan.specs.Explored.{HaveDigests}
+use Rattle.rx_reach.specs.Explored.{HaveDigests}
 use Rattle.rx_scan.specs.Gathering.{Asked, BlamesGather, IsGathered, IsOrderly}
 use Rattle.rx_scan.specs.Lists.{IsRightList, Listing, Shows}
-use Rattle.rx_scan.specs.Scenes.{Scene, scene_of}
-use Rattle.rx_scan.specs.Sights.{Notes, sights_of}
+use Rattle.rx_reach.specs.Scenes.{Scene, scene_of}
+use Rattle.rx_reach.specs.Sights.{Notes, sights_of}
 use Rattle.rx_world.specs.declared.attempts.Attempt.TheVariants as attempt
 use Rattle.rx_world.specs.declared.attempts.Cause.{Cause}
 use Rattle.rx_world.specs.declared.attempts.Cause.TheVariants as cause
@@ -66,18 +66,24 @@ abbrev pub asked_of : Request → Asked
 asked_of request = record { command = command_of request; kind = request.kind; inputs = declared_of request; strategy = request.strategy }
 
 -- What the command of a request runs on, as the source tree told it: in each scene that shows its answers and lists, just the inputs.
--- Whatever it told, these can be staged. By the strategy local there is the local attempt alone.
+-- Whatever it told, these can be staged, and by the strategy local there is the local attempt alone.
 pub record HasGathered (s : ScanGrounds) (stamps_honest : Type 0) (request : Request) (gathered : Gathered) : Type 0 where
   pub shown : (scene : Scene) → Shows scene [] s.answers s.lists → IsGathered scene (asked_of request) gathered
   pub viewed : Notes [] (sights_of gathered.view) s.answers
   pub orderly : IsOrderly (asked_of request) gathered
   pub digests : stamps_honest → HaveDigests s.content gathered.files
-  pub plan : request.strategy ≡ strategies.Local → (scene : Scene) → Shows scene [] s.answers s.lists → gathered.plan ≡ plans.LocalOnly
+  pub plan : request.strategy ≡ strategies.Local → gathered.plan ≡ plans.LocalOnly
+
+-- the attempt's source tree answered nothing, and neither its count nor that of the benches changed
+pub record IsIdle (r : RunGrounds) : Type 0 where
+  pub unread : r.answers ≡ []
+  pub source_is : r.source_now ≡ r.source_before
+  pub bench_is : r.bench_now ≡ r.bench_before
 
 -- nothing was run, since this is why nothing was gathered
 pub record IsRefused (s : ScanGrounds) (r : RunGrounds) (request : Request) (receipt : Option Receipt) (ends : List Ended) (why : GatherFault) : Type 0 where
   pub cause : BlamesGather (asked_of request) s.before s.now why s.answers s.lists
-  pub unread : r.answers ≡ []
+  pub idle : IsIdle r
   pub ends_are : ends ≡ []
   pub receipt_is : receipt ≡ None
 

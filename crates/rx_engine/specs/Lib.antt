@@ -1,6 +1,7 @@
 pub mod Answered
 pub mod Answers
 pub mod Fronts
+pub mod Honest
 pub mod Journal
 pub mod Meanings
 pub mod Proxy

@@ -1,18 +1,17 @@
 -- Sessions in which nothing fails, in an honest world, and what they answer.
-use Rattle.std.specs.Prelude.{◌≡◌, ◌≢◌, ◌↔◌, ℕ, true, List, Option, None, Some, Contains, Ok, length, map, pos}
+use Rattle.std.specs.Prelude.{◌≡◌, ◌≢◌, ◌↔◌, ℕ, true, List, Option, None, Some, Contains, length, pos}
 use Rattle.rx_base.specs.Paths.{is_below}
 use Rattle.rx_base.specs.SortedPaths.{AreSorted}
 use Rattle.rx_board.specs.declared.journal.Entry.{Entry}
-use Rattle.rx_local.specs.Local.{first_missing, listed_copy}
+use Rattle.rx_local.specs.Local.{first_missing}
 use Rattle.rx_scan.specs.declared.gathering.Gathered.{Gathered}
 use Rattle.rx_scan.specs.Gathering.{Asked, IsGathered, IsInput, IsKept, IsOrderly, PassesList, PassesScan, command_asked, plan_of}
 use Rattle.rx_scan.specs.Inputs.{first_missing as missing_input}
-use Rattle.rx_scan.specs.Scenes.{Scene, scene_of}
+use Rattle.rx_reach.specs.Scenes.{Scene, scene_of}
 use Rattle.rx_scan.specs.Ways.{blocked}
 use Rattle.rx_session.specs.declared.replies.Reply.{Reply}
 use Rattle.rx_session.specs.declared.replies.Reply.TheVariants as reply
 use Rattle.rx_session.specs.declared.requests.Request.{Request}
-use Rattle.rx_session.specs.Frames.{request_of}
 use Rattle.rx_world.specs.declared.commands.Command.{Command}
 use Rattle.rx_world.specs.declared.looks.Look.TheVariants.{Absent}
 use Rattle.rx_world.specs.declared.outcomes.Outcome.{Outcome}
@@ -22,11 +21,11 @@ use Rattle.rx_world.specs.declared.sources.SourceEntry.{SourceEntry}
 use Rattle.rx_world.specs.declared.trees.Tree.{Tree}
 use Rattle.rx_world.specs.Causes.{Rose}
 use Rattle.rx_world.specs.Sources.{entry_at, is_file}
-use Rattle.rx_world.specs.Trees.{tree_of}
 use Rattle.rx_engine.specs.declared.desk.Parts.{Parts}
 use Rattle.rx_engine.specs.declared.transcripts.Ending.{Ending}
 use Rattle.rx_engine.specs.declared.transcripts.Ending.TheVariants.{NoMemory, Replied, SinkLost, SourceLost}
 use Rattle.rx_engine.specs.Answers.{asked_of}
+use Rattle.rx_engine.specs.Honest.{IsHonest, listed_tree}
 use Rattle.rx_engine.specs.Meanings.{Meanings}
 
 -- the list has a file at the path
@@ -52,28 +51,18 @@ abbrev pub MakesOutputs : (Command → Tree → Outcome) → Command → Tree �
 MakesOutputs tool command tree =
     (tool command tree).exit.code ≡ pos 0 → first_missing command.outputs (tool command tree).files ≡ None
 
--- the tree of what was gathered, with the contents that the list has
-abbrev pub listed_tree : List SourceEntry → Gathered → Tree
-listed_tree entries gathered = tree_of (map (listed_copy entries) gathered.files) gathered.dirs
-
 -- the tool makes each output from whatever is gathered from the list
 abbrev pub MakesFrom : (Command → Tree → Outcome) → List SourceEntry → Asked → Type 0
 MakesFrom tool entries asked =
     (gathered : Gathered) → IsGathered (scene_of entries) asked gathered → IsOrderly asked gathered → MakesOutputs tool gathered.command (listed_tree entries gathered)
 
--- The world is honest, the input tells a valid request, both source trees keep one list, from which what is asked for can be gathered,
--- the clean outcome of its command is proper, and no count rises.
+-- The session is honest, stamps are too, what is asked for can be gathered from the list, the clean outcome of its command is proper, and
+-- no count rises.
 pub record IsQuiet {I O T L B : Type 0} (m : Meanings I O T L B) (keeps : T → Type 0) (keeps_local : L → Type 0) (stamps_honest tools_honest : Type 0)
     (root : List ℕ) (before after : Parts I O T L B) (bytes : List ℕ) (asked : Request) : Type 0 where
-  pub stamps : stamps_honest
-  pub tools : tools_honest
-  pub told : m.left before.input ≡ Some bytes
-  pub valid : request_of root bytes ≡ Ok asked
   pub entries : List SourceEntry
-  pub listed : m.listed before.tree ≡ Some entries
-  pub kept : keeps before.tree
-  pub local_listed : m.local_listed before.tree_local ≡ Some entries
-  pub local_kept : keeps_local before.tree_local
+  pub honest : IsHonest m keeps keeps_local tools_honest root before bytes asked entries
+  pub stamps : stamps_honest
   pub apart : AreApart entries
   pub gathers : CanGather (scene_of entries) (asked_of asked)
   pub proper : MakesFrom m.tool entries (asked_of asked)

@@ -17,7 +17,7 @@ use Rattle.rx_engine.specs.declared.desk.Parts.{Parts}
 use Rattle.rx_engine.specs.declared.transcripts.Ending.{Ending}
 use Rattle.rx_engine.specs.declared.transcripts.Ending.TheVariants.{NoMemory, Replied, SinkLost, SourceLost}
 use Rattle.rx_engine.specs.declared.transcripts.Transcript.{Transcript}
-use Rattle.rx_engine.specs.Answers.{Answers, RunGrounds, ScanGrounds, Tells}
+use Rattle.rx_engine.specs.Answers.{Answers, IsIdle, RunGrounds, ScanGrounds, Tells}
 use Rattle.rx_world.specs.Answers.{Gives}
 use Rattle.rx_engine.specs.Meanings.{Meanings}
 
@@ -65,7 +65,7 @@ RepliesTo g stamps tools read request receipt ends answer =
 -- Each reply, and what it says of the bytes that were read.
 abbrev pub Replies : Grounds → Type 0 → Type 0 → List ℕ → Option Request → Option Receipt → List Ended → Reply → Type 0
 Replies g stamps tools read request receipt ends (reply.BadRequest bad) =
-    (request_of g.root read ≡ Err bad) × (request ≡ None) × (g.scan.answers ≡ []) × (g.scan.lists ≡ []) × (g.run.answers ≡ [])
+    (request_of g.root read ≡ Err bad) × (request ≡ None) × (g.scan.answers ≡ []) × (g.scan.lists ≡ []) × IsIdle g.run
     × (ends ≡ []) × (receipt ≡ None) × (bad.reason ≡ CutShort → IsAtEnd g.left)
 Replies g stamps tools read request receipt ends reply.NoMemory =
     IfSome request (λ asked. request_of g.root read ≡ Ok asked) × (receipt ≡ None)
@@ -99,6 +99,7 @@ IsCourse g stamps tools t SinkLost =
     × Replies g stamps tools t.read t.request t.receipt t.ends answer
 IsCourse g stamps tools t SourceLost =
     (t.reply ≡ None) × (t.request ≡ None) × (t.written ≡ []) × (t.ends ≡ []) × (t.receipt ≡ None)
+    × (g.scan.answers ≡ []) × (g.scan.lists ≡ []) × IsIdle g.run
 IsCourse g stamps tools t NoMemory =
     (t.reply ≡ None) × (t.written ≡ []) × (t.ends ≡ []) × (t.receipt ≡ None) × IfSome t.request (λ asked. request_of g.root t.read ≡ Ok asked)
 

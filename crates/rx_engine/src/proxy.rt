@@ -190,7 +190,8 @@ pub fn run_proxy<W: World, F: Front<W>, P: Place>(
     // Nothing is done where the words aren't known.
     ensures usage { result.status ≡ 2 ↔ (root_in words.now ≡ None) }
     ensures unused { root_in words.now ≡ None → (result.front ≡ front) × (result.place ≡ place) × (result.transcripts.items ≡ []) }
-    // Each desk that left the front has its transcript, with its own part and its part of the journal.
+    // Each desk that left the front has its transcript, with its own part and its part of the journal. In an honest world a Done is the
+    // clean run of the request that its input tells, on its inputs as the source trees list them.
     // Where nothing fails in an honest world, the request that its input tells is done, unless memory runs out.
     ensures sessions { IfSome (root_in words.now) (λ root. RunsDone (F.coming front) (F.coming result.front)
         (meanings W.World F.D.I.Source F.D.O.Sink F.D.T.Sources F.D.L.Sources F.D.B.BenchMaker)

@@ -7,9 +7,11 @@ ghost use Rattle.rx_session.specs.declared.bad.SessionFault.TheVariants.{ReadFau
 ghost use Rattle.std.specs.Io.KnownBytes.{Appends};
 ghost use Rattle.rx_scan.specs.Lists.{Listing};
 ghost use Rattle.rx_world.specs.declared.sources.Given.{Given};
+ghost use Rattle.rx_world.specs.declared.sources.SourceEntry.{SourceEntry};
 ghost use Rattle.rx_world.specs.Causes.{Rose};
 ghost use Rattle.rx_engine.specs.Answered.{IsPlain, reply_no_memory};
-ghost use Rattle.rx_engine.specs.Answers.{Tells};
+ghost use Rattle.rx_engine.specs.Answers.{Tells, asked_of};
+ghost use Rattle.rx_engine.specs.Honest.{IsCleanIfDone, IsHonest};
 ghost use Rattle.rx_world.specs.Answers.{Gives};
 ghost use Rattle.rx_engine.specs.Journal.{IsBoardAfter, IsJournalled};
 ghost use Rattle.rx_session.specs.declared.requests.Request.{Request};
@@ -247,6 +249,12 @@ pub fn serve_session<W: World, D: Desk<W>, P: Place>(
     ensures number { result.0.number ≡ number }
     // The journal's part: at most one entry, of this session's files.
     ensures journal { IsJournalled shared.old.board.limit shared.old.board.journal shared.new.board.journal (P.faults shared.old.board.place) (P.faults shared.new.board.place) result.0 }
+    // In an honest world a Done is the clean run of the request that the input tells, on its inputs as the source trees list them: so
+    // are its texts, the end that is kept and the entry.
+    ensures clean { (bytes : List ℕ) (asked : Request) (entries : List SourceEntry) →
+        IsHonest (meanings W.World D.I.Source D.O.Sink D.T.Sources D.L.Sources D.B.BenchMaker)
+        D.T.keeps D.L.keeps W.tools_honest shared.old.root (D.parts desk) bytes asked entries →
+        IsCleanIfDone W.tool entries (asked_of asked) shared.old.board.journal shared.new.board.journal result.0 }
     // Where nothing fails in an honest world, the request that the input tells is done, unless memory runs out.
     ensures complete { (bytes : List ℕ) (asked : Request) →
         IsQuiet (meanings W.World D.I.Source D.O.Sink D.T.Sources D.L.Sources D.B.BenchMaker)

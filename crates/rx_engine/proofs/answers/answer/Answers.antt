@@ -37,7 +37,7 @@ returns-clause-answers g c =
       [],
       record { gives = f.gives; by_list = f.by_list },
       gives-none _ _ _ _ _ _,
-      err-answers _ _ _ _ _ c.args.request.now c.in-Err.fault c.refuse_gathering.result asked f.cause refl c.refuse_gathering.ensures,
+      err-answers _ _ _ _ _ c.args.request.now c.in-Err.fault c.refuse_gathering.result asked f.cause (record { unread = refl; source_is = refl; bench_is = refl }) c.refuse_gathering.ensures,
     )
 
 pub returns-clause-journal : goal.returns-clause-journal

@@ -15,6 +15,7 @@ loop-served-preserved g c =
         number_is = session.number;
         journal = rw c.loop-served.invariant.limit at session.journal;
         later = session.board.later;
+        clean = rw c.loop-served.invariant.root at session.clean;
       });
       served_is = omega (arith, c.loop-served.invariant.served_is, length-append c.loop-served.transcripts.items (c.serve_session-transcript.result.0 ∷ []));
       later = search rules;

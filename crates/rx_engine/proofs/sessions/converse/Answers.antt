@@ -7,7 +7,7 @@ use Rattle.rx_engine.proofs.sessions.converse.Goals as goal
 pub returns-in-None-clause-session : goal.returns-in-None-clause-session
 returns-in-None-clause-session g c =
     let asked : c.read_request-asked.result ≡ Err faults.ReadFault = c.in-None.ensures.lost.0 refl in
-    session-lost _ _ _ _ _ _ _ _ _ _ _ (rw c.from_vec.ensures c.read_request-asked.ensures.read) (appends-none _) c.in-None.ensures.same.0 c.in-None.ensures.same.1 c.lost.ensures
+    session-lost _ _ _ _ _ _ _ _ _ _ _ (rw c.from_vec.ensures c.read_request-asked.ensures.read) (appends-none _) c.in-None.ensures.same.0 c.in-None.ensures.same.1 c.in-None.ensures.same.2 c.lost.ensures
     (c.read_request-asked.ensures.failed (rw asked refl))
     (record { input = c.read_request-asked.ensures.later; output = omega arith; tree = c.in-None.ensures.tree; tree_local = c.in-None.ensures.tree_local; benches = c.in-None.ensures.benches })
 
