@@ -44,3 +44,13 @@ pub record IsFresh (honest : Type 0) (tree : Option Tree) (runs : Option (List B
   pub empty : IfSome tree (λ held. held ≡ empty_tree)
   pub tells : honest → tree ≡ Some empty_tree
   pub no_runs : IfSome runs (λ before. (before ≡ []) × (tree ≡ Some empty_tree))
+
+-- the list has these and then this one
+pub record IsMore {B : Type 0} (old : Option (List B)) (all : List B) (bench : B) : Type 0 where
+  pub before : List B
+  pub told : old ≡ Some before
+  pub is : all ≡ before ++ bench ∷ []
+
+-- The bench is added to those that came back. A maker that can't keep it tells none from then on.
+abbrev pub Returns : {B : Type 0} → Option (List B) → Option (List B) → B → Type 0
+Returns old new bench = IfSome new (λ all. IsMore old all bench)

@@ -1,7 +1,9 @@
 pub mod Answers
 pub mod Benches
 pub mod Causes
+pub mod Decisions
 pub mod Files
+pub mod Links
 pub mod Outcomes
 pub mod Places
 pub mod Sources

@@ -1,5 +1,5 @@
 -- What a source tree tells.
-use Rattle.std.specs.Prelude.{◌≡◌, ℕ, ◌+◌, ◌||◌, Bool, true, false, List, [], ◌∷◌, ◌++◌, Option, None, Some, IfSome, IsSome, filter, map, take, if◌then◌else◌}
+use Rattle.std.specs.Prelude.{◌≡◌, ℕ, ◌+◌, ◌||◌, Bool, true, false, List, [], ◌∷◌, ◌++◌, Option, None, Some, All, IfSome, IsSome, filter, map, take, if◌then◌else◌}
 use Rattle.std.specs.Str.{bytes_eq}
 use Rattle.rx_base.specs.Paths.{is_below}
 use Rattle.rx_base.specs.Told.{Told}
@@ -55,6 +55,10 @@ GivesContent content path (File stamp executable) bytes = bytes ≡ content path
 GivesContent content path Absent bytes = Unit {0}
 GivesContent content path Dir bytes = Unit {0}
 GivesContent content path Other bytes = Unit {0}
+
+-- each file of the list holds what the world has under its stamp
+abbrev pub HoldContent : (List ℕ → Stamp → List ℕ) → List SourceEntry → Type 0
+HoldContent content entries = All (λ entry. GivesContent content entry.path entry.look entry.bytes) entries
 
 abbrev pub is_file : Look → Bool
 is_file (File stamp executable) = true

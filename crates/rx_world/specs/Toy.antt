@@ -1,7 +1,8 @@
 -- A tool that is computed: it copies what it sees of its tree into each output.
-use Rattle.std.specs.Prelude.{◌≡◌, ℕ, ◌%◌, ◌^◌, List, [], ◌∷◌, ◌++◌, Option, None, Some, codes, decimal, false, if◌then◌else◌, length, map, nat_eq, pos, sum}
+use Rattle.std.specs.Prelude.{◌≡◌, ℕ, ◌%◌, ◌^◌, List, [], ◌∷◌, ◌++◌, Option, None, Some, ◌*◌, ◌+◌, ◌-◌, codes, decimal, drop, false, if◌then◌else◌, length, map, nat_eq, nat_lt, pos, sum, take}
 use Rattle.std.specs.List.{flat_map, starts_with}
 use Rattle.std.proofs.Common.{ap}
+use Rattle.rx_base.specs.declared.digests.Digest.{Digest}
 use Rattle.rx_world.specs.declared.commands.Command.{Command}
 use Rattle.rx_world.specs.declared.outcomes.Exit.{Exit}
 use Rattle.rx_world.specs.declared.outcomes.FileOut.{FileOut}
@@ -47,3 +48,24 @@ toy_tool command tree = toy_outcome (first_error tree.files) command.outputs tre
 pub toy_tool-with_parents : (command : Command) (tree : Tree) → toy_tool command (with_parents command.outputs tree) ≡ toy_tool command tree
 toy_tool-with_parents command tree =
     ap (λ files. toy_outcome (first_error files) command.outputs files) (files-tree_with_directories (parents_of command.outputs) tree)
+
+-- ---- the names of operations
+
+-- the value of a lower-case hexadecimal digit
+abbrev pub digit_value : ℕ → ℕ
+digit_value digit = if nat_lt digit 97 then digit - 48 else digit - 87
+
+-- the bytes that pairs of hexadecimal digits stand for
+abbrev pub bytes_in : List ℕ → List ℕ
+bytes_in [] = []
+bytes_in (digit ∷ []) = []
+bytes_in (high ∷ low ∷ digits) = (digit_value high * 16 + digit_value low) ∷ bytes_in digits
+
+-- the number that decimal digits behind these stand for
+abbrev pub number_in : ℕ → List ℕ → ℕ
+number_in number [] = number
+number_in number (digit ∷ digits) = number_in (number * 10 + (digit - 48)) digits
+
+-- The digest in a name `HASH/SIZE`: 64 hexadecimal digits, a slash, and a decimal number.
+abbrev pub toy_operation : List ℕ → Digest
+toy_operation name = record { hash = bytes_in (take 64 name); size = number_in 0 (drop 65 name) }

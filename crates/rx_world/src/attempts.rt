@@ -2,8 +2,8 @@
 
 ghost use Rattle.std.specs.Prelude.{◌≡◌, IfOk};
 
-use crate::{KeptOutcome, Outcome, Seen};
-use rx_base::{Items, NoMemory, RelPath, TryClone};
+use crate::{ChangedInput, Decision, KeptOutcome, OutputLimit, RemoteCause};
+use rx_base::{NoMemory, RelPath, TryClone};
 use std::alloc::Global;
 
 /// Where an attempt runs.
@@ -49,51 +49,47 @@ pub enum BenchStep {
     Take,
 }
 
-/// Why an attempt has no outcome.
+/// Why a local attempt has no outcome.
 #[derive(Debug, Drop)]
 pub enum Cause {
     /// The bench failed at this step, and the bench maker's count of faults rose.
-    BenchFault {
-        step: BenchStep,
-    },
+    BenchFault { step: BenchStep },
     /// The command ended with code 0 and left no regular file at this output, the least such.
-    OutputMissing {
-        path: RelPath,
-    },
-    /// Two values of one input that differ: what was gathered, and what the attempt read.
-    InputChanged {
-        path: RelPath,
-        first: Seen,
-        second: Seen,
-    },
+    OutputMissing { path: RelPath },
+    /// What was gathered of an input, and what the attempt read, differ.
+    InputChanged(ChangedInput),
+    /// What the command wrote has `n` bytes, more than this limit allows.
+    OutputTooLarge { limit: OutputLimit, n: u64 },
     /// The attempt's source tree failed at this path, and its count of faults rose.
-    SourceFault {
-        path: RelPath,
-    },
+    SourceFault { path: RelPath },
+    /// The race of the request's attempts was seen decided.
+    Stopped { decision: Decision },
     /// Memory ran out.
     NoMemory,
 }
 
 /// How an attempt ended. The outcome is whole while the attempt's thread has it, and kept by
-/// digests in a transcript.
+/// digests in a transcript; the causes are those of a local or of a remote attempt.
 #[derive(Debug, Drop)]
-pub enum End<O> {
+pub enum End<O, C> {
     Done { outcome: O, origin: Origin },
-    Failed { cause: Cause },
+    Failed { cause: C },
 }
 
 /// The end of one attempt, as a transcript keeps it.
 #[derive(Debug, Drop)]
-pub struct Ended {
-    pub attempt: Attempt,
-    pub end: End<KeptOutcome>,
+pub enum Ended {
+    Local { end: End<KeptOutcome, Cause> },
+    Remote { end: End<KeptOutcome, RemoteCause> },
 }
 
-/// An attempt that has no outcome, as a reply tells it.
+/// An attempt that has no outcome which may be published, as a reply tells it.
 #[derive(Debug, Drop)]
-pub struct Failure {
-    pub attempt: Attempt,
-    pub cause: Cause,
+pub enum Failure {
+    Local { cause: Cause },
+    Remote { cause: RemoteCause },
+    /// The command ended on the farm with this code, which isn't 0, and a local attempt was planned.
+    NonZero { exit: i32 },
 }
 
 impl TryClone for Cause {
@@ -103,17 +99,16 @@ impl TryClone for Cause {
             Cause::OutputMissing { path } => Ok(Cause::OutputMissing {
                 path: path.try_clone(alloc)?,
             }),
-            Cause::InputChanged {
-                path,
-                first,
-                second,
-            } => Ok(Cause::InputChanged {
-                path: path.try_clone(alloc)?,
-                first: *first,
-                second: *second,
+            Cause::InputChanged(input) => Ok(Cause::InputChanged(input.try_clone(alloc)?)),
+            Cause::OutputTooLarge { limit, n } => Ok(Cause::OutputTooLarge {
+                limit: *limit,
+                n: *n,
             }),
             Cause::SourceFault { path } => Ok(Cause::SourceFault {
                 path: path.try_clone(alloc)?,
+            }),
+            Cause::Stopped { decision } => Ok(Cause::Stopped {
+                decision: *decision,
             }),
             Cause::NoMemory => Ok(Cause::NoMemory),
         }

@@ -4,7 +4,7 @@ ghost use Rattle.std.specs.Prelude.{◌≡◌, ◌<◌, ◌≤◌, ℕ, List, Op
 ghost use Rattle.rx_world.specs.declared.benches.BenchRun.{BenchRun};
 ghost use Rattle.rx_world.specs.declared.failures.Refused.TheVariants.{Failed as failed};
 ghost use Rattle.rx_world.specs.declared.trees.Tree.{Tree};
-ghost use Rattle.rx_world.specs.Benches.{IsFresh, Makes, Puts, Runs, RunsTool, Takes};
+ghost use Rattle.rx_world.specs.Benches.{IsFresh, Makes, Puts, Returns, Runs, RunsTool, Takes};
 ghost use Rattle.rx_world.specs.Causes.{HasCause, HasCauseOf, Rose};
 
 use crate::{Command, Exit, Failed, FileOut, Refused, Tree, World};
@@ -23,7 +23,7 @@ pub trait Bench<W: World> {
     /// The tree that it holds, where told.
     ghost tree: { Self → Option Tree };
 
-    /// Its runs in order, where told.
+    /// Its runs that ended, in order, where told.
     ghost runs: { Self → Option (List BenchRun) };
 
     /// How often a call failed.
@@ -37,14 +37,18 @@ pub trait Bench<W: World> {
 
     /// Puts a file there, and makes the directories above it that are missing.
     fn put(&mut self, path: &RelPath, bytes: &[u8], executable: bool) -> Result<(), Failed>
-        ensures put { OnOk result (Puts (tree self.old) (tree self.new) path.now bytes.now executable) }
+        ensures put { OnOk result
+            (Puts (tree self.old) (tree self.new) path.now bytes.now executable) }
         ensures runs { runs self.new ≡ runs self.old }
         ensures cause { HasCause (faults self.old) (faults self.new) result };
 
-    /// Runs the command in the tree, and answers how it ended.
+    /// Runs the command in the tree once, and answers how it ended.
     fn run(&mut self, command: &Command) -> Result<Exit, Refused>
-        ensures runs { IfOk result (λ exit. Runs (tree self.old) (runs self.old) (runs self.new) command.now exit) }
-        ensures honest { IfOk result (λ exit. W.tools_honest → RunsTool W.tool command.now (tree self.old) (tree self.new) exit) }
+        ensures failed { OnErr result (runs self.new ≡ runs self.old) }
+        ensures runs { IfOk result
+            (Runs (tree self.old) (runs self.old) (runs self.new) command.now) }
+        ensures honest { IfOk result (λ exit. W.tools_honest →
+            RunsTool W.tool command.now (tree self.old) (tree self.new) exit) }
         ensures cause { HasCauseOf failed (faults self.old) (faults self.new) result };
 
     /// The file at a path, where a regular file is there.
@@ -63,17 +67,19 @@ pub trait BenchMaker<W: World> {
     /// How often a call failed, here and on the benches that came back.
     ghost faults: { Self → ℕ };
 
-    /// The last bench that came back, where told.
-    ghost last: { Self → Option Self.B };
+    /// The benches that came back, in order, where told.
+    ghost returned: { Self → Option (List Self.B) };
 
     /// A new bench, whose tree is empty.
     fn make(&mut self) -> Result<Self::B, Failed>
-        ensures fresh { IfOk result (λ bench. IsFresh W.tools_honest (Self.B.tree bench) (Self.B.runs bench) (Self.B.faults bench)) }
+        ensures fresh { IfOk result (λ bench.
+            IsFresh W.tools_honest (Self.B.tree bench) (Self.B.runs bench) (Self.B.faults bench)) }
+        ensures returned { returned self.new ≡ returned self.old }
         ensures cause { HasCause (faults self.old) (faults self.new) result };
 
     /// Takes a bench back, whatever happened on it. Where it failed, the count of the maker rises.
     fn done(&mut self, bench: Self::B)
         ensures later { faults self.old ≤ faults self.new }
         ensures raised { 0 < Self.B.faults bench → Rose (faults self.old) (faults self.new) }
-        ensures last { IfSome (last self.new) (λ b. b ≡ bench) };
+        ensures returned { Returns (returned self.old) (returned self.new) bench };
 }

@@ -54,3 +54,16 @@ pub struct Command {
     /// How long it may run remotely, in seconds; 0 says nothing.
     pub timeout_seconds: u32,
 }
+
+impl TryClone for Command {
+    fn try_clone(&self, alloc: Global) -> Result<Command, NoMemory> {
+        Ok(Command {
+            words: self.words.try_clone(alloc)?,
+            environment: self.environment.try_clone(alloc)?,
+            working_directory: self.working_directory.try_clone(alloc)?,
+            outputs: self.outputs.try_clone(alloc)?,
+            platform: self.platform.try_clone(alloc)?,
+            timeout_seconds: self.timeout_seconds,
+        })
+    }
+}

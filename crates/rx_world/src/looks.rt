@@ -1,8 +1,9 @@
 //! What a source tree tells of a path.
 
-ghost use Rattle.std.specs.Prelude.{◌≡◌, None};
+ghost use Rattle.std.specs.Prelude.{◌≡◌, IfOk, None};
 
-use rx_base::Digest;
+use rx_base::{Digest, NoMemory, RelPath, TryClone};
+use std::alloc::Global;
 
 /// What tells one state of a file from another: its size in bytes and a mark of 128 bits. The mark
 /// may be a time, a number of the file system or a hash; the proxy only compares it.
@@ -39,5 +40,23 @@ impl From<Look> for Seen {
 
     fn from(look: Look) -> Seen {
         Seen { look, digest: None }
+    }
+}
+
+/// An input of which two different values were seen, the first one first.
+#[derive(Debug, Drop)]
+pub struct ChangedInput {
+    pub path: RelPath,
+    pub first: Seen,
+    pub second: Seen,
+}
+
+impl TryClone for ChangedInput {
+    fn try_clone(&self, alloc: Global) -> Result<ChangedInput, NoMemory> {
+        Ok(ChangedInput {
+            path: self.path.try_clone(alloc)?,
+            first: self.first,
+            second: self.second,
+        })
     }
 }

@@ -22,6 +22,26 @@ pub struct FileOut {
     pub executable: bool,
 }
 
+impl TryClone for Exit {
+    fn try_clone(&self, alloc: Global) -> Result<Exit, NoMemory> {
+        Ok(Exit {
+            code: self.code,
+            stdout: self.stdout.try_clone(alloc)?,
+            stderr: self.stderr.try_clone(alloc)?,
+        })
+    }
+}
+
+impl TryClone for FileOut {
+    fn try_clone(&self, alloc: Global) -> Result<FileOut, NoMemory> {
+        Ok(FileOut {
+            path: self.path.try_clone(alloc)?,
+            bytes: self.bytes.try_clone(alloc)?,
+            executable: self.executable,
+        })
+    }
+}
+
 /// How a command ended, and the files that it wrote at its outputs.
 #[derive(Debug, Drop)]
 pub struct Outcome {

@@ -21,7 +21,8 @@ pub trait Place {
 
     /// Puts a file there, in place of the one at its path, whole or not at all.
     fn place(&mut self, path: &RelPath, bytes: &[u8], executable: bool) -> Result<(), Failed>
-        ensures placed { OnOk result (Places (contents self.old) (contents self.new) path.now bytes.now executable) }
+        ensures placed { OnOk result
+            (Places (contents self.old) (contents self.new) path.now bytes.now executable) }
         ensures kept { OnErr result (contents self.new ≡ contents self.old) }
         ensures opening { opening self.new ≡ opening self.old }
         ensures cause { HasCause (faults self.old) (faults self.new) result };

@@ -1,4 +1,5 @@
-//! Why the files of a command are refused, in the words that the scan and the replies share.
+//! Why the files of a command are refused, in the words that the scan, the attempts and the replies
+//! share.
 
 use rx_base::{RelPath, Text};
 
@@ -16,6 +17,17 @@ pub enum Limit {
     ListFiles,
     /// The files of a whole list together have at most 1,073,741,824 bytes.
     ListBytes,
+}
+
+/// A limit on what a command wrote.
+#[derive(Clone, Copy, Debug, PartialEq, Eq)]
+pub enum OutputLimit {
+    /// A file at an output has at most 67,108,864 bytes.
+    FileBytes,
+    /// The files at all outputs together have at most 268,435,456 bytes.
+    FilesBytes,
+    /// Standard output and standard error have at most 16,777,216 bytes each.
+    TextBytes,
 }
 
 /// What keeps a compile command on this machine.

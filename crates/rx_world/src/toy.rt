@@ -2,8 +2,9 @@
 
 ghost use Rattle.std.specs.Prelude.{◌≡◌, ◌%◌, ◌^◌, ◌++◌, [], List, ℕ, IfOk, OnOk, codes, decimal, false, map, option_map, sum};
 ghost use Rattle.std.specs.List.{flat_map};
+ghost use Rattle.rx_base.specs.declared.digests.Digest.{Digest};
 ghost use Rattle.rx_world.specs.declared.looks.Stamp.{Stamp};
-ghost use Rattle.rx_world.specs.Toy.{first_error, toy_failure, toy_file, toy_line, toy_success, toy_tool, toy_tool-with_parents};
+ghost use Rattle.rx_world.specs.Toy.{first_error, toy_failure, toy_operation, toy_file, toy_line, toy_success, toy_tool, toy_tool-with_parents};
 
 use crate::{Command, Exit, FileOut, Outcome, Tree, World};
 use itoa::Buffer;
@@ -16,6 +17,9 @@ pub trait Contents {
     /// The bytes of a file at a path under a stamp.
     ghost holds: { List ℕ → Stamp → List ℕ };
 
+    /// The bytes of a blob by its digest.
+    ghost blob: { Digest → List ℕ };
+
     /// Each read under a stamp gives `holds`.
     ghost honest: { Type 0 };
 }
@@ -24,10 +28,13 @@ pub trait Contents {
 impl Contents for Brand {
     ghost holds = { λ path stamp. [] };
 
+    ghost blob = { λ digest. [] };
+
     ghost honest = { ⊥ };
 }
 
-/// A world whose tool is computed, over contents that a caller picks.
+/// A world whose tool is computed, over contents that a caller picks. A farm of it names an operation
+/// by the digest of its action, as `HASH/SIZE`.
 pub struct Toy<K> {
     pub contents: PhantomData<K>,
 }
@@ -35,7 +42,9 @@ pub struct Toy<K> {
 impl<K: Contents> World for Toy<K> {
     ghost content = { K.holds };
 
-    ghost blob = { λ digest. [] };
+    ghost blob = { K.blob };
+
+    ghost operation = { toy_operation };
 
     ghost tool = { toy_tool };
 
@@ -107,7 +116,11 @@ fn succeed(alloc: Global, outputs: &[RelPath], files: &[FileOut]) -> Result<Outc
 }
 
 fn output_at(alloc: Global, path: &RelPath, lines: &[u8]) -> Result<FileOut, NoMemory>
-    ensures { IfOk result (λ file. file ≡ record { path = path.now; bytes = path.now ++ codes "\n" ++ lines.now; executable = false }) }
+    ensures { IfOk result (λ file. file ≡ record {
+      path = path.now;
+      bytes = path.now ++ codes "\n" ++ lines.now;
+      executable = false;
+    }) }
 {
     let mut bytes = Vec::from_slice(alloc, path.as_str().as_bytes())?;
     bytes.push(b'\n')?;

@@ -16,6 +16,9 @@ pub trait World {
     /// The bytes that have a digest.
     ghost blob: { Digest → List ℕ };
 
+    /// The action that the farm's operation of a name runs.
+    ghost operation: { List ℕ → Digest };
+
     /// What a command makes of the tree that it runs in.
     ghost tool: { Command → Tree → Outcome };
 
