@@ -4,7 +4,7 @@ use Rattle.std.specs.Prelude.{Option, None, Some, IfSome, option_to_list, if◌t
 use Rattle.std.specs.Str.{bytes_eq}
 use Rattle.std.proofs.lemmas.Slice.Eq.{bytes_eq-Decides}
 use Rattle.rx_world.specs.declared.attempts.Cause.{Cause}
-use Rattle.rx_world.specs.declared.attempts.Cause.TheVariants.{BenchFault, InputChanged, NoMemory, OutputMissing, SourceFault}
+use Rattle.rx_world.specs.declared.attempts.Cause.TheVariants.{BenchFault, InputChanged, NoMemory, OutputMissing, OutputTooLarge, SourceFault, Stopped}
 use Rattle.rx_world.specs.declared.commands.Command.{Command}
 use Rattle.rx_world.specs.declared.outcomes.Exit.{Exit}
 use Rattle.rx_world.specs.declared.outcomes.FileOut.{FileOut}
@@ -67,6 +67,8 @@ lacks-run tool command (Some tree) (Some held) exit path run zero h = record {
 pub missing-run : (tool : Command → Tree → Outcome) (command : Command) (old new : Option Tree) (exit : Exit) (honest : Type 0) (cause : Cause) → (honest → RunsTool tool command old new exit) → exit.code ≡ pos 0 → IfMissing cause (λ path. IfSome new (λ tree. first_missing command.outputs tree.files ≡ Some path)) → IfMissing cause (λ path. honest → IfSome old (λ tree. LacksOutput tool command tree path))
 missing-run tool command old new exit honest (BenchFault step) run zero h = tt
 missing-run tool command old new exit honest (OutputMissing path) run zero h = λ so. lacks-run tool command old new exit path (run so) zero h
-missing-run tool command old new exit honest (InputChanged path first second) run zero h = tt
+missing-run tool command old new exit honest (InputChanged input) run zero h = tt
+missing-run tool command old new exit honest (OutputTooLarge limit n) run zero h = tt
+missing-run tool command old new exit honest (Stopped decision) run zero h = tt
 missing-run tool command old new exit honest (SourceFault path) run zero h = tt
 missing-run tool command old new exit honest NoMemory run zero h = tt

@@ -1,3 +1,4 @@
-mod Lacking
+mod Ends
 mod HonestRuns
+mod Lacking
 pub mod Staging

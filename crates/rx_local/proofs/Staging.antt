@@ -6,22 +6,25 @@ use Rattle.std.proofs.lemmas.List.Elements.{All-contains, All-head, All-tail, Co
 use Rattle.std.proofs.Math.Seq.{drop-cons}
 use Rattle.rx_base.specs.Digests.{digest_of}
 use Rattle.rx_world.specs.declared.attempts.Cause.{Cause}
-use Rattle.rx_world.specs.declared.attempts.Cause.TheVariants.{BenchFault, InputChanged, NoMemory, OutputMissing, SourceFault}
+use Rattle.rx_world.specs.declared.attempts.Cause.TheVariants.{BenchFault, InputChanged, NoMemory, OutputMissing, OutputTooLarge, SourceFault, Stopped}
 use Rattle.rx_world.specs.declared.input_files.InputFile.{InputFile}
 use Rattle.rx_world.specs.declared.looks.Look.{Look}
+use Rattle.rx_world.specs.declared.looks.ChangedInput.{ChangedInput}
 use Rattle.rx_world.specs.declared.looks.Seen.{Seen}
 use Rattle.rx_world.specs.declared.looks.Stamp.{Stamp}
 use Rattle.rx_world.specs.declared.outcomes.FileOut.{FileOut}
 use Rattle.rx_world.specs.declared.sources.Given.{Given}
 use Rattle.rx_world.specs.declared.sources.SourceEntry.{SourceEntry}
+use Rattle.rx_world.specs.declared.sources.Sources as sources
 use Rattle.rx_world.specs.declared.trees.Tree.{Tree}
-use Rattle.rx_world.specs.Answers.{Gives, HasContent, IsAnswerOf}
+use Rattle.rx_world.specs.declared.world.World as world
+use Rattle.rx_world.specs.Answers.{HasContent, IsAnswerOf}
 use Rattle.rx_world.specs.Sources.{entry_at, given_bytes}
 use Rattle.rx_world.specs.Trees.{tree_with_files}
 use Rattle.rx_world.proofs.AnswerLemmas.{gives-join, gives-none}
-use Rattle.rx_local.specs.Local.{IsAsListed, listed_copy, world_copy}
-use Rattle.rx_local.specs.Reads.{Differ, IsNextRead, IsReadCause, look_of}
-use Rattle.rx_local.specs.Stage.{AreStaged, HasStaged, IsChangedInput, IsFront, IsRefusedInput, IsStageCause, PutsAll}
+use Rattle.rx_world.specs.Inputs.{IsAsListed, listed_copy, look_of, world_copy}
+use Rattle.rx_local.specs.Reads.{Differ, IsNextRead, IsReadCause}
+use Rattle.rx_local.specs.Stage.{AreStaged, HasFailedStaging, HasStaged, IsChangedInput, IsFront, IsRefusedInput, IsStageCause, PutsAll}
 
 -- ---- one file
 
@@ -39,11 +42,13 @@ no-front : (file : InputFile) (answers last : List Given) → answers ≡ last �
 no-front file answers last e = record { front = []; read = []; staged = []; files_are = refl; answers_are = e; each = tt }
 
 pub read-cause : (file : InputFile) (before now : ℕ) (answers : List Given) (cause : Cause) → IsReadCause file before now answers cause → IsStageCause (file ∷ []) answers cause
-read-cause file before now answers (InputChanged path first second) h =
+read-cause file before now answers (InputChanged input) h =
     record { file = file; rest = []; last = answers; front = no-front file answers answers refl; change = h }
 read-cause file before now answers (SourceFault path) h = record { file = file; rest = []; front = no-front file answers [] h.0; path_is = h.1 }
 read-cause file before now answers (BenchFault step) h = absurd h
 read-cause file before now answers (OutputMissing path) h = absurd h
+read-cause file before now answers (OutputTooLarge limit n) h = absurd h
+read-cause file before now answers (Stopped decision) h = absurd h
 read-cause file before now answers NoMemory h = record { rest = file ∷ []; last = answers; front = no-front file answers answers refl; next = h }
 
 pub refused-one : (file : InputFile) (bytes : List ℕ) → digest_of bytes ≡ file.digest → IsRefusedInput (file ∷ []) (read_of file bytes ∷ [])
@@ -79,22 +84,22 @@ puts-none : (a : Option Tree) → PutsAll a a []
 puts-none None = tt
 puts-none (Some x) = refl
 
-pub has-none : {T : Type 0} (listed : T → Option (List SourceEntry)) (keeps : T → Type 0) (given : T → Option (List Given)) (content : List ℕ → Stamp → List ℕ) (honest : Type 0) (a : T) (t : Option Tree)
-    → HasStaged listed keeps given content honest a a [] (PutsAll t t)
-has-none listed keeps given content honest a t = record {
+pub has-none : {T W : Type 0} (w : world.Ghosts W) (s : sources.Ghosts T W) (a : T) (t : Option Tree)
+    → HasStaged w s a a [] (PutsAll t t)
+has-none w s a t = record {
   answers = [];
   staged = [];
-  gives = gives-none listed keeps given content honest a;
+  gives = gives-none w s a;
   each = tt;
   put = puts-none t;
 }
 
-pub has-append : {T : Type 0} (listed : T → Option (List SourceEntry)) (keeps : T → Type 0) (given : T → Option (List Given)) (content : List ℕ → Stamp → List ℕ) (honest : Type 0) (a b c : T) (xs ys : List InputFile) (t u v : Option Tree)
-    → HasStaged listed keeps given content honest a b xs (PutsAll t u) → HasStaged listed keeps given content honest b c ys (PutsAll u v) → HasStaged listed keeps given content honest a c (xs ++ ys) (PutsAll t v)
-has-append listed keeps given content honest a b c xs ys t u v h k = record {
+pub has-append : {T W : Type 0} (w : world.Ghosts W) (s : sources.Ghosts T W) (a b c : T) (xs ys : List InputFile) (t u v : Option Tree)
+    → HasStaged w s a b xs (PutsAll t u) → HasStaged w s b c ys (PutsAll u v) → HasStaged w s a c (xs ++ ys) (PutsAll t v)
+has-append w s a b c xs ys t u v h k = record {
   answers = h.answers ++ k.answers;
   staged = h.staged ++ k.staged;
-  gives = gives-join listed keeps given content honest a b c h.answers k.answers h.gives k.gives;
+  gives = gives-join w s a b c h.answers k.answers h.gives k.gives;
   each = staged-append xs ys h.answers k.answers h.staged k.staged h.each k.each;
   put = puts-append t u v h.staged k.staged h.put k.put;
 }
@@ -128,7 +133,7 @@ cause-append xs ys zs answers more copies (BenchFault step) h k = (
     digest_is = k.1.digest_is;
   },
 )
-cause-append xs ys zs answers more copies (InputChanged path first second) h k = record {
+cause-append xs ys zs answers more copies (InputChanged input) h k = record {
   file = k.file;
   rest = k.rest ++ zs;
   last = k.last;
@@ -142,6 +147,8 @@ cause-append xs ys zs answers more copies (SourceFault path) h k = record {
   path_is = k.path_is;
 }
 cause-append xs ys zs answers more copies (OutputMissing path) h k = absurd k
+cause-append xs ys zs answers more copies (OutputTooLarge limit n) h k = absurd k
+cause-append xs ys zs answers more copies (Stopped decision) h k = absurd k
 cause-append xs ys zs answers more copies NoMemory h k = record {
   rest = k.rest ++ zs;
   last = k.last;
@@ -154,27 +161,27 @@ split-at : {A : Type 0} (xs : List A) (i : ℕ) (x : A) → i < length xs → x 
 split-at xs i x h e = sym (take-append-drop i xs) ∙ ap (λ s. take i xs ++ s) (drop-cons xs i x h) ∙ ap (λ y. take i xs ++ y ∷ drop (suc i) xs) (sym e)
 
 -- the files up to an index, and the one there
-pub has-more : {T : Type 0} (listed : T → Option (List SourceEntry)) (keeps : T → Type 0) (given : T → Option (List Given)) (content : List ℕ → Stamp → List ℕ) (honest : Type 0) (a b c : T) (files : List InputFile) (i : ℕ) (file : InputFile) (t u v : Option Tree)
+pub has-more : {T W : Type 0} (w : world.Ghosts W) (s : sources.Ghosts T W) (a b c : T) (files : List InputFile) (i : ℕ) (file : InputFile) (t u v : Option Tree)
     → i < length files → file ≡ get_or files i file
-    → HasStaged listed keeps given content honest a b (take i files) (PutsAll t u) → HasStaged listed keeps given content honest b c (file ∷ []) (PutsAll u v)
-    → HasStaged listed keeps given content honest a c (take (i + 1) files) (PutsAll t v)
-has-more listed keeps given content honest a b c files i file t u v within e h k =
+    → HasStaged w s a b (take i files) (PutsAll t u) → HasStaged w s b c (file ∷ []) (PutsAll u v)
+    → HasStaged w s a c (take (i + 1) files) (PutsAll t v)
+has-more w s a b c files i file t u v within e h k =
     let more : take i files ++ file ∷ [] ≡ take (i + 1) files = ap (λ f. take i files ++ f ∷ []) e ∙ sym (take_more files i file within) in
-    subst (λ s. HasStaged listed keeps given content honest a c s (PutsAll t v)) more
-    (has-append listed keeps given content honest a b c (take i files) (file ∷ []) t u v h k)
+    subst (λ fs. HasStaged w s a c fs (PutsAll t v)) more
+    (has-append w s a b c (take i files) (file ∷ []) t u v h k)
 
 -- the file at an index isn't staged, after those before it
-pub failed-at : {T : Type 0} (listed : T → Option (List SourceEntry)) (keeps : T → Type 0) (given : T → Option (List Given)) (content : List ℕ → Stamp → List ℕ) (honest : Type 0) (a b c : T) (files : List InputFile) (i : ℕ) (file : InputFile) (IsPut : List FileOut → Type 0) (cause : Cause)
+pub failed-at : {T W : Type 0} (w : world.Ghosts W) (s : sources.Ghosts T W) (a b c : T) (files : List InputFile) (i : ℕ) (file : InputFile) (IsPut : List FileOut → Type 0) (cause : Cause)
     → i < length files → file ≡ get_or files i file
-    → HasStaged listed keeps given content honest a b (take i files) IsPut
-    → (answers : List Given) × Gives listed keeps given content honest b c answers × IsStageCause (file ∷ []) answers cause
-    → (answers : List Given) × Gives listed keeps given content honest a c answers × IsStageCause files answers cause
-failed-at listed keeps given content honest a b c files i file IsPut cause within e h k = (
-  h.answers ++ k.0,
-  gives-join listed keeps given content honest a b c h.answers k.0 h.gives k.1,
-  subst (λ s. IsStageCause s (h.answers ++ k.0) cause) (sym (split-at files i file within e))
-      (cause-append (take i files) (file ∷ []) (drop (suc i) files) h.answers k.0 h.staged cause h.each k.2),
-)
+    → HasStaged w s a b (take i files) IsPut
+    → HasFailedStaging w s b c (IsStageCause (file ∷ [])) cause
+    → HasFailedStaging w s a c (IsStageCause files) cause
+failed-at w s a b c files i file IsPut cause within e h k = record {
+  answers = h.answers ++ k.answers;
+  gives = gives-join w s a b c h.answers k.answers h.gives k.gives;
+  caused = subst (λ fs. IsStageCause fs (h.answers ++ k.answers) cause) (sym (split-at files i file within e))
+      (cause-append (take i files) (file ∷ []) (drop (suc i) files) h.answers k.answers h.staged cause h.each k.caused);
+}
 
 -- ---- what the staged files are
 
@@ -213,11 +220,11 @@ not-different entries file look bytes first second (inl d) was there = d.0 (was.
 not-different entries file look bytes first second (inr d) was there = d.1 (ap digest_of was.bytes_are ∙ there.digest_is)
 
 -- a file that is as listed doesn't change
-pub not-changed : (entries : List SourceEntry) (files : List InputFile) (answers : List Given) (path : List ℕ) (first second : Seen) → IsChangedInput files answers path first second → All (IsAnswerOf entries) answers → All (IsAsListed entries) files → ⊥
-not-changed entries files answers path first second h all there =
+pub not-changed : (entries : List SourceEntry) (files : List InputFile) (answers : List Given) (input : ChangedInput) → IsChangedInput files answers input → All (IsAnswerOf entries) answers → All (IsAsListed entries) files → ⊥
+not-changed entries files answers input h all there =
     let given : Given = given_bytes h.file.path h.change.look h.change.bytes in
     let whole : answers ≡ h.front.read ++ given ∷ [] = h.front.answers_are ∙ ap (λ s. h.front.read ++ s) h.change.read in
     let among : Contains answers given = subst (λ s. Contains s given) (sym whole) (Contains-append_right h.front.read (given ∷ []) given (0, omega arith, refl)) in
     let one : Contains files h.file = subst (λ s. Contains s h.file) (sym h.front.files_are) (Contains-append_right h.front.front (h.file ∷ h.rest) h.file (0, omega arith, refl)) in
-    not-different entries h.file h.change.look h.change.bytes first second h.change.differ
+    not-different entries h.file h.change.look h.change.bytes input.first input.second h.change.differ
     (All-contains (IsAnswerOf entries) answers given all among) (All-contains (IsAsListed entries) files h.file there one)

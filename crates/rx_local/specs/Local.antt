@@ -1,29 +1,41 @@
 -- The local attempt: what an outcome of it means, and why it has none.
-use Rattle.std.specs.Prelude.{◌≡◌, ℕ, List, [], ◌∷◌, Option, None, Some, IfSome, if◌then◌else◌, is_none, pos}
+use Rattle.std.specs.Prelude.{◌≡◌, ◌⊎◌, ◌≤◌, ℕ, List, [], ◌∷◌, Option, None, Some, Result, IfErr, IfSome, MatchResult, false, if◌then◌else◌, is_none, pos}
 use Rattle.rx_world.specs.declared.attempts.BenchStep.{BenchStep}
 use Rattle.rx_world.specs.declared.attempts.BenchStep.TheVariants.{Make, MakeDir, Put, Run, Take}
 use Rattle.rx_world.specs.declared.attempts.Cause.{Cause}
-use Rattle.rx_world.specs.declared.attempts.Cause.TheVariants.{BenchFault, InputChanged, NoMemory, OutputMissing, SourceFault}
+use Rattle.rx_world.specs.declared.attempts.Cause.TheVariants.{BenchFault, InputChanged, NoMemory, OutputMissing, OutputTooLarge, SourceFault, Stopped}
+use Rattle.rx_world.specs.declared.benches.Bench as benches
+use Rattle.rx_world.specs.declared.benches.BenchMaker as makers
 use Rattle.rx_world.specs.declared.benches.BenchRun.{BenchRun}
 use Rattle.rx_world.specs.declared.commands.Command.{Command}
 use Rattle.rx_world.specs.declared.failures.Refused.{Refused}
 use Rattle.rx_world.specs.declared.failures.Refused.TheVariants.{Failed, NoMemory as no_memory}
 use Rattle.rx_world.specs.declared.input_files.InputFile.{InputFile}
-use Rattle.rx_world.specs.declared.looks.Stamp.{Stamp}
 use Rattle.rx_world.specs.declared.outcomes.Exit.{Exit}
 use Rattle.rx_world.specs.declared.outcomes.FileOut.{FileOut}
 use Rattle.rx_world.specs.declared.outcomes.Outcome.{Outcome}
 use Rattle.rx_world.specs.declared.sources.Given.{Given}
-use Rattle.rx_world.specs.declared.sources.SourceEntry.{SourceEntry}
+use Rattle.rx_world.specs.declared.sources.Sources as sources
 use Rattle.rx_world.specs.declared.trees.Tree.{Tree}
-use Rattle.rx_base.specs.Digests.{digest_of}
+use Rattle.rx_world.specs.declared.world.World as world
+use Rattle.rx_world.specs.Answers.{Gives}
+use Rattle.rx_world.specs.Benches.{Returns}
 use Rattle.rx_world.specs.Causes.{Rose}
-use Rattle.rx_world.specs.Files.{file_at}
+use Rattle.rx_world.specs.Files.{cut_files, file_at}
 use Rattle.rx_world.specs.Outcomes.{IsClean}
-use Rattle.rx_world.specs.Sources.{entry_at}
 use Rattle.rx_world.specs.Trees.{tree_of, with_parents}
-use Rattle.rx_local.specs.Reads.{look_of}
 use Rattle.rx_local.specs.Stage.{AreStaged, IsChangedInput, IsCutShort, IsLostInput, IsRefusedInput}
+
+-- what an attempt runs: a command on these files and directories
+pub record Job : Type 0 where
+  pub command : Command
+  pub files : List InputFile
+  pub directories : List (List ℕ)
+
+abbrev pub job : Command → List InputFile → List (List ℕ) → Job
+job command files directories = record { command = command; files = files; directories = directories }
+
+-- ---- what the tool makes
 
 -- the first of these paths at which no file is
 abbrev pub first_missing : List (List ℕ) → List FileOut → Option (List ℕ)
@@ -35,23 +47,54 @@ pub record LacksOutput (tool : Command → Tree → Outcome) (command : Command)
   pub code_is : (tool command tree).exit.code ≡ pos 0
   pub first : first_missing command.outputs (tool command tree).files ≡ Some path
 
--- where the bench that came last tells its runs, this is so of them
-abbrev pub IfRunsTold : {B : Type 0} → (B → Option (List BenchRun)) → Option B → (List BenchRun → Type 0) → Type 0
-IfRunsTold runs last Fact = IfSome last (λ bench. IfSome (runs bench) Fact)
+-- ---- what the bench of an attempt shows
 
--- there was one run: this command, over these files, the directories and those of the outputs, to this exit
-abbrev pub IsOnlyRun : Command → List FileOut → List (List ℕ) → Exit → List BenchRun → Type 0
-IsOnlyRun command staged directories exit all =
-    all ≡ record { command = command; tree = with_parents command.outputs (tree_of staged directories); exit = exit } ∷ []
+-- where there is a bench, and it tells its runs, this is so of them
+abbrev pub IfRunsTold : {B W : Type 0} → benches.Ghosts B W → Option B → (List BenchRun → Type 0) → Type 0
+IfRunsTold b made Fact = IfSome made (λ bench. IfSome (b.runs bench) Fact)
 
--- The files were read and staged, and the bench that came last ran just once, over them and to this exit. Where tools are honest, the
--- outcome is the tool's.
-pub record IsRunOf {B : Type 0} (runs : B → Option (List BenchRun)) (last : Option B) (tool : Command → Tree → Outcome) (honest : Type 0)
-    (command : Command) (files : List InputFile) (directories : List (List ℕ)) (answers : List Given) (outcome : Outcome) : Type 0 where
+-- where there is a bench, and it tells its tree, this is so of it
+abbrev pub IfTreeTold : {B W : Type 0} → benches.Ghosts B W → Option B → (Tree → Type 0) → Type 0
+IfTreeTold b made Fact = IfSome made (λ bench. IfSome (b.tree bench) Fact)
+
+-- the run of a job over these files, its directories and those of its outputs
+abbrev pub run_of : Job → List FileOut → Exit → BenchRun
+run_of j staged exit = record {
+  command = j.command;
+  tree = with_parents j.command.outputs (tree_of staged j.directories);
+  exit = exit;
+}
+
+-- there was this run alone
+abbrev pub IsOnlyRun : Job → List FileOut → Exit → List BenchRun → Type 0
+IsOnlyRun j staged exit all = all ≡ run_of j staged exit ∷ []
+
+-- the command ran once or not at all
+abbrev pub RanAtMostOnce : List BenchRun → Type 0
+RanAtMostOnce all = (all ≡ []) ⊎ ((run : BenchRun) × (all ≡ run ∷ []))
+
+-- The bench of an attempt came back, and no other one; none did where none was made.
+abbrev pub IsReturned : {B : Type 0} → Option (List B) → Option (List B) → Option B → Type 0
+IsReturned before after (Some bench) = Returns before after bench
+IsReturned before after None = after ≡ before
+
+-- ---- an outcome
+
+-- The files were read and staged. Where tools are honest, the outcome is the tool's.
+pub record IsOutcomeOf {W : Type 0} (w : world.Ghosts W) (j : Job) (answers : List Given) (outcome : Outcome) : Type 0 where
   pub staged : List FileOut
-  pub each : AreStaged files answers staged
-  pub clean : honest → IsClean tool command (tree_of staged directories) outcome
-  pub ran : IfRunsTold runs last (IsOnlyRun command staged directories outcome.exit)
+  pub each : AreStaged j.files answers staged
+  pub clean : w.tools_honest → IsClean w.tool j.command (tree_of staged j.directories) outcome
+
+-- The same, and the bench ran just once, over the staged files and to this exit; at code 0 the outcome has the files that stand there.
+pub record IsRunOf {B W : Type 0} (w : world.Ghosts W) (b : benches.Ghosts B W) (made : Option B) (j : Job) (answers : List Given)
+    (outcome : Outcome) : Type 0 where
+  pub of : IsOutcomeOf w j answers outcome
+  pub made_one : is_none made ≡ false
+  pub ran : IfRunsTold b made (IsOnlyRun j of.staged outcome.exit)
+  pub taken : IfTreeTold b made (λ tree. outcome.exit.code ≡ pos 0 → outcome.files ≡ cut_files j.command.outputs tree.files)
+
+-- ---- a cause
 
 -- all files were staged
 abbrev pub HaveStaged : List InputFile → List Given → Type 0
@@ -66,99 +109,138 @@ IsReadBefore Run files answers = HaveStaged files answers
 IsReadBefore Take files answers = HaveStaged files answers
 
 -- where tools are honest, the missing output is the first that the tool doesn't make of these files
-pub record IsMissingOf (tool : Command → Tree → Outcome) (honest : Type 0) (command : Command) (files : List InputFile) (directories : List (List ℕ)) (answers : List Given) (path : List ℕ) : Type 0 where
+pub record IsMissingOf {W : Type 0} (w : world.Ghosts W) (j : Job) (answers : List Given) (path : List ℕ) : Type 0 where
   pub staged : List FileOut
-  pub each : AreStaged files answers staged
-  pub lacks : honest → LacksOutput tool command (tree_of staged directories) path
+  pub each : AreStaged j.files answers staged
+  pub lacks : w.tools_honest → LacksOutput w.tool j.command (tree_of staged j.directories) path
 
 -- each cause only with what was read before it
-abbrev pub IsCauseOf : (Command → Tree → Outcome) → Type 0 → Command → List InputFile → List (List ℕ) → List Given → Cause → Type 0
-IsCauseOf tool honest command files directories answers (BenchFault step) = IsReadBefore step files answers
-IsCauseOf tool honest command files directories answers (OutputMissing path) = IsMissingOf tool honest command files directories answers path
-IsCauseOf tool honest command files directories answers (InputChanged path first second) = IsChangedInput files answers path first second
-IsCauseOf tool honest command files directories answers (SourceFault path) = IsLostInput files answers path
-IsCauseOf tool honest command files directories answers NoMemory = IsCutShort files answers
+abbrev pub IsCauseOf : {W : Type 0} → world.Ghosts W → Job → List Given → Cause → Type 0
+IsCauseOf w j answers (BenchFault step) = IsReadBefore step j.files answers
+IsCauseOf w j answers (OutputMissing path) = IsMissingOf w j answers path
+IsCauseOf w j answers (InputChanged input) = IsChangedInput j.files answers input
+IsCauseOf w j answers (OutputTooLarge limit n) = ⊥
+IsCauseOf w j answers (SourceFault path) = IsLostInput j.files answers path
+IsCauseOf w j answers (Stopped decision) = ⊥
+IsCauseOf w j answers NoMemory = IsCutShort j.files answers
 
 -- the steps of a bench before the command runs on it
 abbrev pub IsStepBefore : BenchStep → Type 0
 IsStepBefore Make = ⊥
 IsStepBefore Put = Unit {0}
 IsStepBefore MakeDir = Unit {0}
-IsStepBefore Run = ⊥
+IsStepBefore Run = Unit {0}
 IsStepBefore Take = ⊥
 
--- the causes on a bench before the command runs
+-- the causes on a bench for which no run of the command ended
 abbrev pub IsBeforeRun : Cause → Type 0
 IsBeforeRun (BenchFault step) = IsStepBefore step
-IsBeforeRun (InputChanged path first second) = Unit {0}
+IsBeforeRun (InputChanged input) = Unit {0}
 IsBeforeRun (SourceFault path) = Unit {0}
 IsBeforeRun (OutputMissing path) = ⊥
+IsBeforeRun (OutputTooLarge limit n) = ⊥
+IsBeforeRun (Stopped decision) = ⊥
 IsBeforeRun NoMemory = ⊥
+
+-- the causes for which a bench doesn't stand ready for a run
+abbrev pub IsPrepareCause : Cause → Type 0
+IsPrepareCause (BenchFault step) = (step ≡ Put) ⊎ (step ≡ MakeDir)
+IsPrepareCause (InputChanged input) = Unit {0}
+IsPrepareCause (SourceFault path) = Unit {0}
+IsPrepareCause (OutputMissing path) = ⊥
+IsPrepareCause (OutputTooLarge limit n) = ⊥
+IsPrepareCause (Stopped decision) = ⊥
+IsPrepareCause NoMemory = Unit {0}
 
 -- the causes after the command ran
 abbrev pub IsAfterRun : Cause → Type 0
 IsAfterRun (BenchFault step) = step ≡ Take
 IsAfterRun (OutputMissing path) = Unit {0}
-IsAfterRun (InputChanged path first second) = ⊥
+IsAfterRun (InputChanged input) = ⊥
+IsAfterRun (OutputTooLarge limit n) = ⊥
 IsAfterRun (SourceFault path) = ⊥
+IsAfterRun (Stopped decision) = ⊥
 IsAfterRun NoMemory = ⊥
 
--- the files were staged, and the bench that came last ran just once, over them and to code 0
-pub record HasRunOnce {B : Type 0} (runs : B → Option (List BenchRun)) (last : Option B) (command : Command) (files : List InputFile)
-    (directories : List (List ℕ)) (answers : List Given) : Type 0 where
+-- no bench could be made
+abbrev pub IsUnmade : Cause → Type 0
+IsUnmade (BenchFault step) = step ≡ Make
+IsUnmade (InputChanged input) = ⊥
+IsUnmade (OutputMissing path) = ⊥
+IsUnmade (OutputTooLarge limit n) = ⊥
+IsUnmade (SourceFault path) = ⊥
+IsUnmade (Stopped decision) = ⊥
+IsUnmade NoMemory = ⊥
+
+-- for a missing output this is so of its path
+abbrev pub IfMissing : Cause → (List ℕ → Type 0) → Type 0
+IfMissing (BenchFault step) Fact = Unit {0}
+IfMissing (OutputMissing path) Fact = Fact path
+IfMissing (InputChanged input) Fact = Unit {0}
+IfMissing (OutputTooLarge limit n) Fact = Unit {0}
+IfMissing (SourceFault path) Fact = Unit {0}
+IfMissing (Stopped decision) Fact = Unit {0}
+IfMissing NoMemory Fact = Unit {0}
+
+-- the files were staged, and the bench ran just once, over them and to code 0
+pub record HasRunOnce {B W : Type 0} (b : benches.Ghosts B W) (made : Option B) (j : Job) (answers : List Given) : Type 0 where
   pub staged : List FileOut
-  pub each : AreStaged files answers staged
+  pub each : AreStaged j.files answers staged
   pub exit : Exit
   pub code_is : exit.code ≡ pos 0
-  pub ran : IfRunsTold runs last (IsOnlyRun command staged directories exit)
+  pub ran : IfRunsTold b made (IsOnlyRun j staged exit)
 
--- a cause, with what was read and what had run on the bench that came last
-pub record IsFailureOf {B : Type 0} (runs : B → Option (List BenchRun)) (last : Option B) (tool : Command → Tree → Outcome) (honest : Type 0)
-    (command : Command) (files : List InputFile) (directories : List (List ℕ)) (answers : List Given) (cause : Cause) : Type 0 where
-  pub caused : IsCauseOf tool honest command files directories answers cause
-  pub not_run : IsBeforeRun cause → IfRunsTold runs last (λ all. all ≡ [])
-  pub run_once : IsAfterRun cause → HasRunOnce runs last command files directories answers
+-- A cause, with what was read and what had run on the bench: nothing before it, one run, or at most one. There is no bench exactly where
+-- none could be made, and a missing output is missing on it.
+pub record IsFailureOf {B W : Type 0} (w : world.Ghosts W) (b : benches.Ghosts B W) (made : Option B) (j : Job) (answers : List Given)
+    (cause : Cause) : Type 0 where
+  pub caused : IsCauseOf w j answers cause
+  pub not_run : IsBeforeRun cause → IfRunsTold b made (λ all. all ≡ [])
+  pub run_once : IsAfterRun cause → HasRunOnce b made j answers
+  pub at_most_once : IfRunsTold b made RanAtMostOnce
+  pub unmade : made ≡ None → IsUnmade cause
+  pub made_none : IsUnmade cause → made ≡ None
+  pub lacks : IfMissing cause (λ path. IfTreeTold b made (λ tree. first_missing j.command.outputs tree.files ≡ Some path))
 
 -- for a fault the count of its part rose, of the benches or of the source tree
 abbrev pub IsCounted : ℕ → ℕ → ℕ → ℕ → Cause → Type 0
 IsCounted benches_before benches_now sources_before sources_now (BenchFault step) = Rose benches_before benches_now
 IsCounted benches_before benches_now sources_before sources_now (SourceFault path) = Rose sources_before sources_now
 IsCounted benches_before benches_now sources_before sources_now (OutputMissing path) = Unit {0}
-IsCounted benches_before benches_now sources_before sources_now (InputChanged path first second) = Unit {0}
+IsCounted benches_before benches_now sources_before sources_now (InputChanged input) = Unit {0}
+IsCounted benches_before benches_now sources_before sources_now (OutputTooLarge limit n) = Unit {0}
+IsCounted benches_before benches_now sources_before sources_now (Stopped decision) = Unit {0}
 IsCounted benches_before benches_now sources_before sources_now NoMemory = Unit {0}
-
--- for a missing output this is so of its path
-abbrev pub IfMissing : Cause → (List ℕ → Type 0) → Type 0
-IfMissing (BenchFault step) Fact = Unit {0}
-IfMissing (OutputMissing path) Fact = Fact path
-IfMissing (InputChanged path first second) Fact = Unit {0}
-IfMissing (SourceFault path) Fact = Unit {0}
-IfMissing NoMemory Fact = Unit {0}
 
 -- the cause where a bench refuses a step
 abbrev pub cause_at : BenchStep → Refused → Cause
 cause_at step Failed = BenchFault step
 cause_at step no_memory = NoMemory
 
--- ---- what the files are where the outside is honest
+-- ---- a whole attempt
 
--- the file with the content that the world has under its stamp
-abbrev pub world_copy : (List ℕ → Stamp → List ℕ) → InputFile → FileOut
-world_copy content file = record { path = file.path; bytes = content file.path file.stamp; executable = file.executable }
+-- What the files were read from, and how the attempt on a bench ended.
+pub record HasEnded {B T W : Type 0} (w : world.Ghosts W) (b : benches.Ghosts B W) (s : sources.Ghosts T W) (made : Option B) (j : Job)
+    (before after : T) (result : Result Outcome Cause) : Type 0 where
+  pub answers : List Given
+  pub gives : Gives w s before after answers
+  pub ended : MatchResult result (IsRunOf w b made j answers) (IsFailureOf w b made j answers)
 
--- the file with the content that a source tree lists at its path
-abbrev pub listed_copy : List SourceEntry → InputFile → FileOut
-listed_copy entries file = record { path = file.path; bytes = (entry_at file.path entries).bytes; executable = file.executable }
-
--- the file is as a source tree lists it
-pub record IsAsListed (entries : List SourceEntry) (file : InputFile) : Type 0 where
-  pub look_is : (entry_at file.path entries).look ≡ look_of file
-  pub digest_is : digest_of (entry_at file.path entries).bytes ≡ file.digest
+-- The same, and the bench that was made for it, at most one, came back; no count fell, and that of the part that failed rose.
+pub record HasAttempted {M B T W : Type 0} (w : world.Ghosts W) (m : makers.Ghosts M W B) (b : benches.Ghosts B W) (s : sources.Ghosts T W)
+    (j : Job) (benches_before benches_after : M) (before after : T) (result : Result Outcome Cause) : Type 0 where
+  pub made : Option B
+  pub returned : IsReturned (m.returned benches_before) (m.returned benches_after) made
+  pub on : HasEnded w b s made j before after result
+  pub later : m.faults benches_before ≤ m.faults benches_after
+  pub counted : IfErr result (IsCounted (m.faults benches_before) (m.faults benches_after) (s.faults before) (s.faults after))
 
 -- an input changed
 abbrev pub IsChanged : Cause → Type 0
-IsChanged (InputChanged path first second) = Unit {0}
+IsChanged (InputChanged input) = Unit {0}
 IsChanged (BenchFault step) = ⊥
 IsChanged (OutputMissing path) = ⊥
+IsChanged (OutputTooLarge limit n) = ⊥
 IsChanged (SourceFault path) = ⊥
+IsChanged (Stopped decision) = ⊥
 IsChanged NoMemory = ⊥

@@ -3,18 +3,15 @@ use Rattle.std.specs.Prelude.{◌≡◌, ◌≢◌, ◌⊎◌, ℕ, List, [], �
 use Rattle.rx_base.specs.declared.digests.Digest.{Digest}
 use Rattle.rx_base.specs.Digests.{digest_of}
 use Rattle.rx_world.specs.declared.attempts.Cause.{Cause}
-use Rattle.rx_world.specs.declared.attempts.Cause.TheVariants.{BenchFault, InputChanged, NoMemory, OutputMissing, SourceFault}
+use Rattle.rx_world.specs.declared.attempts.Cause.TheVariants.{BenchFault, InputChanged, NoMemory, OutputMissing, OutputTooLarge, SourceFault, Stopped}
 use Rattle.rx_world.specs.declared.input_files.InputFile.{InputFile}
 use Rattle.rx_world.specs.declared.looks.Look.{Look}
-use Rattle.rx_world.specs.declared.looks.Look.TheVariants.{File}
+use Rattle.rx_world.specs.declared.looks.ChangedInput.{ChangedInput}
 use Rattle.rx_world.specs.declared.looks.Seen.{Seen}
 use Rattle.rx_world.specs.declared.sources.Given.{Given}
 use Rattle.rx_world.specs.Causes.{Rose}
+use Rattle.rx_world.specs.Inputs.{look_of}
 use Rattle.rx_world.specs.Sources.{given_bytes}
-
--- the look that a file had when it was gathered
-abbrev pub look_of : InputFile → Look
-look_of file = File file.stamp file.executable
 
 -- what was seen of a file: its look alone, or with the digest of its content
 abbrev pub seen_look : Look → Seen
@@ -30,12 +27,12 @@ Differ file look bytes first second =
     ⊎ ((look ≡ look_of file) × (digest_of bytes ≢ file.digest) × (first ≡ seen_content look file.digest) × (second ≡ seen_content look (digest_of bytes)))
 
 -- the file was read, and isn't as it was gathered
-pub record IsChange (file : InputFile) (answers : List Given) (path : List ℕ) (first second : Seen) : Type 0 where
+pub record IsChange (file : InputFile) (answers : List Given) (input : ChangedInput) : Type 0 where
   pub look : Look
   pub bytes : List ℕ
   pub read : answers ≡ given_bytes file.path look bytes ∷ []
-  pub path_is : path ≡ file.path
-  pub differ : Differ file look bytes first second
+  pub path_is : input.path ≡ file.path
+  pub differ : Differ file look bytes input.first input.second
 
 -- of these files the next was read once, or nothing was read
 abbrev pub IsNextRead : List InputFile → List Given → Type 0
@@ -44,8 +41,10 @@ IsNextRead (file ∷ rest) answers = (answers ≡ []) ⊎ ((look : Look) × (byt
 
 -- each cause of a file that can't be read as it was gathered, over what was answered and the count of faults
 abbrev pub IsReadCause : InputFile → ℕ → ℕ → List Given → Cause → Type 0
-IsReadCause file before now answers (InputChanged path first second) = IsChange file answers path first second
+IsReadCause file before now answers (InputChanged input) = IsChange file answers input
 IsReadCause file before now answers (SourceFault path) = (answers ≡ []) × (path ≡ file.path) × Rose before now
 IsReadCause file before now answers (BenchFault step) = ⊥
 IsReadCause file before now answers (OutputMissing path) = ⊥
+IsReadCause file before now answers (OutputTooLarge limit n) = ⊥
+IsReadCause file before now answers (Stopped decision) = ⊥
 IsReadCause file before now answers NoMemory = IsNextRead (file ∷ []) answers

@@ -1,23 +1,28 @@
 -- What is put on a bench, one after the other.
-use Rattle.std.specs.Prelude.{◌≡◌, ℕ, List, [], ◌∷◌, ◌++◌, Option}
+use Rattle.std.specs.Prelude.{◌≡◌, ℕ, List, [], ◌∷◌, ◌++◌, Option, pos}
 use Rattle.rx_base.specs.Digests.{digest_of}
 use Rattle.rx_base.specs.Told.{Told}
 use Rattle.rx_world.specs.declared.attempts.BenchStep.{BenchStep}
 use Rattle.rx_world.specs.declared.attempts.BenchStep.TheVariants.{Put, Take}
 use Rattle.rx_world.specs.declared.attempts.Cause.{Cause}
-use Rattle.rx_world.specs.declared.attempts.Cause.TheVariants.{BenchFault, InputChanged, NoMemory, OutputMissing, SourceFault}
+use Rattle.rx_world.specs.declared.attempts.Cause.TheVariants.{BenchFault, InputChanged, NoMemory, OutputMissing, OutputTooLarge, SourceFault, Stopped}
+use Rattle.rx_world.specs.declared.benches.Bench as benches
+use Rattle.rx_world.specs.declared.commands.Command.{Command}
 use Rattle.rx_world.specs.declared.input_files.InputFile.{InputFile}
-use Rattle.rx_world.specs.declared.looks.Seen.{Seen}
-use Rattle.rx_world.specs.declared.looks.Stamp.{Stamp}
+use Rattle.rx_world.specs.declared.looks.ChangedInput.{ChangedInput}
+use Rattle.rx_world.specs.declared.outcomes.Exit.{Exit}
 use Rattle.rx_world.specs.declared.outcomes.FileOut.{FileOut}
 use Rattle.rx_world.specs.declared.sources.Given.{Given}
-use Rattle.rx_world.specs.declared.sources.SourceEntry.{SourceEntry}
+use Rattle.rx_world.specs.declared.sources.Sources as sources
 use Rattle.rx_world.specs.declared.trees.Tree.{Tree}
+use Rattle.rx_world.specs.declared.world.World as world
 use Rattle.rx_world.specs.Answers.{Gives}
+use Rattle.rx_world.specs.Benches.{Runs}
 use Rattle.rx_world.specs.Causes.{Rose}
+use Rattle.rx_world.specs.Inputs.{look_of}
 use Rattle.rx_world.specs.Sources.{given_bytes}
 use Rattle.rx_world.specs.Trees.{tree_with_directories, tree_with_files}
-use Rattle.rx_local.specs.Reads.{IsChange, IsNextRead, look_of}
+use Rattle.rx_local.specs.Reads.{IsChange, IsNextRead}
 
 -- all these files are put into the tree
 abbrev pub PutsAll : Option Tree → Option Tree → List FileOut → Type 0
@@ -50,12 +55,12 @@ pub record IsFront (files rest : List InputFile) (answers last : List Given) : T
   pub each : AreStaged front read staged
 
 -- the next file after a front was read, and isn't as it was gathered
-pub record IsChangedInput (files : List InputFile) (answers : List Given) (path : List ℕ) (first second : Seen) : Type 0 where
+pub record IsChangedInput (files : List InputFile) (answers : List Given) (input : ChangedInput) : Type 0 where
   pub file : InputFile
   pub rest : List InputFile
   pub last : List Given
   pub front : IsFront files (file ∷ rest) answers last
-  pub change : IsChange file last path first second
+  pub change : IsChange file last input
 
 -- the next file after a front couldn't be read
 pub record IsLostInput (files : List InputFile) (answers : List Given) (path : List ℕ) : Type 0 where
@@ -82,24 +87,41 @@ pub record IsCutShort (files : List InputFile) (answers : List Given) : Type 0 w
 -- each cause for which the files don't stand on the bench
 abbrev pub IsStageCause : List InputFile → List Given → Cause → Type 0
 IsStageCause files answers (BenchFault step) = (step ≡ Put) × IsRefusedInput files answers
-IsStageCause files answers (InputChanged path first second) = IsChangedInput files answers path first second
+IsStageCause files answers (InputChanged input) = IsChangedInput files answers input
 IsStageCause files answers (SourceFault path) = IsLostInput files answers path
 IsStageCause files answers (OutputMissing path) = ⊥
+IsStageCause files answers (OutputTooLarge limit n) = ⊥
+IsStageCause files answers (Stopped decision) = ⊥
 IsStageCause files answers NoMemory = IsCutShort files answers
 
 -- From one state of a source tree to another all these files were staged, and this holds of what was put.
-pub record HasStaged {T : Type 0} (listed : T → Option (List SourceEntry)) (keeps : T → Type 0) (given : T → Option (List Given))
-    (content : List ℕ → Stamp → List ℕ) (honest : Type 0) (before after : T) (files : List InputFile) (IsPut : List FileOut → Type 0) : Type 0 where
+pub record HasStaged {T W : Type 0} (w : world.Ghosts W) (s : sources.Ghosts T W) (before after : T)
+    (files : List InputFile) (IsPut : List FileOut → Type 0) : Type 0 where
   pub answers : List Given
   pub staged : List FileOut
-  pub gives : Gives listed keeps given content honest before after answers
+  pub gives : Gives w s before after answers
   pub each : AreStaged files answers staged
   pub put : IsPut staged
+
+-- Between two states of a source tree not all of these files were staged, for this cause.
+pub record HasFailedStaging {T W : Type 0} (w : world.Ghosts W) (s : sources.Ghosts T W) (before after : T)
+    (IsCause : List Given → Cause → Type 0) (cause : Cause) : Type 0 where
+  pub answers : List Given
+  pub gives : Gives w s before after answers
+  pub caused : IsCause answers cause
 
 -- each cause of this step, at which all files stand on the bench; a missing output is found where outputs are taken
 abbrev pub IsStepCause : BenchStep → ℕ → ℕ → Cause → Type 0
 IsStepCause step before now (BenchFault at) = (at ≡ step) × Rose before now
 IsStepCause step before now (OutputMissing path) = step ≡ Take
-IsStepCause step before now (InputChanged path first second) = ⊥
+IsStepCause step before now (InputChanged input) = ⊥
+IsStepCause step before now (OutputTooLarge limit n) = ⊥
+IsStepCause step before now (Stopped decision) = ⊥
 IsStepCause step before now (SourceFault path) = ⊥
 IsStepCause step before now NoMemory = Unit {0}
+
+-- the command ran on the bench once more, to code 0
+pub record HasRunToZero {B W : Type 0} (b : benches.Ghosts B W) (command : Command) (before after : B) : Type 0 where
+  pub exit : Exit
+  pub code_is : exit.code ≡ pos 0
+  pub ran : Runs (b.tree before) (b.runs before) (b.runs after) command exit

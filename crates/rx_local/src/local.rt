@@ -1,15 +1,13 @@
 //! One attempt on this machine: a fresh bench, its tree, the run, the outputs, and the bench back.
 
-ghost use Rattle.std.specs.Prelude.{◌≡◌, ◌≤◌, ◌⊎◌, [], ◌∷◌, All, List, MatchResult, Some, IfErr, IfOk, IfSome, map, pos};
-ghost use Rattle.rx_world.specs.declared.outcomes.Exit.{Exit};
-ghost use Rattle.rx_world.specs.declared.sources.Given.{Given};
-ghost use Rattle.rx_world.specs.Answers.{Gives};
+ghost use Rattle.std.specs.Prelude.{◌≡◌, ◌≤◌, ◌⊎◌, All, Some, IfErr, IfOk, IfSome, map, pos};
 ghost use Rattle.rx_world.specs.Benches.{IsFresh, Runs};
 ghost use Rattle.rx_world.specs.Files.{cut_files};
+ghost use Rattle.rx_world.specs.Inputs.{IsAsListed, listed_copy, world_copy};
 ghost use Rattle.rx_world.specs.Outcomes.{IsClean, IsProper};
 ghost use Rattle.rx_world.specs.Trees.{tree_of};
-ghost use Rattle.rx_local.specs.Local.{IfMissing, IsAfterRun, IsAsListed, IsChanged, IsCounted, IsFailureOf, IsRunOf, LacksOutput, first_missing, listed_copy, world_copy};
-ghost use Rattle.rx_local.specs.Stage.{IsStepCause};
+ghost use Rattle.rx_local.specs.Local.{HasAttempted, HasEnded, IfMissing, IsAfterRun, IsBeforeRun, IsChanged, IsCounted, LacksOutput, first_missing, job};
+ghost use Rattle.rx_local.specs.Stage.{HasRunToZero, IsStepCause};
 
 use crate::stage::prepare;
 use crate::take::{cause_of, take_outputs};
@@ -37,27 +35,21 @@ pub fn run_local<W: World, M: BenchMaker<W>, S: Sources<W>>(
     benches: &mut M,
     sources: &mut S,
 ) -> Result<Outcome, Cause>
-    // What was read, and the run over it, or the cause and what had run.
-    ensures attempted { (answers : List Given) × Gives S.listed S.keeps S.given W.content W.stamps_honest sources.old sources.new answers
-        × MatchResult result (IsRunOf M.B.runs (M.last benches.new) W.tool W.tools_honest command.now files.now directories.now answers)
-        (IsFailureOf M.B.runs (M.last benches.new) W.tool W.tools_honest command.now files.now directories.now answers) }
+    // What was read, and the one run over it on the one bench that was made, or the cause and what had run.
+    ensures attempted { HasAttempted W.World M.BenchMaker M.B.Bench S.Sources
+        (job command.now files.now directories.now)
+        benches.old benches.new sources.old sources.new result }
     ensures proper { IfOk result (IsProper command.now) }
-    // Its files are those of the bench that came back.
-    ensures taken { IfOk result (λ outcome. IfSome (M.last benches.new) (λ bench. IfSome (M.B.tree bench) (λ tree.
-        outcome.exit.code ≡ pos 0 → outcome.files ≡ cut_files command.now.outputs tree.files))) }
-    ensures later { (M.faults benches.old ≤ M.faults benches.new) × (S.faults sources.old ≤ S.faults sources.new) }
-    ensures cause { IfErr result (IsCounted (M.faults benches.old) (M.faults benches.new) (S.faults sources.old) (S.faults sources.new)) }
-    // The missing output is one of the tree of the bench that came back, in any world.
-    ensures lacks { IfErr result (λ cause. IfMissing cause (λ path.
-        IfSome (M.last benches.new) (λ bench. IfSome (M.B.tree bench) (λ tree. first_missing command.now.outputs tree.files ≡ Some path)))) }
-
-    // Where stamps are honest too, the run is the clean one over the contents that the world has under the gathered stamps.
-    ensures stamped { IfOk result (λ outcome. W.tools_honest → W.stamps_honest
-        → IsClean W.tool command.now (tree_of (map (world_copy W.content) files.now) directories.now) outcome) }
-    // Where the source tree keeps a list, it is the clean one over the contents that this has, and no file changes that is as listed.
-    ensures listed { IfOk result (λ outcome. W.tools_honest → S.keeps sources.old → IfSome (S.listed sources.old) (λ entries.
-        IsClean W.tool command.now (tree_of (map (listed_copy entries) files.now) directories.now) outcome)) }
-    ensures unchanged { IfErr result (λ cause. S.keeps sources.old → IfSome (S.listed sources.old) (λ entries.
+    // Where stamps are honest too, it is the clean run over what the world has under the gathered stamps.
+    ensures stamped { IfOk result (λ outcome. W.tools_honest → W.stamps_honest → IsClean W.tool command.now
+        (tree_of (map (world_copy W.content) files.now) directories.now) outcome) }
+    // Where the source tree keeps a list, it is the clean run over what the list has.
+    ensures listed { IfOk result (λ outcome. W.tools_honest → S.keeps sources.old →
+        IfSome (S.listed sources.old) (λ entries. IsClean W.tool command.now
+        (tree_of (map (listed_copy entries) files.now) directories.now) outcome)) }
+    // And then no file changes that is as listed.
+    ensures unchanged { IfErr result (λ cause. S.keeps sources.old →
+        IfSome (S.listed sources.old) (λ entries.
         All (IsAsListed entries) files.now → IsChanged cause → ⊥)) }
 {
     let Ok(mut bench) = benches.make() else {
@@ -80,14 +72,12 @@ fn run_on<W: World, B: Bench<W>, S: Sources<W>>(
     sources: &mut S,
 ) -> Result<Outcome, Cause>
     requires { IsFresh W.tools_honest (B.tree bench.old) (B.runs bench.old) (B.faults bench.old) }
-    ensures attempted { (answers : List Given) × Gives S.listed S.keeps S.given W.content W.stamps_honest sources.old sources.new answers
-        × MatchResult result (IsRunOf B.runs (Some bench.new) W.tool W.tools_honest command.now files.now directories.now answers)
-        (IsFailureOf B.runs (Some bench.new) W.tool W.tools_honest command.now files.now directories.now answers) }
+    ensures ended { HasEnded W.World B.Bench S.Sources (Some bench.new)
+        (job command.now files.now directories.now) sources.old sources.new result }
     ensures proper { IfOk result (IsProper command.now) }
-    ensures taken { IfOk result (λ outcome. IfSome (B.tree bench.new) (λ tree. outcome.exit.code ≡ pos 0 → outcome.files ≡ cut_files command.now.outputs tree.files)) }
-    ensures later { (B.faults bench.old ≤ B.faults bench.new) × (S.faults sources.old ≤ S.faults sources.new) }
-    ensures cause { IfErr result (IsCounted (B.faults bench.old) (B.faults bench.new) (S.faults sources.old) (S.faults sources.new)) }
-    ensures lacks { IfErr result (λ cause. IfMissing cause (λ path. IfSome (B.tree bench.new) (λ tree. first_missing command.now.outputs tree.files ≡ Some path))) }
+    ensures later { B.faults bench.old ≤ B.faults bench.new }
+    ensures cause { IfErr result (IsCounted (B.faults bench.old) (B.faults bench.new)
+        (S.faults sources.old) (S.faults sources.new)) }
 {
     prepare::<W, B, S>(alloc, command, files, directories, bench, sources)?;
     run_staged::<W, B>(alloc, command, bench)
@@ -100,14 +90,27 @@ fn run_staged<W: World, B: Bench<W>>(
     bench: &mut B,
 ) -> Result<Outcome, Cause>
     ensures proper { IfOk result (IsProper command.now) }
-    ensures clean { IfOk result (λ outcome. W.tools_honest → IfSome (B.tree bench.old) (λ tree. IsClean W.tool command.now tree outcome)) }
-    ensures ran { IfOk result (λ outcome. Runs (B.tree bench.old) (B.runs bench.old) (B.runs bench.new) command.now outcome.exit) }
-    ensures taken { IfOk result (λ outcome. IfSome (B.tree bench.new) (λ tree. outcome.exit.code ≡ pos 0 → outcome.files ≡ cut_files command.now.outputs tree.files)) }
+    ensures clean { IfOk result (λ outcome. W.tools_honest →
+        IfSome (B.tree bench.old) (λ tree. IsClean W.tool command.now tree outcome)) }
+    ensures ran { IfOk result (λ outcome.
+        Runs (B.tree bench.old) (B.runs bench.old) (B.runs bench.new) command.now outcome.exit) }
+    ensures taken { IfOk result (λ outcome. IfSome (B.tree bench.new) (λ tree.
+        outcome.exit.code ≡ pos 0 → outcome.files ≡ cut_files command.now.outputs tree.files)) }
     ensures later { B.faults bench.old ≤ B.faults bench.new }
-    ensures cause { IfErr result (λ cause. IsStepCause BenchStep.Run (B.faults bench.old) (B.faults bench.new) cause ⊎ IsStepCause BenchStep.Take (B.faults bench.old) (B.faults bench.new) cause) }
-    ensures ended { IfErr result (λ cause. IsAfterRun cause → (exit : Exit) × (exit.code ≡ pos 0) × Runs (B.tree bench.old) (B.runs bench.old) (B.runs bench.new) command.now exit) }
-    ensures missing { IfErr result (λ cause. IfMissing cause (λ path. W.tools_honest → IfSome (B.tree bench.old) (λ tree. LacksOutput W.tool command.now tree path))) }
-    ensures lacks { IfErr result (λ cause. IfMissing cause (λ path. IfSome (B.tree bench.new) (λ tree. first_missing command.now.outputs tree.files ≡ Some path))) }
+    ensures cause { IfErr result (λ cause.
+        IsStepCause BenchStep.Run (B.faults bench.old) (B.faults bench.new) cause
+        ⊎ IsStepCause BenchStep.Take (B.faults bench.old) (B.faults bench.new) cause) }
+    ensures not_run { IfErr result (λ cause. IsBeforeRun cause →
+        B.runs bench.new ≡ B.runs bench.old) }
+    ensures ended { IfErr result (λ cause. IsAfterRun cause →
+        HasRunToZero B.Bench command.now bench.old bench.new) }
+    ensures once { IfErr result (λ cause. (B.runs bench.new ≡ B.runs bench.old)
+        ⊎ HasRunToZero B.Bench command.now bench.old bench.new) }
+    ensures missing { IfErr result (λ cause. IfMissing cause (λ path. W.tools_honest →
+        IfSome (B.tree bench.old) (λ tree. LacksOutput W.tool command.now tree path))) }
+    ensures lacks { IfErr result (λ cause. IfMissing cause (λ path.
+        IfSome (B.tree bench.new) (λ tree.
+        first_missing command.now.outputs tree.files ≡ Some path))) }
 {
     let exit = match bench.run(command) {
         Ok(exit) => exit,

@@ -1,15 +1,13 @@
 //! What stands on a bench before a run: the files, the directories, and those of the outputs.
 
-ghost use Rattle.std.specs.Prelude.{◌≡◌, ◌≤◌, ◌⊎◌, [], ◌∷◌, List, option_to_list, IfErr, OnOk};
+ghost use Rattle.std.specs.Prelude.{◌≡◌, ◌≤◌, [], ◌∷◌, option_to_list, IfErr, OnOk};
 ghost use Rattle.rx_base.specs.Paths.{parent_of};
 ghost use Rattle.rx_base.specs.Told.{Told};
 ghost use Rattle.rx_world.specs.declared.failures.Refused.TheVariants.{Failed as failed};
-ghost use Rattle.rx_world.specs.declared.sources.Given.{Given};
-ghost use Rattle.rx_world.specs.Answers.{Gives};
 ghost use Rattle.rx_world.specs.Causes.{HasCause, HasCauseOf};
 ghost use Rattle.rx_world.specs.Trees.{parents_of, tree_with_directories, tree_with_files, with_parents};
-ghost use Rattle.rx_local.specs.Local.{IsBeforeRun, IsCauseOf, IsCounted};
-ghost use Rattle.rx_local.specs.Stage.{HasStaged, IsStepCause, IsStageCause, MakesAll, PutsAll};
+ghost use Rattle.rx_local.specs.Local.{IsCauseOf, IsCounted, IsPrepareCause, job};
+ghost use Rattle.rx_local.specs.Stage.{HasFailedStaging, HasStaged, IsStepCause, IsStageCause, MakesAll, PutsAll};
 
 use crate::reads::read_again;
 use crate::take::cause_of;
@@ -26,14 +24,17 @@ pub fn prepare<W: World, B: Bench<W>, S: Sources<W>>(
     bench: &mut B,
     sources: &mut S,
 ) -> Result<(), Cause>
-    ensures ok { OnOk result (HasStaged S.listed S.keeps S.given W.content W.stamps_honest sources.old sources.new files.now
-        (λ staged. Told (B.tree bench.old) (B.tree bench.new) (λ x y. y ≡ with_parents command.now.outputs (tree_with_directories directories.now (tree_with_files staged x))))) }
-    ensures err { IfErr result (λ cause. (answers : List Given) × Gives S.listed S.keeps S.given W.content W.stamps_honest sources.old sources.new answers
-        × IsCauseOf W.tool W.tools_honest command.now files.now directories.now answers cause) }
-    ensures before { IfErr result (λ cause. IsBeforeRun cause ⊎ (cause ≡ Cause.NoMemory)) }
+    ensures ok { OnOk result (HasStaged W.World S.Sources sources.old sources.new files.now (λ staged.
+        Told (B.tree bench.old) (B.tree bench.new) (λ x y. y ≡ with_parents command.now.outputs
+        (tree_with_directories directories.now (tree_with_files staged x))))) }
+    ensures err { IfErr result (HasFailedStaging W.World S.Sources sources.old sources.new
+        (IsCauseOf W.World (job command.now files.now directories.now))) }
+    ensures before { IfErr result IsPrepareCause }
     ensures runs { B.runs bench.new ≡ B.runs bench.old }
-    ensures later { (B.faults bench.old ≤ B.faults bench.new) × (S.faults sources.old ≤ S.faults sources.new) }
-    ensures cause { IfErr result (IsCounted (B.faults bench.old) (B.faults bench.new) (S.faults sources.old) (S.faults sources.new)) }
+    ensures later { (B.faults bench.old ≤ B.faults bench.new)
+        × (S.faults sources.old ≤ S.faults sources.new) }
+    ensures cause { IfErr result (IsCounted (B.faults bench.old) (B.faults bench.new)
+        (S.faults sources.old) (S.faults sources.new)) }
 {
     stage_files::<W, B, S>(alloc, files, bench, sources)?;
     make_all::<W, B>(alloc, command.outputs.as_slice(), directories, bench)
@@ -46,12 +47,15 @@ fn stage_files<W: World, B: Bench<W>, S: Sources<W>>(
     bench: &mut B,
     sources: &mut S,
 ) -> Result<(), Cause>
-    ensures ok { OnOk result (HasStaged S.listed S.keeps S.given W.content W.stamps_honest sources.old sources.new files.now (PutsAll (B.tree bench.old) (B.tree bench.new))) }
-    ensures err { IfErr result (λ cause. (answers : List Given) × Gives S.listed S.keeps S.given W.content W.stamps_honest sources.old sources.new answers
-        × IsStageCause files.now answers cause) }
+    ensures ok { OnOk result (HasStaged W.World S.Sources sources.old sources.new files.now
+        (PutsAll (B.tree bench.old) (B.tree bench.new))) }
+    ensures err { IfErr result (HasFailedStaging W.World S.Sources sources.old sources.new
+        (IsStageCause files.now)) }
     ensures runs { B.runs bench.new ≡ B.runs bench.old }
-    ensures later { (B.faults bench.old ≤ B.faults bench.new) × (S.faults sources.old ≤ S.faults sources.new) }
-    ensures cause { IfErr result (IsCounted (B.faults bench.old) (B.faults bench.new) (S.faults sources.old) (S.faults sources.new)) }
+    ensures later { (B.faults bench.old ≤ B.faults bench.new)
+        × (S.faults sources.old ≤ S.faults sources.new) }
+    ensures cause { IfErr result (IsCounted (B.faults bench.old) (B.faults bench.new)
+        (S.faults sources.old) (S.faults sources.new)) }
 {
     for file in files {
         stage_file::<W, B, S>(alloc, file, bench, sources)?;
@@ -65,12 +69,15 @@ fn stage_file<W: World, B: Bench<W>, S: Sources<W>>(
     bench: &mut B,
     sources: &mut S,
 ) -> Result<(), Cause>
-    ensures ok { OnOk result (HasStaged S.listed S.keeps S.given W.content W.stamps_honest sources.old sources.new (file.now ∷ []) (PutsAll (B.tree bench.old) (B.tree bench.new))) }
-    ensures err { IfErr result (λ cause. (answers : List Given) × Gives S.listed S.keeps S.given W.content W.stamps_honest sources.old sources.new answers
-        × IsStageCause (file.now ∷ []) answers cause) }
+    ensures ok { OnOk result (HasStaged W.World S.Sources sources.old sources.new (file.now ∷ [])
+        (PutsAll (B.tree bench.old) (B.tree bench.new))) }
+    ensures err { IfErr result (HasFailedStaging W.World S.Sources sources.old sources.new
+        (IsStageCause (file.now ∷ []))) }
     ensures runs { B.runs bench.new ≡ B.runs bench.old }
-    ensures later { (B.faults bench.old ≤ B.faults bench.new) × (S.faults sources.old ≤ S.faults sources.new) }
-    ensures cause { IfErr result (IsCounted (B.faults bench.old) (B.faults bench.new) (S.faults sources.old) (S.faults sources.new)) }
+    ensures later { (B.faults bench.old ≤ B.faults bench.new)
+        × (S.faults sources.old ≤ S.faults sources.new) }
+    ensures cause { IfErr result (IsCounted (B.faults bench.old) (B.faults bench.new)
+        (S.faults sources.old) (S.faults sources.new)) }
 {
     let bytes = read_again::<W, S>(alloc, file, sources)?;
     match bench.put(&file.path, bytes.as_slice(), file.executable) {
@@ -88,7 +95,8 @@ fn make_all<W: World, B: Bench<W>>(
     directories: &[RelPath],
     bench: &mut B,
 ) -> Result<(), Cause>
-    ensures tree { OnOk result (Told (B.tree bench.old) (B.tree bench.new) (λ x y. y ≡ with_parents outputs.now (tree_with_directories directories.now x))) }
+    ensures tree { OnOk result (Told (B.tree bench.old) (B.tree bench.new) (λ x y.
+        y ≡ with_parents outputs.now (tree_with_directories directories.now x))) }
     ensures runs { B.runs bench.new ≡ B.runs bench.old }
     ensures later { B.faults bench.old ≤ B.faults bench.new }
     ensures cause { IfErr result (IsStepCause BenchStep.MakeDir (B.faults bench.old) (B.faults bench.new)) }
@@ -139,7 +147,8 @@ fn make_parent<W: World, B: Bench<W>>(
     path: &RelPath,
     bench: &mut B,
 ) -> Result<(), Refused>
-    ensures made { OnOk result (MakesAll (B.tree bench.old) (B.tree bench.new) (option_to_list (parent_of path.now))) }
+    ensures made { OnOk result (MakesAll (B.tree bench.old) (B.tree bench.new)
+        (option_to_list (parent_of path.now))) }
     ensures runs { B.runs bench.new ≡ B.runs bench.old }
     ensures cause { HasCauseOf failed (B.faults bench.old) (B.faults bench.new) result }
 {

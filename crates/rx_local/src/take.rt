@@ -17,12 +17,14 @@ pub fn take_outputs<W: World, B: Bench<W>>(
     bench: &mut B,
 ) -> Result<Vec<FileOut>, Cause>
     ensures paths { IfOk result (λ files. map (λ f. f.path) files.items ≡ outputs.now) }
-    ensures taken { IfOk result (λ files. IfSome (B.tree bench.old) (λ tree. files.items ≡ cut_files outputs.now tree.files)) }
+    ensures taken { IfOk result (λ files. IfSome (B.tree bench.old) (λ tree.
+        files.items ≡ cut_files outputs.now tree.files)) }
     ensures same { B.tree bench.new ≡ B.tree bench.old }
     ensures runs { B.runs bench.new ≡ B.runs bench.old }
     ensures later { B.faults bench.old ≤ B.faults bench.new }
     ensures cause { IfErr result (IsStepCause BenchStep.Take (B.faults bench.old) (B.faults bench.new)) }
-    ensures missing { IfErr result (λ cause. IfMissing cause (λ path. IfSome (B.tree bench.old) (λ tree. first_missing outputs.now tree.files ≡ Some path))) }
+    ensures missing { IfErr result (λ cause. IfMissing cause (λ path.
+        IfSome (B.tree bench.old) (λ tree. first_missing outputs.now tree.files ≡ Some path))) }
 {
     let Ok(mut files) = Vec::with_capacity(alloc, outputs.len()) else {
         return Err(Cause::NoMemory);
@@ -47,7 +49,8 @@ fn take_output<W: World, B: Bench<W>>(
     ensures runs { B.runs bench.new ≡ B.runs bench.old }
     ensures later { B.faults bench.old ≤ B.faults bench.new }
     ensures cause { IfErr result (IsStepCause BenchStep.Take (B.faults bench.old) (B.faults bench.new)) }
-    ensures missing { IfErr result (λ cause. IfMissing cause (λ missing. (missing ≡ path.now) × Takes (B.tree bench.old) path.now None)) }
+    ensures missing { IfErr result (λ cause. IfMissing cause (λ missing.
+        (missing ≡ path.now) × Takes (B.tree bench.old) path.now None)) }
 {
     match bench.take(path) {
         Ok(Some(file)) => Ok(file),

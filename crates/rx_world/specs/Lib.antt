@@ -3,6 +3,7 @@ pub mod Benches
 pub mod Causes
 pub mod Decisions
 pub mod Files
+pub mod Inputs
 pub mod Links
 pub mod Outcomes
 pub mod Places

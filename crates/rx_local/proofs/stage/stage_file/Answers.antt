@@ -7,17 +7,21 @@ pub returns-in_err-bytes-clause-err : goal.returns-in_err-bytes-clause-err
 returns-in_err-bytes-clause-err g c =
     let p = err_from_is_err_and c.from_residual.result c.from_residual.ensures.1 in
     let h = c.in_err-bytes.ensures.err in
-    rw (p.1, p.2) (h.0, h.1, read-cause c.args.file.now _ _ h.0 _ h.2)
+    rw (p.1, p.2)
+    (record { answers = h.answers; gives = h.gives; caused = read-cause c.args.file.now _ _ h.answers _ h.caused })
 
 pub returns-in-Ok-clause-ok : goal.returns-in-Ok-clause-ok
 returns-in-Ok-clause-ok g c = record {
   answers = read_of c.args.file.now c.in_ok-bytes.bytes ∷ [];
   staged = copy_of c.args.file.now c.in_ok-bytes.bytes ∷ [];
-  gives = c.in_ok-bytes.ensures.ok.1;
-  each = staged-one c.args.file.now c.in_ok-bytes.bytes c.in_ok-bytes.ensures.ok.0;
+  gives = c.in_ok-bytes.ensures.gives;
+  each = staged-one c.args.file.now c.in_ok-bytes.bytes c.in_ok-bytes.ensures.digest;
   put = rw c.as_slice.ensures at c.in-Ok.ensures.put;
 }
 
 pub returns-clause-err : goal.returns-clause-err
-returns-clause-err g c =
-    (_, c.in_ok-bytes.ensures.ok.1, (refl, refused-one c.args.file.now c.in_ok-bytes.bytes c.in_ok-bytes.ensures.ok.0))
+returns-clause-err g c = record {
+  answers = read_of c.args.file.now c.in_ok-bytes.bytes ∷ [];
+  gives = c.in_ok-bytes.ensures.gives;
+  caused = (refl, refused-one c.args.file.now c.in_ok-bytes.bytes c.in_ok-bytes.ensures.digest);
+}

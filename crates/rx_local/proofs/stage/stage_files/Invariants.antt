@@ -5,7 +5,7 @@ use Rattle.rx_local.proofs.stage.stage_files.Given as goal
 -- the files up to this one were staged
 abbrev pub invariant-loop-file : goal.invariant-loop-file
 invariant-loop-file g l = record {
-  so_far : HasStaged g.S.Sources.listed g.S.Sources.keeps g.S.Sources.given g.W.World.content g.W.World.stamps_honest l.fn.sources l.sources (take l.file-index l.files) (PutsAll (g.B.Bench.tree l.fn.bench) (g.B.Bench.tree l.bench));
+  so_far : HasStaged g.W.World g.S.Sources l.fn.sources l.sources (take l.file-index l.files) (PutsAll (g.B.Bench.tree l.fn.bench) (g.B.Bench.tree l.bench));
   runs : g.B.Bench.runs l.bench ≡ g.B.Bench.runs l.fn.bench;
   benches : g.B.Bench.faults l.fn.bench ≤ g.B.Bench.faults l.bench;
   sources : g.S.Sources.faults l.fn.sources ≤ g.S.Sources.faults l.sources;

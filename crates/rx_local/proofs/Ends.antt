@@ -1,0 +1,248 @@
+-- How an attempt on a fresh bench ends: before the run, with an outcome, and after the run without one.
+use Rattle.std.proofs.Common.{inl, inr, ◌≡◌, ℕ, ◌⊎◌, List, [], ◌∷◌, ◌++◌, ap, append-nil, refl, subst, sym, ◌∙◌, pos}
+use Rattle.std.specs.Prelude.{Err, IfErr, IfOk, IfSome, None, Ok, Option, Result, Some}
+use Rattle.rx_base.specs.Told.{Told}
+use Rattle.rx_world.specs.declared.attempts.BenchStep.TheVariants.{Run, Take}
+use Rattle.rx_world.specs.declared.attempts.Cause.{Cause}
+use Rattle.rx_world.specs.declared.attempts.Cause.TheVariants.{BenchFault, InputChanged, NoMemory, OutputMissing, OutputTooLarge, SourceFault, Stopped}
+use Rattle.rx_world.specs.declared.benches.Bench as benches
+use Rattle.rx_world.specs.declared.benches.BenchRun.{BenchRun}
+use Rattle.rx_world.specs.declared.input_files.InputFile.{InputFile}
+use Rattle.rx_world.specs.declared.outcomes.Exit.{Exit}
+use Rattle.rx_world.specs.declared.outcomes.FileOut.{FileOut}
+use Rattle.rx_world.specs.declared.outcomes.Outcome.{Outcome}
+use Rattle.rx_world.specs.declared.sources.Given.{Given}
+use Rattle.rx_world.specs.declared.sources.Sources as sources
+use Rattle.rx_world.specs.declared.trees.Tree.{Tree}
+use Rattle.rx_world.specs.declared.world.World as world
+use Rattle.rx_world.specs.Benches.{IsFresh, Runs}
+use Rattle.rx_world.specs.Files.{cut_files}
+use Rattle.rx_world.specs.Outcomes.{IsClean}
+use Rattle.rx_world.specs.Trees.{empty_tree, tree_of, tree_with_directories, tree_with_files, with_parents}
+use Rattle.rx_local.specs.Local.{HasEnded, IfMissing, IsAfterRun, IsBeforeRun, IsCauseOf, IsOnlyRun, IsPrepareCause, IsReadBefore, IsUnmade, Job, LacksOutput, RanAtMostOnce, first_missing, run_of}
+use Rattle.rx_local.specs.Stage.{AreStaged, HasFailedStaging, HasRunToZero, HasStaged, IsCutShort, IsStepCause}
+
+-- ---- causes before the run
+
+prepare-not-after : (cause : Cause) → IsPrepareCause cause → IsAfterRun cause → ⊥
+prepare-not-after (BenchFault step) (inl e) after = absurd (cc)
+prepare-not-after (BenchFault step) (inr e) after = absurd (cc)
+prepare-not-after (InputChanged input) p after = after
+prepare-not-after (OutputMissing path) p after = p
+prepare-not-after (OutputTooLarge limit n) p after = p
+prepare-not-after (SourceFault path) p after = after
+prepare-not-after (Stopped decision) p after = p
+prepare-not-after NoMemory p after = after
+
+prepare-not-unmade : (cause : Cause) → IsPrepareCause cause → IsUnmade cause → ⊥
+prepare-not-unmade (BenchFault step) (inl e) unmade = absurd (cc)
+prepare-not-unmade (BenchFault step) (inr e) unmade = absurd (cc)
+prepare-not-unmade (InputChanged input) p unmade = unmade
+prepare-not-unmade (OutputMissing path) p unmade = p
+prepare-not-unmade (OutputTooLarge limit n) p unmade = p
+prepare-not-unmade (SourceFault path) p unmade = unmade
+prepare-not-unmade (Stopped decision) p unmade = p
+prepare-not-unmade NoMemory p unmade = unmade
+
+prepare-not-missing : (cause : Cause) (Fact : List ℕ → Type 0) → IsPrepareCause cause → IfMissing cause Fact
+prepare-not-missing (BenchFault step) Fact p = tt
+prepare-not-missing (InputChanged input) Fact p = tt
+prepare-not-missing (OutputMissing path) Fact p = absurd p
+prepare-not-missing (OutputTooLarge limit n) Fact p = tt
+prepare-not-missing (SourceFault path) Fact p = tt
+prepare-not-missing (Stopped decision) Fact p = tt
+prepare-not-missing NoMemory Fact p = tt
+
+-- ---- the runs and the tree of a fresh bench
+
+-- its runs, where they are told: none
+abbrev NoRuns : Option (List BenchRun) → Option Tree → Type 0
+NoRuns runs tree = IfSome runs (λ before. (before ≡ []) × (tree ≡ Some empty_tree))
+
+no-runs : (runs : Option (List BenchRun)) (tree : Option Tree) → NoRuns runs tree → IfSome runs (λ all. all ≡ [])
+no-runs None tree h = tt
+no-runs (Some before) tree h = h.0
+
+none-at-most : (runs : Option (List BenchRun)) → IfSome runs (λ all. all ≡ []) → IfSome runs RanAtMostOnce
+none-at-most None h = tt
+none-at-most (Some all) h = inl h
+
+one-at-most : (runs : Option (List BenchRun)) (run : BenchRun) → IfSome runs (λ all. all ≡ run ∷ []) → IfSome runs RanAtMostOnce
+one-at-most None run h = tt
+one-at-most (Some all) run h = inr (run, h)
+
+-- what the staged files, the directories and those of the outputs make of a tree
+abbrev stood : Job → List FileOut → Tree → Tree
+stood j staged tree = with_parents j.command.outputs (tree_with_directories j.directories (tree_with_files staged tree))
+
+abbrev Stands : Job → List FileOut → Option Tree → Option Tree → Type 0
+Stands j staged old mid = Told old mid (λ x y. y ≡ stood j staged x)
+
+stands-is : (j : Job) (staged : List FileOut) (x y : Tree) → Some x ≡ Some empty_tree → y ≡ stood j staged x → y ≡ with_parents j.command.outputs (tree_of staged j.directories)
+stands-is j staged x y e h = let empty : x ≡ empty_tree = cc in h ∙ ap (stood j staged) empty
+
+abbrev IsOneRun : Job → List FileOut → Exit → Option (List BenchRun) → Type 0
+IsOneRun j staged exit runs = IfSome runs (IsOnlyRun j staged exit)
+
+untold : (j : Job) (staged : List FileOut) (exit : Exit) (runs : Option (List BenchRun)) → runs ≡ None → IsOneRun j staged exit runs
+untold j staged exit runs e = subst (IsOneRun j staged exit) (sym e) tt
+
+-- a run on a fresh bench that was made ready is its only one
+only-run : (j : Job) (staged : List FileOut) (exit : Exit) (old mid : Option Tree) (before after : Option (List BenchRun)) → NoRuns before old → Stands j staged old mid → Runs mid before after j.command exit → IsOneRun j staged exit after
+only-run j staged exit old None before after fresh told run = untold j staged exit after run
+only-run j staged exit old (Some t) None after fresh told run = untold j staged exit after run
+only-run j staged exit None (Some t) (Some before) after fresh told run = absurd (cc)
+only-run j staged exit (Some x) (Some t) (Some before) after fresh told run =
+    let ran : List BenchRun = record { command = j.command; tree = t; exit = exit } ∷ [] in
+    subst (IsOneRun j staged exit) (sym run)
+    (ap (λ bs. bs ++ ran) fresh.0 ∙ ap (λ tree. record { command = j.command; tree = tree; exit = exit } ∷ []) (stands-is j staged x t fresh.1 told))
+
+-- the tool makes the same of the tree with and without the directories of the outputs
+same-tool : {W : Type 0} (w : world.Ghosts W) (j : Job) (staged : List FileOut) (x t : Tree) → Some x ≡ Some empty_tree → t ≡ stood j staged x → w.tool j.command t ≡ w.tool j.command (tree_of staged j.directories)
+same-tool w j staged x t e told = ap (w.tool j.command) (stands-is j staged x t e told) ∙ w.parents_made j.command (tree_of staged j.directories)
+
+clean-run : {W : Type 0} (w : world.Ghosts W) (j : Job) (staged : List FileOut) (outcome : Outcome) (old mid : Option Tree) → old ≡ Some empty_tree → Stands j staged old mid → IfSome mid (λ tree. IsClean w.tool j.command tree outcome) → IsClean w.tool j.command (tree_of staged j.directories) outcome
+clean-run w j staged outcome None mid e told clean = absurd (cc)
+clean-run w j staged outcome (Some x) None e told clean = absurd told
+clean-run w j staged outcome (Some x) (Some t) e told clean =
+    let same = same-tool w j staged x t e told in
+    record {
+      exit_is = clean.exit_is ∙ ap (λ (o : Outcome). o.exit) same;
+      files_are = λ zero. clean.files_are zero ∙ ap (λ (o : Outcome). cut_files j.command.outputs o.files) same;
+      none = clean.none;
+    }
+
+lacks-run : {W : Type 0} (w : world.Ghosts W) (j : Job) (staged : List FileOut) (path : List ℕ) (old mid : Option Tree) → old ≡ Some empty_tree → Stands j staged old mid → IfSome mid (λ tree. LacksOutput w.tool j.command tree path) → LacksOutput w.tool j.command (tree_of staged j.directories) path
+lacks-run w j staged path None mid e told lacks = absurd (cc)
+lacks-run w j staged path (Some x) None e told lacks = absurd told
+lacks-run w j staged path (Some x) (Some t) e told lacks =
+    let same = same-tool w j staged x t e told in
+    record {
+      code_is = ap (λ (o : Outcome). o.exit.code) (sym same) ∙ lacks.code_is;
+      first = ap (λ (o : Outcome). first_missing j.command.outputs o.files) (sym same) ∙ lacks.first;
+    }
+
+-- ---- the ends
+
+-- the bench didn't stand ready
+pub ends-unready : {B T W : Type 0} (w : world.Ghosts W) (b : benches.Ghosts B W) (s : sources.Ghosts T W) (j : Job) (old new : B) (before after : T) (cause : Cause)
+    → NoRuns (b.runs old) (b.tree old) → HasFailedStaging w s before after (IsCauseOf w j) cause → IsPrepareCause cause → b.runs new ≡ b.runs old
+    → HasEnded w b s (Some new) j before after (Err cause)
+ends-unready w b s j old new before after cause fresh failed prepare runs =
+    let none : IfSome (b.runs new) (λ all. all ≡ []) = subst (λ o. IfSome o (λ all. all ≡ [])) (sym runs) (no-runs (b.runs old) (b.tree old) fresh) in
+    record {
+      answers = failed.answers;
+      gives = failed.gives;
+      ended = record {
+        caused = failed.caused;
+        not_run = λ _. none;
+        run_once = λ ran. absurd (prepare-not-after cause prepare ran);
+        at_most_once = none-at-most (b.runs new) none;
+        unmade = λ e. absurd (cc);
+        made_none = λ unmade. absurd (prepare-not-unmade cause prepare unmade);
+        lacks = prepare-not-missing cause _ prepare;
+      };
+    }
+
+-- nothing more was to be read
+all-read : (files : List InputFile) (answers : List Given) (staged : List FileOut) → AreStaged files answers staged → IsCutShort files answers
+all-read files answers staged each = record {
+  rest = [];
+  last = [];
+  front = record { front = files; read = answers; staged = staged; files_are = sym (append-nil files); answers_are = sym (append-nil answers); each = each };
+  next = refl;
+}
+
+abbrev IsStepOfRun : ℕ → ℕ → Cause → Type 0
+IsStepOfRun was now cause = IsStepCause Run was now cause ⊎ IsStepCause Take was now cause
+
+module _ {W : Type 0} (w : world.Ghosts W) (j : Job) (answers : List Given) (staged : List FileOut) (each : AreStaged j.files answers staged) where
+  run-cause : (was now : ℕ) (cause : Cause) → IsStepOfRun was now cause → IfMissing cause (λ path. w.tools_honest → LacksOutput w.tool j.command (tree_of staged j.directories) path) → IsCauseOf w j answers cause
+  run-cause was now (BenchFault step) (inl h) missing = subst (λ at. IsReadBefore at j.files answers) (sym h.0) (staged, each)
+  run-cause was now (BenchFault step) (inr h) missing = subst (λ at. IsReadBefore at j.files answers) (sym h.0) (staged, each)
+  run-cause was now (OutputMissing path) step missing = record { staged = staged; each = each; lacks = missing }
+  run-cause was now (InputChanged input) (inl h) missing = absurd h
+  run-cause was now (InputChanged input) (inr h) missing = absurd h
+  run-cause was now (OutputTooLarge limit n) (inl h) missing = absurd h
+  run-cause was now (OutputTooLarge limit n) (inr h) missing = absurd h
+  run-cause was now (SourceFault path) (inl h) missing = absurd h
+  run-cause was now (SourceFault path) (inr h) missing = absurd h
+  run-cause was now (Stopped decision) (inl h) missing = absurd h
+  run-cause was now (Stopped decision) (inr h) missing = absurd h
+  run-cause was now NoMemory step missing = all-read j.files answers staged each
+
+run-not-unmade : (was now : ℕ) (cause : Cause) → IsStepOfRun was now cause → IsUnmade cause → ⊥
+run-not-unmade was now (BenchFault step) (inl h) unmade = let at : step ≡ Run = h.0 in absurd (cc)
+run-not-unmade was now (BenchFault step) (inr h) unmade = let at : step ≡ Take = h.0 in absurd (cc)
+run-not-unmade was now (OutputMissing path) step unmade = unmade
+run-not-unmade was now (InputChanged input) step unmade = unmade
+run-not-unmade was now (OutputTooLarge limit n) step unmade = unmade
+run-not-unmade was now (SourceFault path) step unmade = unmade
+run-not-unmade was now (Stopped decision) step unmade = unmade
+run-not-unmade was now NoMemory step unmade = unmade
+
+if-missing : (cause : Cause) (F G : List ℕ → Type 0) → ((path : List ℕ) → F path → G path) → IfMissing cause F → IfMissing cause G
+if-missing (BenchFault step) F G says h = tt
+if-missing (OutputMissing path) F G says h = says path h
+if-missing (InputChanged input) F G says h = tt
+if-missing (OutputTooLarge limit n) F G says h = tt
+if-missing (SourceFault path) F G says h = tt
+if-missing (Stopped decision) F G says h = tt
+if-missing NoMemory F G says h = tt
+
+module _ {B T W : Type 0} (w : world.Ghosts W) (b : benches.Ghosts B W) (s : sources.Ghosts T W) (j : Job) (old mid new : B) (before after : T)
+    (fresh : IsFresh w.tools_honest (b.tree old) (b.runs old) (b.faults old)) (same : b.runs mid ≡ b.runs old)
+    (staged : HasStaged w s before after j.files (λ files. Stands j files (b.tree old) (b.tree mid))) where
+  no-runs-yet : NoRuns (b.runs mid) (b.tree old)
+  no-runs-yet = subst (λ o. NoRuns o (b.tree old)) (sym same) fresh.no_runs
+
+  one-run : (exit : Exit) → Runs (b.tree mid) (b.runs mid) (b.runs new) j.command exit → IsOneRun j staged.staged exit (b.runs new)
+  one-run exit run = only-run j staged.staged exit (b.tree old) (b.tree mid) (b.runs mid) (b.runs new) no-runs-yet staged.put run
+
+  none-run : b.runs new ≡ b.runs mid → IfSome (b.runs new) (λ all. all ≡ [])
+  none-run e = subst (λ o. IfSome o (λ all. all ≡ [])) (sym e) (no-runs (b.runs mid) (b.tree old) no-runs-yet)
+
+  at-most-once : (b.runs new ≡ b.runs mid) ⊎ HasRunToZero b j.command mid new → IfSome (b.runs new) RanAtMostOnce
+  at-most-once (inl e) = none-at-most (b.runs new) (none-run e)
+  at-most-once (inr ran) = one-at-most (b.runs new) (run_of j staged.staged ran.exit) (one-run ran.exit ran.ran)
+
+  -- the bench stood ready, and the command was run on it
+  pub ends-ready : (was now : ℕ) (result : Result Outcome Cause)
+      → IfOk result (λ outcome. w.tools_honest → IfSome (b.tree mid) (λ tree. IsClean w.tool j.command tree outcome))
+      → IfOk result (λ outcome. Runs (b.tree mid) (b.runs mid) (b.runs new) j.command outcome.exit)
+      → IfOk result (λ outcome. IfSome (b.tree new) (λ tree. outcome.exit.code ≡ pos 0 → outcome.files ≡ cut_files j.command.outputs tree.files))
+      → IfErr result (IsStepOfRun was now)
+      → IfErr result (λ cause. IsBeforeRun cause → b.runs new ≡ b.runs mid)
+      → IfErr result (λ cause. IsAfterRun cause → HasRunToZero b j.command mid new)
+      → IfErr result (λ cause. (b.runs new ≡ b.runs mid) ⊎ HasRunToZero b j.command mid new)
+      → IfErr result (λ cause. IfMissing cause (λ path. w.tools_honest → IfSome (b.tree mid) (λ tree. LacksOutput w.tool j.command tree path)))
+      → IfErr result (λ cause. IfMissing cause (λ path. IfSome (b.tree new) (λ tree. first_missing j.command.outputs tree.files ≡ Some path)))
+      → HasEnded w b s (Some new) j before after result
+  ends-ready was now (Ok outcome) clean ran taken step not_run ended once missing lacks = record {
+    answers = staged.answers;
+    gives = staged.gives;
+    ended = record {
+      of = record {
+        staged = staged.staged;
+        each = staged.each;
+        clean = λ so. clean-run w j staged.staged outcome (b.tree old) (b.tree mid) (fresh.tells so) staged.put (clean so);
+      };
+      made_one = refl;
+      ran = one-run outcome.exit ran;
+      taken = taken;
+    };
+  }
+  ends-ready was now (Err cause) clean ran taken step not_run ended once missing lacks = record {
+    answers = staged.answers;
+    gives = staged.gives;
+    ended = record {
+      caused = run-cause w j staged.answers staged.staged staged.each was now cause step
+          (if-missing cause _ _ (λ path h so. lacks-run w j staged.staged path (b.tree old) (b.tree mid) (fresh.tells so) staged.put (h so)) missing);
+      not_run = λ unrun. none-run (not_run unrun);
+      run_once = λ over. let ran = ended over in record { staged = staged.staged; each = staged.each; exit = ran.exit; code_is = ran.code_is; ran = one-run ran.exit ran.ran };
+      at_most_once = at-most-once once;
+      unmade = λ e. absurd (cc);
+      made_none = λ unmade. absurd (run-not-unmade was now cause step unmade);
+      lacks = lacks;
+    };
+  }
