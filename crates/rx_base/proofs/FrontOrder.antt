@@ -9,14 +9,9 @@ use Rattle.std.specs.Ordering.{is_lt, is_some_and, nat_cmp, ordering_reverse}
 use Rattle.std.specs.Cmp.Lexicographic.{lists_agrees, slice_cmp, slice_partial_cmp}
 use Rattle.std.specs.List.{starts_with}
 use Rattle.rx_base.specs.SortedPaths.{is_before}
+use Rattle.rx_base.proofs.Orderings.{less_not_equal, less_not_greater}
 
--- ---- three answers
-
-pub less_not_greater : Less ≢ Greater
-less_not_greater e = cc e
-
-pub less_not_equal : Less ≢ Equal
-less_not_equal e = cc e
+-- ---- one text before another
 
 pub turned : (x y : List ℕ) → slice_cmp nat_cmp x y ≡ Less → slice_cmp nat_cmp y x ≡ Greater
 turned x y lt = nat_list_cmp_total.antisymm y x ∙ ap ordering_reverse lt

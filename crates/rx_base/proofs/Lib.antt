@@ -1,10 +1,17 @@
+pub mod ByteLists
+pub mod Conditions
 pub mod DigestLemmas
+pub mod DigestOrder
 pub mod FrontOrder
+pub mod Lists
+pub mod Members
+pub mod Orderings
 pub mod Orders
 pub mod PathAbove
 pub mod PathAgain
 pub mod PathLemmas
 pub mod PathBelow
+pub mod PathParts
 pub mod PathShape
 pub mod PathsSorted
 pub mod ResultLemmas

@@ -1,47 +1,16 @@
 -- Strictly sorted lists: the members determine the list.
-use Rattle.std.proofs.Common.{◌≡◌, ℕ, zero, suc, ◌<◌, ◌⊎◌, inl, inr, List, [], ◌∷◌, length, get_or, refl, sym, ◌∙◌, ap, subst, arith}
+use Rattle.std.proofs.Common.{◌≡◌, ◌⊎◌, inl, inr, List, [], ◌∷◌, refl, sym, ◌∙◌, ap, subst}
 use Rattle.std.specs.declared.cmp.Ordering.{Ordering}
 use Rattle.std.specs.declared.cmp.Ordering.TheVariants.{Less, Equal, Greater}
 use Rattle.std.specs.Ordering.{ordering_reverse}
 use Rattle.std.specs.Cmp.{IsTotalOrder, tied_itself}
 use Rattle.std.specs.FinMap.{IsAntisymmetric}
-use Rattle.std.specs.List.{AllByRecursion, Contains}
+use Rattle.std.specs.List.{AllByRecursion}
 use Rattle.std.specs.List.Sorted.{IsStrictlySortedBy}
 use Rattle.rx_base.specs.SortedPaths.{inserted, sorted_once, HasSameMembers}
-
--- ---- members, by recursion
-
-abbrev Among : {K : Type 0} → K → List K → Type 0
-Among q [] = ⊥
-Among q (x ∷ xs) = (x ≡ q) ⊎ Among q xs
-
-Among-at : {K : Type 0} (q : K) (xs : List K) (k : ℕ) → k < length xs → get_or xs k q ≡ q → Among q xs
-Among-at q [] k lt e = absurd (omega arith)
-Among-at q (x ∷ xs) zero lt e = inl e
-Among-at q (x ∷ xs) (suc k) lt e = inr (Among-at q xs k (omega arith) e)
-
-Among-from : {K : Type 0} (q : K) (xs : List K) → Contains xs q → Among q xs
-Among-from q xs c = Among-at q xs c.0 c.1 c.2
-
-Contains-from : {K : Type 0} (q : K) (xs : List K) → Among q xs → Contains xs q
-Contains-from q [] a = absurd a
-Contains-from q (x ∷ xs) (inl e) = (0, omega arith, e)
-Contains-from q (x ∷ xs) (inr a) = let c = Contains-from q xs a in (suc c.0, omega (arith, c.1), c.2)
-
-All-among : {K : Type 0} (P : K → Type 0) (q : K) (xs : List K) → AllByRecursion P xs → Among q xs → P q
-All-among P q [] all a = absurd a
-All-among P q (x ∷ xs) all (inl e) = subst P e all.0
-All-among P q (x ∷ xs) all (inr a) = All-among P q xs all.1 a
-
-All-both : {K : Type 0} (P Q : K → Type 0) (xs : List K) → ((x : K) → P x → Q x) → AllByRecursion P xs → AllByRecursion Q xs
-All-both P Q [] f h = tt
-All-both P Q (x ∷ xs) f h = (f x h.0, All-both P Q xs f h.1)
-
-less_not_equal : Less ≡ Equal → ⊥
-less_not_equal e = cc e
-
-less_not_greater : Less ≡ Greater → ⊥
-less_not_greater e = cc e
+use Rattle.rx_base.proofs.Lists.{All-weaken}
+use Rattle.rx_base.proofs.Members.{All-among, Among, Among-from_contains, Contains-from_among}
+use Rattle.rx_base.proofs.Orderings.{less_not_equal, less_not_greater}
 
 -- ---- an order on the items
 
@@ -104,7 +73,7 @@ module _ {K : Type 0} {R : K → K → Ordering} (o : IsTotalOrder R) (same : Is
   IsStrictlySortedBy-inserted p [] s = (tt, tt)
   IsStrictlySortedBy-inserted p (x ∷ xs) s =
       elim (R p x) as (λ r. R p x ≡ r → IsStrictlySortedBy R (inserted R p (x ∷ xs))) [
-        | Less ↦ λ e. rw e ((e, All-both (λ z. R x z ≡ Less) (λ z. R p z ≡ Less) xs (λ z lt. o.trans p x z e lt) s.0), s)
+        | Less ↦ λ e. rw e ((e, All-weaken (λ z. R x z ≡ Less) (λ z. R p z ≡ Less) xs (λ z lt. o.trans p x z e lt) s.0), s)
         | Equal ↦ λ e. rw e s
         | Greater ↦ λ e. rw e (All-inserted (λ z. R x z ≡ Less) p xs (turned_back p x e) s.0, IsStrictlySortedBy-inserted p xs s.1)
       ] refl
@@ -155,9 +124,9 @@ module _ {K : Type 0} {R : K → K → Ordering} (o : IsTotalOrder R) (same : Is
   pub is_sorted_once : (xs ys : List K) → IsStrictlySortedBy R ys → HasSameMembers xs ys → ys ≡ sorted_once R xs
   is_sorted_once xs ys s m =
       unique ys (sorted_once R xs) s (IsStrictlySortedBy-sorted_once xs)
-      (λ q a. Among-sorted_once q xs (Among-from q xs ((m q).1 (Contains-from q ys a))))
-      (λ q a. Among-from q ys ((m q).0 (Contains-from q xs (Among-from_sorted_once q xs a))))
+      (λ q a. Among-sorted_once q xs (Among-from_contains q xs ((m q).1 (Contains-from_among q ys a))))
+      (λ q a. Among-from_contains q ys ((m q).0 (Contains-from_among q xs (Among-from_sorted_once q xs a))))
 
   pub HasSameMembers-sorted_once : (xs : List K) → HasSameMembers xs (sorted_once R xs)
   HasSameMembers-sorted_once xs q =
-      (λ c. Contains-from q (sorted_once R xs) (Among-sorted_once q xs (Among-from q xs c)), λ c. Contains-from q xs (Among-from_sorted_once q xs (Among-from q (sorted_once R xs) c)))
+      (λ c. Contains-from_among q (sorted_once R xs) (Among-sorted_once q xs (Among-from_contains q xs c)), λ c. Contains-from_among q xs (Among-from_sorted_once q xs (Among-from_contains q (sorted_once R xs) c)))

@@ -6,7 +6,8 @@ use Rattle.std.proofs.lemmas.List.{length-map, map_push, take-map, take_more, ma
 use Rattle.rx_base.specs.Paths.{IsName, IsPath, longest, parts, joined, fronts, prefixes_of}
 use Rattle.rx_base.specs.Texts.{texts}
 use Rattle.rx_base.proofs.PathAgain.{parts-joined}
-use Rattle.rx_base.proofs.PathShape.{All-take, length-joined, weight-take}
+use Rattle.rx_base.proofs.Lists.{All-take}
+use Rattle.rx_base.proofs.PathShape.{length-joined, weight-take}
 
 -- ---- the parts, one after the other
 
@@ -42,7 +43,7 @@ IsPath-named [] zero h le = root_is
 IsPath-named [] (suc n) h le = rw (take-none n) root_is
 IsPath-named (x ∷ xs) n h le =
     rw (parts-joined (x ∷ xs) (omega arith) h)
-    (record { names = take n (x ∷ xs); each = All-take n (x ∷ xs) h; spelled = refl; short = let s = length-joined-take n (x ∷ xs) in omega arith })
+    (record { names = take n (x ∷ xs); each = All-take IsName n (x ∷ xs) h; spelled = refl; short = let s = length-joined-take n (x ∷ xs) in omega arith })
 
 pub IsPath-front : (path : List ℕ) (n : ℕ) → IsPath path → IsPath (joined (take n (parts path)))
 IsPath-front path n p = rw p.spelled (IsPath-named p.names n p.each (rw p.spelled at p.short))

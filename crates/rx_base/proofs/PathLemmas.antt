@@ -1,13 +1,13 @@
 -- Paths, part by part, as the loops go.
-use Rattle.std.proofs.Common.{◌≡◌, ℕ, ◌+◌, ◌<◌, ◌≤◌, Bool, true, false, List, [], ◌∷◌, ◌++◌, length, get_or, take, drop, Ok, refl, sym, ap, ◌∙◌, append_assoc, arith}
+use Rattle.std.proofs.Common.{◌≡◌, ℕ, ◌+◌, ◌<◌, ◌≤◌, List, [], ◌∷◌, ◌++◌, length, get_or, take, drop, Ok, refl, sym, ap, ◌∙◌, append_assoc, arith}
 use Rattle.std.specs.Borrow.{Bor}
 use Rattle.std.proofs.lemmas.List.{at_drop_more, map_more, length-map, length-take-le}
-use Rattle.std.proofs.lemmas.Slice.Eq.{bytes_eq-Decides}
 use Rattle.std.specs.Prelude.{codes}
-use Rattle.std.specs.Str.{bytes_eq}
 use Rattle.rx_base.specs.Paths.{with_part, with_parts, joined}
 use Rattle.rx_base.specs.Results.{◌>>=◌}
 use Rattle.rx_base.specs.Texts.{texts}
+use Rattle.rx_base.proofs.ByteLists.{bytes_eq-other}
+pub use Rattle.std.proofs.lemmas.Bool.{false_from_ne_true as not_true}
 
 -- one more name, behind a slash
 pub joined_push : (names : List (List ℕ)) (name : List ℕ) → 0 < length names → joined (names ++ name ∷ []) ≡ joined names ++ 47 ∷ name
@@ -22,17 +22,10 @@ unfolding with_parts
 with_parts-drop all names i part h =
     at_drop_more (with_parts names) all i part h.0 ∙ ap (λ (p : List ℕ). with_part names p >>= λ next. with_parts next (drop (i + 1) all)) (sym h.1)
 
-pub not_true : (b : Bool) → (b ≡ true → ⊥) → b ≡ false
-not_true true h = absurd (h refl)
-not_true false h = refl
-
-differs : (xs ys : List ℕ) → (xs ≡ ys → ⊥) → bytes_eq xs ys ≡ false
-differs xs ys h = not_true (bytes_eq xs ys) (λ e. h ((bytes_eq-Decides xs ys).0 e))
-
 -- a part that is a name
 pub with_part_name : (names : List (List ℕ)) (part : List ℕ) → (part ≡ [] → ⊥) → (part ≡ codes "." → ⊥) → (part ≡ codes ".." → ⊥) → with_part names part ≡ Ok (names ++ part ∷ [])
 unfolding with_part
-with_part_name names part a b c = rw (differs part [] a, differs part (codes ".") b, differs part (codes "..") c) refl
+with_part_name names part a b c = rw (bytes_eq-other part [] a, bytes_eq-other part (codes ".") b, bytes_eq-other part (codes "..") c) refl
 
 -- the text of one more name: the first, or one behind a slash
 joined_first : (names : List (Bor (List ℕ))) (d : Bor (List ℕ)) → 0 < length names → joined (texts (take 1 names)) ≡ (get_or names 0 d).now

@@ -1,6 +1,6 @@
 -- Where the paths above and below a path stand in a sorted list.
-use Rattle.std.proofs.Common.{◌≡◌, ◌≢◌, ℕ, zero, suc, ◌+◌, ◌<◌, ◌≤◌, Bool, true, false, not, ◌||◌, ◌⊎◌, inl, inr, nat_lt, ◌==◌, List, [], ◌∷◌, ◌++◌, length, take, drop, get_or, slice_index, Some, None, Result, Ok, Err, refl, sym, ap, subst, ◌∙◌, arith, true≢false, position}
-use Rattle.std.proofs.lemmas.Bool.{cases_lt}
+use Rattle.std.proofs.Common.{◌≡◌, ℕ, zero, suc, ◌+◌, ◌<◌, ◌≤◌, Bool, true, false, not, ◌||◌, ◌⊎◌, inl, inr, nat_lt, ◌==◌, List, [], ◌∷◌, ◌++◌, length, take, drop, get_or, slice_index, Some, None, Result, Ok, Err, refl, sym, ap, subst, ◌∙◌, arith, true≢false, position}
+use Rattle.std.proofs.lemmas.Bool.{cases_Bool, cases_lt, not-true}
 use Rattle.std.proofs.lemmas.Bool.Decides.{nat_tests}
 use Rattle.std.proofs.lemmas.List.{append_assoc, length-append, length-take-le, take-append-drop}
 use Rattle.std.proofs.lemmas.Option.{none-some}
@@ -14,8 +14,7 @@ use Rattle.std.proofs.lemmas.List.Sums.{prefix_len_is, prefix_len_passes}
 use Rattle.std.proofs.lemmas.Map.Keys.{Less-from_sorted}
 use Rattle.std.proofs.lemmas.Map.Text.{is_eq-slice_cmp}
 use Rattle.std.proofs.lemmas.Slice.Eq.{bytes_eq-Decides}
-use Rattle.std.specs.declared.cmp.Ordering.{Ordering}
-use Rattle.std.specs.declared.cmp.Ordering.TheVariants.{Less, Equal, Greater}
+use Rattle.std.specs.declared.cmp.Ordering.TheVariants.{Less, Equal}
 use Rattle.std.specs.Cmp.Lexicographic.{slice_cmp}
 use Rattle.std.specs.List.{list_any, position_or_len}
 use Rattle.std.specs.Option.{is_some}
@@ -25,20 +24,10 @@ use Rattle.std.specs.Result.{result_ok}
 use Rattle.std.specs.Str.{bytes_eq}
 use Rattle.rx_base.specs.Paths.{is_below}
 use Rattle.rx_base.specs.SortedPaths.{first_above, first_at_or_above, first_below, is_before, AreSorted}
-use Rattle.rx_base.proofs.FrontOrder.{between, front_less, less_not_equal, not_both, not_self, started, starts, starts_not_before, turned}
+use Rattle.rx_base.proofs.FrontOrder.{between, front_less, not_both, not_self, started, starts, starts_not_before, turned}
+use Rattle.rx_base.proofs.Orderings.{greater_not_equal, less_not_equal, Less-from_is_lt}
 
 -- ---- the first place at which a test passes
-
-bool_cases : (b : Bool) → (b ≡ true) ⊎ (b ≡ false)
-bool_cases true = inl refl
-bool_cases false = inr refl
-
-not_true : (b : Bool) → not b ≡ true → b ≡ false
-not_true true h = absurd (true≢false (sym h))
-not_true false h = refl
-
-greater_not_equal : Greater ≢ Equal
-greater_not_equal e = cc e
 
 position_at : (p : List ℕ → Bool) (xs : List (List ℕ)) (i : ℕ) → i < length xs → p (get_or xs i []) ≡ true → ((k : ℕ) → k < i → p (get_or xs k []) ≡ false) → position p xs ≡ Some i
 position_at p xs i within here before =
@@ -59,7 +48,7 @@ position_none_at p xs k d lt e =
       | true ↦ λ t. absurd (none-some (position_or_len p xs) (sym (rw t at e)))
       | false ↦ λ t.
           let all : length xs ≤ position_or_len p xs = grind (arith, nat_tests) in
-          not_true (p (get_or xs k d)) (prefix_len_passes (λ x. not (p x)) xs k d (omega arith))
+          not-true (p (get_or xs k d)) (prefix_len_passes (λ x. not (p x)) xs k d (omega arith))
     ] refl
 
 -- a place is found just where the test passes at some
@@ -116,11 +105,6 @@ is_below-front path (suc at) within (inr slash) =
     let e : path ≡ take (suc at) path ++ 47 ∷ drop (suc (suc at)) path = sym (take-append-drop (suc at) path) ∙ ap (λ t. take (suc at) path ++ t) (drop-cons path (suc at) 0 within ∙ ap (λ c. c ∷ drop (suc (suc at)) path) slash) in
     rw some (starts path (take (suc at) path ++ 47 ∷ []) (drop (suc (suc at)) path) (e ∙ sym (append_assoc (take (suc at) path) (47 ∷ []) (drop (suc (suc at)) path))))
 
-is_lt-Less : (o : Ordering) → is_lt o ≡ true → o ≡ Less
-is_lt-Less Less h = refl
-is_lt-Less Equal h = absurd (true≢false (sym h))
-is_lt-Less Greater h = absurd (true≢false (sym h))
-
 -- a longer front isn't before a shorter one
 front_order : (path low high : List ℕ) (at k : ℕ) → slice_cmp nat_cmp high low ≡ Less → at ≤ k → k ≤ length path → high ≡ take k path → low ≡ take at path → ⊥
 front_order path low high at k lt le within is_high is_low =
@@ -171,7 +155,7 @@ module _ (paths : List (List ℕ)) (s : AreSorted paths) where
   found text (Ok i) within equal =
       let is : get_or paths i [] ≡ text = (bytes_eq-Decides _ _).0 (sym (is_eq-slice_cmp (get_or paths i []) text) ∙ ap is_eq (equal [])) in
       sym (position_at (λ path. bytes_eq text path) paths i within ((bytes_eq-Decides _ _).1 (sym is))
-      (λ k lt. elim (bool_cases (bytes_eq text (get_or paths k []))) [
+      (λ k lt. elim (cases_Bool (bytes_eq text (get_or paths k []))) [
         | inr differs ↦ differs
         | inl ties ↦
             let same : text ≡ get_or paths k [] = (bytes_eq-Decides _ _).0 ties in
@@ -179,7 +163,7 @@ module _ (paths : List (List ℕ)) (s : AreSorted paths) where
       ]))
   found text (Err i) within parted =
       let parts = parted (rises text) in
-      sym (position_none (λ path. bytes_eq text path) paths (λ k lt. elim (bool_cases (bytes_eq text (get_or paths k []))) [
+      sym (position_none (λ path. bytes_eq text path) paths (λ k lt. elim (cases_Bool (bytes_eq text (get_or paths k []))) [
         | inr differs ↦ differs
         | inl ties ↦
             let equal : slice_cmp nat_cmp (get_or paths k []) text ≡ Equal = subst (λ t. slice_cmp nat_cmp t text ≡ Equal) ((bytes_eq-Decides _ _).0 ties) (tied_itself nat_list_cmp_total text) in
@@ -210,7 +194,7 @@ module _ (paths : List (List ℕ)) (s : AreSorted paths) where
       let p = position-Some (λ other. bytes_eq (take at path) other) paths i [] e in
       let is : take at path ≡ get_or paths i [] = (bytes_eq-Decides _ _).0 p.1 in
       position_at (λ other. is_below path other) paths i p.0 (rw (← is) (is_below-front path at within upper))
-      (λ k lt. elim (bool_cases (is_below path (get_or paths k []))) [
+      (λ k lt. elim (cases_Bool (is_below path (get_or paths k []))) [
         | inr differs ↦ differs
         | inl above ↦
             let f = later path at k h (omega (arith, lt, p.0)) above in
@@ -219,7 +203,7 @@ module _ (paths : List (List ℕ)) (s : AreSorted paths) where
 
   pub none_found : (path : List ℕ) → NoUpper paths path (length path) → first_above paths path ≡ None
   none_found path h =
-      position_none (λ other. is_below path other) paths (λ k lt. elim (bool_cases (is_below path (get_or paths k []))) [
+      position_none (λ other. is_below path other) paths (λ k lt. elim (cases_Bool (is_below path (get_or paths k []))) [
         | inr differs ↦ differs
         | inl above ↦ let f = later path (length path) k h lt above in absurd (omega (arith, f.1, f.2))
       ])
@@ -230,7 +214,7 @@ module _ (paths : List (List ℕ)) (s : AreSorted paths) where
       let p = position-Some (λ other. is_below path other) paths i [] e in
       let f = front_of path (get_or paths i []) p.1 in
       position_at (λ other. bytes_eq path other || is_below path other) paths i p.0 (rw p.1 (or-true (bytes_eq path (get_or paths i []))))
-      (λ k lt. elim (bool_cases (bytes_eq path (get_or paths k []))) [
+      (λ k lt. elim (cases_Bool (bytes_eq path (get_or paths k []))) [
         | inr differs ↦ rw (differs, p.2 k lt) refl
         | inl ties ↦
             let same : path ≡ get_or paths k [] = (bytes_eq-Decides _ _).0 ties in
@@ -250,7 +234,7 @@ module _ (paths : List (List ℕ)) (s : AreSorted paths) where
       elim (cases_lt i j) [
         | inr same ↦ subst (λ n. is_before (get_or paths n d) path ≡ true) {x = j} {y = i} (omega arith) before
         | inl below ↦
-            ap is_lt (nat_list_cmp_total.trans (get_or paths i d) (get_or paths j d) (path ++ 47 ∷ []) (Less-from_sorted (slice_cmp nat_cmp) paths i j d s below lt) (is_lt-Less _ before))
+            ap is_lt (nat_list_cmp_total.trans (get_or paths i d) (get_or paths j d) (path ++ 47 ∷ []) (Less-from_sorted (slice_cmp nat_cmp) paths i j d s below lt) (Less-from_is_lt _ before))
       ]
 
   module _ (path : List ℕ) (at : ℕ) (some : (length path == 0) ≡ false)
@@ -260,7 +244,7 @@ module _ (paths : List (List ℕ)) (s : AreSorted paths) where
 
     -- what is before all that begin so doesn't
     not_earlier : (k : ℕ) → k < at → is_below (get_or paths k []) path ≡ false
-    not_earlier k lt = elim (bool_cases (is_below (get_or paths k []) path)) [
+    not_earlier k lt = elim (cases_Bool (is_below (get_or paths k []) path)) [
       | inr differs ↦ differs
       | inl below ↦
           let late : is_before (get_or paths k []) path ≡ false = rw (begins k below) (starts_not_before (path ++ 47 ∷ []) (drop (length (path ++ 47 ∷ [])) (get_or paths k []))) in
@@ -274,7 +258,7 @@ module _ (paths : List (List ℕ)) (s : AreSorted paths) where
     pub below_none : (at < length paths → is_below (get_or paths at []) path ≡ false) → first_below paths path ≡ None
     below_none differs = position_none (λ other. is_below other path) paths (λ k lt. elim (cases_lt k at) [
       | inl early ↦ not_earlier k early
-      | inr from ↦ elim (bool_cases (is_below (get_or paths k []) path)) [
+      | inr from ↦ elim (cases_Bool (is_below (get_or paths k []) path)) [
         | inr none ↦ none
         | inl below ↦ elim (cases_lt at k) [
           | inr same ↦ absurd (true≢false (sym below ∙ subst (λ n. is_below (get_or paths n []) path ≡ false) {x = at} {y = k} (omega arith) (differs (omega arith))))

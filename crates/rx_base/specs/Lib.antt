@@ -5,3 +5,4 @@ pub mod Results
 pub mod SortedPaths
 pub mod Texts
 pub mod Told
+pub mod Works

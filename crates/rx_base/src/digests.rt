@@ -14,7 +14,8 @@ use std::alloc::Global;
 use thiserror::Error;
 
 /// A SHA-256 hash (FIPS 180-4), and how many bytes were hashed: `remote_execution.proto` Digest.
-#[derive(Clone, Copy, Debug, PartialEq, Eq)]
+/// Digests are ordered by the hash's bytes, then by the size.
+#[derive(Clone, Copy, Debug, PartialEq, Eq, PartialOrd, Ord)]
 pub struct Digest {
     pub hash: [u8; 32],
     pub size: u64,

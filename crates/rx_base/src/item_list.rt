@@ -1,6 +1,6 @@
 //! Lists of any items that a definition can compute with.
 
-ghost use Rattle.std.specs.Prelude.{◌≡◌, ◌==◌, ◌++◌, ◌∷◌, [], IfErr, OnErr, OnOk, length};
+ghost use Rattle.std.specs.Prelude.{◌≡◌, ◌==◌, ◌++◌, ◌∷◌, [], IfErr, IfOk, OnErr, OnOk, length};
 
 use crate::memory::{NoMemory, TryClone};
 use std::alloc::{AllocFailed, Global};
@@ -76,12 +76,21 @@ impl<T> Items<T> {
     }
 }
 
-impl<T: TryClone + Drop> TryClone for Items<T> {
-    fn try_clone(&self, alloc: Global) -> Result<Items<T>, NoMemory> {
-        let mut inner = Vec::with_capacity(alloc, self.inner.len())?;
-        for item in &self.inner {
+impl<T: TryClone + Drop> Items<T> {
+    /// Copies of these items.
+    pub fn copy_of(alloc: Global, items: &[T]) -> Result<Items<T>, NoMemory>
+        ensures { IfOk result (λ copy. copy ≡ items.now) }
+    {
+        let mut inner = Vec::with_capacity(alloc, items.len())?;
+        for item in items {
             inner.push(item.try_clone(alloc)?)?;
         }
         Ok(Items { inner })
+    }
+}
+
+impl<T: TryClone + Drop> TryClone for Items<T> {
+    fn try_clone(&self, alloc: Global) -> Result<Items<T>, NoMemory> {
+        Items::copy_of(alloc, self.as_slice())
     }
 }

@@ -33,7 +33,8 @@ fn zero_at(text: &str) -> Option<usize>
 
 /// The names after the parts of a text.
 pub(crate) fn walk<'a>(names: Vec<&'a str>, text: &'a str) -> Result<Vec<&'a str>, PathFault>
-    ensures { Gives fault.NoMemory (λ v. texts v.items) result (with_text (texts names.entry.items) text.now) }
+    ensures { Gives fault.NoMemory (λ v. texts v.items) result
+        (with_text (texts names.entry.items) text.now) }
 {
     let mut names = names;
     for part in text.split('/') {
@@ -45,7 +46,8 @@ pub(crate) fn walk<'a>(names: Vec<&'a str>, text: &'a str) -> Result<Vec<&'a str
 /// The names after one more part.
 #[tactic(auto, using(std::proofs::lemmas::List::map_push), unfolding(crate::specs::Paths::with_part))]
 fn step<'a>(mut names: Vec<&'a str>, part: &'a str) -> Result<Vec<&'a str>, PathFault>
-    ensures { Gives fault.NoMemory (λ v. texts v.items) result (with_part (texts names.entry.items) part.now) }
+    ensures { Gives fault.NoMemory (λ v. texts v.items) result
+        (with_part (texts names.entry.items) part.now) }
 {
     match part {
         "" | "." => Ok(names),

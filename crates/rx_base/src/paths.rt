@@ -112,7 +112,7 @@ impl RelPath {
         if other.is_root() {
             return !self.is_root();
         }
-        goes_on(self.as_str().as_bytes(), other.as_str().as_bytes())
+        starts_with_directory(self.as_str().as_bytes(), other.as_str().as_bytes())
     }
 
     /// The path one name above this one; the root has none.
@@ -124,7 +124,7 @@ impl RelPath {
         }
         let mut names = parts_of(alloc, self.text.as_str())?;
         names.pop();
-        Ok(Some(named(alloc, &names)?))
+        Ok(Some(path_of_names(alloc, &names)?))
     }
 
     /// The paths above this one, the upper first, without the root.
@@ -135,14 +135,14 @@ impl RelPath {
         let mut prefixes = Items::new(alloc);
         for count in 1..names.len() {
             let (above, _) = names.split_at(count);
-            prefixes.push(named(alloc, above)?)?;
+            prefixes.push(path_of_names(alloc, above)?)?;
         }
         Ok(prefixes)
     }
 }
 
 /// The path of these names.
-fn named(alloc: Global, names: &[&str]) -> Result<RelPath, NoMemory>
+fn path_of_names(alloc: Global, names: &[&str]) -> Result<RelPath, NoMemory>
     requires { IsPath (joined (texts names.now)) }
     ensures { IfOk result (λ path. path ≡ joined (texts names.now)) }
 {
@@ -150,14 +150,14 @@ fn named(alloc: Global, names: &[&str]) -> Result<RelPath, NoMemory>
     Ok(RelPath { text })
 }
 
-/// Whether the bytes begin with these and a slash.
-fn goes_on(bytes: &[u8], front: &[u8]) -> bool
-    ensures { result ≡ starts_with nat_eq bytes.now (front.now ++ 47 ∷ []) }
+/// Whether the bytes begin with a directory's, which a slash follows.
+fn starts_with_directory(bytes: &[u8], directory: &[u8]) -> bool
+    ensures { result ≡ starts_with nat_eq bytes.now (directory.now ++ 47 ∷ []) }
 {
-    if !bytes.starts_with(front) {
+    if !bytes.starts_with(directory) {
         return false;
     }
-    let (_, rest) = bytes.split_at(front.len());
+    let (_, rest) = bytes.split_at(directory.len());
     rest.starts_with(b"/")
 }
 

@@ -1,12 +1,11 @@
 //! Lists of paths in the order of their bytes, and searches in these: which path of a list stands
 //! above another, and which below.
 
-ghost use Rattle.std.specs.Prelude.{◌≡◌, IfOk, position, true, false};
+ghost use Rattle.std.specs.Prelude.{◌≡◌, IfOk, position};
 ghost use Rattle.std.specs.Ordering.{nat_cmp};
-ghost use Rattle.std.specs.List.Sorted.{IsPartitionPoint};
 ghost use Rattle.std.specs.Str.{bytes_eq};
 ghost use Rattle.std.specs.Cmp.Lexicographic.{slice_cmp};
-ghost use Rattle.rx_base.specs.SortedPaths.{first_above, first_at_or_above, first_below, is_before, sorted_paths, AreSorted, HasSameMembers};
+ghost use Rattle.rx_base.specs.SortedPaths.{first_above, first_at_or_above, first_below, is_before, sorted_paths, AreSorted, HasSameMembers, IsFirstNotBefore};
 
 use crate::item_list::Items;
 use crate::memory::NoMemory;
@@ -72,7 +71,7 @@ pub fn first_below(paths: &[RelPath], path: &RelPath) -> Option<usize>
 }
 
 /// Where a text stands among these sorted paths.
-fn index_of(paths: &[RelPath], text: &[u8]) -> Option<usize>
+pub(crate) fn index_of(paths: &[RelPath], text: &[u8]) -> Option<usize>
     requires { AreSorted paths.now }
     ensures { result ≡ position (λ other. bytes_eq text.now other) paths.now }
 {
@@ -89,7 +88,7 @@ fn index_of(paths: &[RelPath], text: &[u8]) -> Option<usize>
 /// with it and a slash.
 fn first_not_before(paths: &[RelPath], path: &RelPath) -> usize
     requires { AreSorted paths.now }
-    ensures { IsPartitionPoint (λ other. is_before other path.now ≡ true) (λ other. is_before other path.now ≡ false) paths.now result }
+    ensures { IsFirstNotBefore paths.now path.now result }
 {
     let text = path.as_str().as_bytes();
     paths.partition_point(
