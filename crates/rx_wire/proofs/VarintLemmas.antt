@@ -39,9 +39,6 @@ with_more value weight n c (Ok v) =
 
 -- ---- one more byte
 
-rest_is : (bytes : List ℕ) (at : ℕ) → at < length bytes → drop at bytes ≡ get_or bytes at 0 ∷ drop (at + 1) bytes
-rest_is bytes at lt = drop_more bytes at 0 lt
-
 weight_small : (i weight : ℕ) → weight ≡ 128 ^ i → i ≤ 9 → weight ≤ 2 ^ 63
 weight_small i weight e le = rw e (pow-le-pow_right (lit< tt) le)
 
@@ -69,7 +66,7 @@ goes_on bytes at i value weight b r lt inside is high byte =
     let up : i + 1 ≡ suc i = omega arith in
     let test : nat_lt b 128 ≡ false = le-ltb _ _ high in
     let one : with_low value weight i (varint_in at (9 - i) (drop (at + i) bytes)) ≡ with_low (value + (b - 128) * weight) (weight * 128) (i + 1) (varint_in at (9 - (i + 1)) (drop (at + i + 1) bytes)) =
-    rw (k, rest_is bytes (at + i) inside, ← is, test) (with_more value weight i (b - 128) (varint_in at (9 - (i + 1)) (drop (at + i + 1) bytes))) in
+    rw (k, drop_more bytes (at + i) 0 inside, ← is, test) (with_more value weight i (b - 128) (varint_in at (9 - (i + 1)) (drop (at + i + 1) bytes))) in
     record {
       so_far = rw (place, ← low) (sym one ∙ r.so_far);
       worth = rw (r.worth, up, pow-suc) refl;
@@ -86,7 +83,7 @@ ends bytes at i value weight b r lt inside is low =
     let test : nat_lt b 128 ≡ true = lt-ltb _ _ low in
     let whole : b % 128 ≡ b = omega arith in
     let one : with_low value weight i (varint_in at (9 - i) (drop (at + i) bytes)) ≡ Ok (value + weight * b, i + 1) =
-    rw (k, rest_is bytes (at + i) inside, ← is, test) refl in
+    rw (k, drop_more bytes (at + i) 0 inside, ← is, test) refl in
     let product : value + weight * b ≡ value + b * weight = omega arith in
     let sum : at + (i + 1) ≡ at + i + 1 = omega arith in
     rw (sym r.so_far ∙ one, product, whole, sum) refl
@@ -104,7 +101,7 @@ pub tenth : (bytes : List ℕ) (at value weight b : ℕ) → IsReading bytes at 
 unfolding varint_in varint_at
 tenth bytes at value weight b r inside is low =
     let test : nat_le b 1 ≡ true = le-leb _ _ low in
-    let one : with_low value weight 9 (varint_in at 0 (drop (at + 9) bytes)) ≡ Ok (value + weight * b, 10) = rw (rest_is bytes (at + 9) inside, ← is, test) refl in
+    let one : with_low value weight 9 (varint_in at 0 (drop (at + 9) bytes)) ≡ Ok (value + weight * b, 10) = rw (drop_more bytes (at + 9) 0 inside, ← is, test) refl in
     let product : value + weight * b ≡ value + b * weight = omega arith in
     rw (sym r.so_far ∙ one, product) refl
 
@@ -113,7 +110,7 @@ pub too_long : (bytes : List ℕ) (at value weight b : ℕ) → IsReading bytes 
 unfolding varint_in varint_at
 too_long bytes at value weight b r inside is high =
     let test : nat_le b 1 ≡ false = lt-leb _ _ high in
-    let one : with_low value weight 9 (varint_in at 0 (drop (at + 9) bytes)) ≡ Err (VarintTooLong at) = rw (rest_is bytes (at + 9) inside, ← is, test) refl in
+    let one : with_low value weight 9 (varint_in at 0 (drop (at + 9) bytes)) ≡ Err (VarintTooLong at) = rw (drop_more bytes (at + 9) 0 inside, ← is, test) refl in
     rw (sym r.so_far ∙ one) refl
 
 pub at_nine : (bytes : List ℕ) (at i value weight : ℕ) → IsReading bytes at i value weight → 9 ≤ i → i ≤ 9 → IsReading bytes at 9 value weight
