@@ -1,11 +1,13 @@
 -- What stands at a path of genuine entries.
 use Rattle.std.proofs.Common.{◌≡◌, ℕ, Bool, true, false, cond, List, [], ◌∷◌, ◌++◌, Result, Ok, Err, IfOk, bytes_eq, refl}
+use Rattle.std.proofs.lemmas.List.Elements.{All-from_recursion}
 use Rattle.std.proofs.lemmas.Slice.Eq.{bytes_eq-Decides}
+use Rattle.std.specs.List.{AllByRecursion}
 use Rattle.rx_fakes.specs.Entries.{AreGenuine, IsGenuine}
 use Rattle.rx_world.specs.declared.looks.Look.{Look}
 use Rattle.rx_world.specs.declared.looks.Stamp.{Stamp}
 use Rattle.rx_world.specs.declared.sources.SourceEntry.{SourceEntry}
-use Rattle.rx_world.specs.Sources.{GivesContent, HasBytes, IsRead, entry_at}
+use Rattle.rx_world.specs.Sources.{GivesContent, HasBytes, HoldContent, IsRead, entry_at}
 
 chosen_is : (P : SourceEntry → Type 0) (b : Bool) (x y : SourceEntry) → P x → P y → P (cond b x y)
 chosen_is P true x y p q = p
@@ -38,3 +40,11 @@ read_content honest holds path entries (Err e) all is = tt
 pub genuine-more : (honest : Type 0) (holds : List ℕ → Stamp → List ℕ) (entries : List SourceEntry) (entry : SourceEntry) → AreGenuine honest holds entries → IsGenuine honest holds entry → AreGenuine honest holds (entries ++ entry ∷ [])
 genuine-more honest holds [] entry all is = (is, tt)
 genuine-more honest holds (e ∷ es) entry all is = (all.0, genuine-more honest holds es entry all.1 is)
+
+contents_of : (honest : Type 0) (holds : List ℕ → Stamp → List ℕ) (entries : List SourceEntry) → AreGenuine honest holds entries → honest → AllByRecursion (λ entry. GivesContent holds entry.path entry.look entry.bytes) entries
+contents_of honest holds [] all h = tt
+contents_of honest holds (entry ∷ entries) all h = (all.0.content h, contents_of honest holds entries all.1 h)
+
+-- genuine entries hold what the world has
+pub genuine-holds : (honest : Type 0) (holds : List ℕ → Stamp → List ℕ) (entries : List SourceEntry) → AreGenuine honest holds entries → honest → HoldContent holds entries
+genuine-holds honest holds entries all h = All-from_recursion _ entries (contents_of honest holds entries all h)

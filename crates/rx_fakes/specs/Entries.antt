@@ -1,6 +1,7 @@
 -- Paths of a source tree in memory that a world may vouch for.
-use Rattle.std.specs.Prelude.{ℕ, List}
+use Rattle.std.specs.Prelude.{ℕ, Bool, List, length}
 use Rattle.std.specs.List.{AllByRecursion}
+use Rattle.rx_world.specs.declared.looks.Look.TheVariants.{File}
 use Rattle.rx_world.specs.declared.looks.Stamp.{Stamp}
 use Rattle.rx_world.specs.declared.sources.SourceEntry.{SourceEntry}
 use Rattle.rx_world.specs.Sources.{GivesContent, HasBytes}
@@ -12,3 +13,11 @@ pub record IsGenuine (honest : Type 0) (holds : List ℕ → Stamp → List ℕ)
 
 abbrev pub AreGenuine : Type 0 → (List ℕ → Stamp → List ℕ) → List SourceEntry → Type 0
 AreGenuine honest holds entries = AllByRecursion (IsGenuine honest holds) entries
+
+-- the stamp of a file with these bytes
+abbrev pub stamp_of : List ℕ → ℕ → Stamp
+stamp_of bytes mark = record { size = length bytes; mark = mark }
+
+-- a file at a path
+abbrev pub file_entry : List ℕ → Stamp → Bool → List ℕ → SourceEntry
+file_entry path stamp executable bytes = record { path = path; look = File stamp executable; bytes = bytes }

@@ -3,7 +3,6 @@
 ghost use Rattle.std.specs.Prelude.{◌≡◌, Some};
 
 use crate::Script;
-use crate::copies::{copy_command, copy_exit};
 use crate::files::{add_directory, add_file, take_file};
 use rx_base::{Items, RelPath, TryClone};
 use rx_world::{
@@ -48,8 +47,8 @@ impl<K: Contents> Bench<Toy<K>> for ToyBench {
     fn run(&mut self, command: &Command) -> Result<Exit, Refused> {
         self.script.call()?;
         let made = toy_run(self.alloc, command, &self.tree)?;
-        let command = copy_command(self.alloc, command)?;
-        let exit = copy_exit(self.alloc, &made.exit)?;
+        let command = command.try_clone(self.alloc)?;
+        let exit = made.exit.try_clone(self.alloc)?;
         let after = Tree {
             files: made.files,
             directories: self.tree.directories.try_clone(self.alloc)?,

@@ -1,9 +1,9 @@
 //! The paths of a source tree in memory.
 
-ghost use Rattle.std.specs.Prelude.{◌≡◌, ◌++◌, ◌∷◌, [], IfOk, MatchOption, OnErr, OnOk, Some, length};
-ghost use Rattle.rx_fakes.specs.Entries.{IsGenuine};
-ghost use Rattle.rx_world.specs.declared.looks.Look.TheVariants.{Absent, Dir, File, Other};
-ghost use Rattle.rx_world.specs.Sources.{GivesContent, HasBytes, IsRead, Lists, entry_at};
+ghost use Rattle.std.specs.Prelude.{◌≡◌, ◌++◌, ◌∷◌, [], IfOk, MatchOption, None, OnErr, OnOk, Some};
+ghost use Rattle.rx_fakes.specs.Entries.{IsGenuine, file_entry, stamp_of};
+ghost use Rattle.rx_world.specs.declared.looks.Look.TheVariants.{Absent, Dir, Other};
+ghost use Rattle.rx_world.specs.Sources.{GivesContent, HasBytes, HoldContent, IsRead, Lists, entry_at};
 
 use crate::found::list_files;
 use rx_base::{Bytes, Items, NoMemory, RelPath, TryClone};
@@ -50,14 +50,31 @@ impl<K: Contents> SourceEntries<K> {
         executable: bool,
         bytes: Bytes,
     ) -> Result<(), NoMemory>
-        requires { K.honest → bytes ≡ K.holds path (record { size = length bytes; mark = mark }) }
-        ensures ok { OnOk result (self.new ≡ self.old ++ record { path = path; look = File (record { size = length bytes; mark = mark }) executable; bytes = bytes } ∷ []) }
+        requires { K.honest → bytes ≡ K.holds path (stamp_of bytes mark) }
+        ensures ok { OnOk result
+            (self.new ≡ self.old ++ file_entry path (stamp_of bytes mark) executable bytes ∷ []) }
         ensures err { OnErr result (self.new ≡ self.old) }
     {
         let stamp = Stamp {
             size: bytes.len() as u64,
             mark,
         };
+        self.add_stamped(path, stamp, executable, bytes)
+    }
+
+    /// Adds a file whose stamp may have another size than its bytes.
+    pub fn add_stamped(
+        &mut self,
+        path: RelPath,
+        stamp: Stamp,
+        executable: bool,
+        bytes: Bytes,
+    ) -> Result<(), NoMemory>
+        requires { K.honest → bytes ≡ K.holds path stamp }
+        ensures ok { OnOk result
+            (self.new ≡ self.old ++ file_entry path stamp executable bytes ∷ []) }
+        ensures err { OnErr result (self.new ≡ self.old) }
+    {
         self.add(SourceEntry {
             path,
             look: Look::File { stamp, executable },
@@ -67,7 +84,8 @@ impl<K: Contents> SourceEntries<K> {
 
     /// Adds a directory.
     pub fn add_dir(&mut self, alloc: Global, path: RelPath) -> Result<(), NoMemory>
-        ensures ok { OnOk result (self.new ≡ self.old ++ record { path = path; look = Dir; bytes = [] } ∷ []) }
+        ensures ok { OnOk result
+            (self.new ≡ self.old ++ record { path = path; look = Dir; bytes = [] } ∷ []) }
         ensures err { OnErr result (self.new ≡ self.old) }
     {
         self.add(SourceEntry {
@@ -79,7 +97,8 @@ impl<K: Contents> SourceEntries<K> {
 
     /// Adds what is neither a file nor a directory.
     pub fn add_other(&mut self, alloc: Global, path: RelPath) -> Result<(), NoMemory>
-        ensures ok { OnOk result (self.new ≡ self.old ++ record { path = path; look = Other; bytes = [] } ∷ []) }
+        ensures ok { OnOk result
+            (self.new ≡ self.old ++ record { path = path; look = Other; bytes = [] } ∷ []) }
         ensures err { OnErr result (self.new ≡ self.old) }
     {
         self.add(SourceEntry {
@@ -98,9 +117,21 @@ impl<K: Contents> SourceEntries<K> {
         Ok(())
     }
 
+    /// Takes over other entries, where there are some.
+    pub(crate) fn change_to(&mut self, other: Option<SourceEntries<K>>)
+        ensures none { other ≡ None → self.new ≡ self.old }
+        ensures holds { K.honest → HoldContent K.holds self.new }
+    {
+        if let Some(other) = other {
+            *self = other;
+        }
+        let _ = &self.entries;
+    }
+
     /// What stands at a path.
     pub(crate) fn look(&self, path: &RelPath) -> Look
-        ensures { result ≡ (entry_at path.now self.now).look }
+        ensures look { result ≡ (entry_at path.now self.now).look }
+        ensures holds { K.honest → HoldContent K.holds self.now }
     {
         match find_entry(&self.entries, path) {
             Some(entry) => entry.look,
@@ -112,7 +143,9 @@ impl<K: Contents> SourceEntries<K> {
     pub(crate) fn read(&self, alloc: Global, path: &RelPath) -> Result<(Look, Bytes), NoMemory>
         ensures read { IfOk result (λ read. IsRead self.now path.now read.0 read.1) }
         ensures bytes { IfOk result (λ read. HasBytes read.0 read.1) }
-        ensures honest { IfOk result (λ read. K.honest → GivesContent K.holds path.now read.0 read.1) }
+        ensures honest { IfOk result (λ read. K.honest →
+            GivesContent K.holds path.now read.0 read.1) }
+        ensures holds { K.honest → HoldContent K.holds self.now }
     {
         read_entry(alloc, &self.entries, path)
     }
@@ -124,7 +157,8 @@ impl<K: Contents> SourceEntries<K> {
         under: &RelPath,
         most: usize,
     ) -> Result<Items<Found>, NoMemory>
-        ensures { IfOk result (Lists (Some self.now) under.now most) }
+        ensures list { IfOk result (Lists (Some self.now) under.now most) }
+        ensures holds { K.honest → HoldContent K.holds self.now }
     {
         list_files(alloc, &self.entries, under, most)
     }
@@ -132,7 +166,9 @@ impl<K: Contents> SourceEntries<K> {
 
 /// The first entry at a path.
 fn find_entry<'a>(entries: &'a [SourceEntry], path: &RelPath) -> Option<&'a SourceEntry>
-    ensures { MatchOption result (entry_at path.now entries.now ≡ record { path = path.now; look = Absent; bytes = [] }) (λ entry. entry_at path.now entries.now ≡ entry.now) }
+    ensures { MatchOption result
+        (entry_at path.now entries.now ≡ record { path = path.now; look = Absent; bytes = [] })
+        (λ entry. entry_at path.now entries.now ≡ entry.now) }
 {
     for entry in entries {
         if entry.path == *path {

@@ -1,10 +1,10 @@
 //! Files and directories of a tree in memory.
 
 ghost use Rattle.std.specs.Prelude.{◌≡◌, IfOk, IfSome, OnErr, OnOk, option_map};
+ghost use Rattle.rx_fakes.specs.Placing.{file_out};
 ghost use Rattle.rx_world.specs.Files.{all_placed_by, file_at, with_file};
 ghost use Rattle.rx_world.specs.Trees.{tree_with_directory, tree_with_file, with_prefixes};
 
-use crate::copies::copy_file;
 use crate::placing::place_in;
 use rx_base::{Bytes, Items, NoMemory, RelPath, TryClone};
 use rx_world::{FileOut, Tree};
@@ -33,7 +33,7 @@ pub(crate) fn take_file(
     ensures path { IfOk result (λ file. IfSome file (λ f. f.path ≡ path.now)) }
 {
     match find_file(files, path) {
-        Some(file) => Ok(Some(copy_file(alloc, file)?)),
+        Some(file) => Ok(Some(file.try_clone(alloc)?)),
         None => Ok(None),
     }
 }
@@ -46,7 +46,8 @@ pub(crate) fn put_file(
     bytes: &[u8],
     executable: bool,
 ) -> Result<(), NoMemory>
-    ensures ok { OnOk result (files.new ≡ with_file (record { path = path.now; bytes = bytes.now; executable = executable }) files.old) }
+    ensures ok { OnOk result
+        (files.new ≡ with_file (file_out path.now bytes.now executable) files.old) }
     ensures err { OnErr result (files.new ≡ files.old) }
 {
     let file = FileOut {
@@ -63,7 +64,8 @@ fn add_directories(
     directories: &mut Items<RelPath>,
     paths: &[RelPath],
 ) -> Result<(), NoMemory>
-    ensures { OnOk result (directories.new ≡ all_placed_by (λ path. path) paths.now directories.old) }
+    ensures { OnOk result
+        (directories.new ≡ all_placed_by (λ path. path) paths.now directories.old) }
 {
     for path in paths {
         place_in(alloc, directories, path.try_clone(alloc)?)?;
@@ -100,7 +102,8 @@ pub(crate) fn add_file(
     bytes: &[u8],
     executable: bool,
 ) -> Result<(), NoMemory>
-    ensures { OnOk result (tree.new ≡ tree_with_file (record { path = path.now; bytes = bytes.now; executable = executable }) tree.old) }
+    ensures { OnOk result
+        (tree.new ≡ tree_with_file (file_out path.now bytes.now executable) tree.old) }
 {
     let above = path.prefixes(alloc)?;
     add_directories(alloc, &mut tree.directories, above.as_slice())?;

@@ -31,7 +31,8 @@ pub(crate) fn list_files(
 /// All that is found, in the order of the paths. Of two entries at one path the first counts, so they
 /// are placed from the last on.
 fn in_order(alloc: Global, entries: &[SourceEntry]) -> Result<Vec<Found>, NoMemory>
-    ensures { IfOk result (λ found. found.items ≡ first_placed_by (λ f. f.path) (map found_of entries.now)) }
+    ensures { IfOk result (λ found.
+        found.items ≡ first_placed_by (λ f. f.path) (map found_of entries.now)) }
 {
     let mut found = Vec::new(alloc);
     for at in (0..entries.len()).rev() {
@@ -61,7 +62,8 @@ fn is_file(found: &Found) -> bool
 }
 
 fn keep_under(found: &mut Vec<Found>, under: &RelPath)
-    ensures { found.new.items ≡ filter (λ f. is_below f.path under.now || bytes_eq f.path under.now) found.old.items }
+    ensures { found.new.items
+        ≡ filter (λ f. is_below f.path under.now || bytes_eq f.path under.now) found.old.items }
 {
     found.retain(|f| lies_under(&f.path, under));
 }

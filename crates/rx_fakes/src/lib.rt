@@ -5,8 +5,6 @@
 
 mod bench;
 mod benches;
-mod copies;
-mod desk;
 mod entries;
 mod files;
 mod found;
@@ -22,7 +20,6 @@ mod told;
 
 pub use bench::ToyBench;
 pub use benches::ToyBenches;
-pub use desk::{MemoryDesk, MemoryFront};
 pub use entries::SourceEntries;
 pub use honest::honest_read;
 pub use place::MemoryPlace;
@@ -30,9 +27,7 @@ pub use quiet_sources::QuietSources;
 pub use script::Script;
 pub use sink::{MemorySink, QuietSink};
 pub use source::{MemorySource, QuietSource};
-pub use sources::{Change, MemorySources};
+pub use sources::{Change, MemorySources, When};
 
-#[cfg(test)]
-mod rows;
 #[cfg(test)]
 mod tests;

@@ -3,9 +3,8 @@
 ghost use Rattle.std.specs.Prelude.{◌≡◌, IfOk, Some};
 
 use crate::Script;
-use crate::copies::copy_files;
 use crate::files::put_file;
-use rx_base::{Items, NoMemory, RelPath};
+use rx_base::{Items, NoMemory, RelPath, TryClone};
 use rx_world::{Failed, FileOut, Place};
 use std::alloc::Global;
 
@@ -19,16 +18,20 @@ pub struct MemoryPlace {
 }
 
 impl MemoryPlace {
-    /// A place that holds copies of these files.
-    pub fn new(alloc: Global, files: &[FileOut], script: Script) -> Result<MemoryPlace, NoMemory>
-        ensures files { IfOk result (λ place. place.files ≡ files.now) }
-        ensures opening { IfOk result (λ place. place.opening ≡ files.now) }
+    /// A place that holds these files.
+    pub fn new(
+        alloc: Global,
+        files: Items<FileOut>,
+        script: Script,
+    ) -> Result<MemoryPlace, NoMemory>
+        ensures files { IfOk result (λ place. place.files ≡ files) }
+        ensures opening { IfOk result (λ place. place.opening ≡ files) }
         ensures script { IfOk result (λ place. place.script ≡ script) }
     {
         Ok(MemoryPlace {
             alloc,
-            files: copy_files(alloc, files)?,
-            opening: copy_files(alloc, files)?,
+            opening: files.try_clone(alloc)?,
+            files,
             script,
         })
     }

@@ -3,7 +3,7 @@
 
 use crate::{
     Change, MemoryPlace, MemorySink, MemorySource, MemorySources, Script, SourceEntries, ToyBench,
-    ToyBenches, honest_read,
+    ToyBenches, When, honest_read,
 };
 use rx_base::{Bytes, Items, RelPath, TryClone};
 use rx_world::{
@@ -44,7 +44,7 @@ fn sink(rt: HostRuntime) -> Result<(), Fail> {
 fn place(rt: HostRuntime) -> Result<(), Fail> {
     let alloc = rt.alloc();
     let path = RelPath::read(alloc, "d/a")?;
-    let mut place = MemoryPlace::new(alloc, &[], failing(alloc, &[2])?)?;
+    let mut place = MemoryPlace::new(alloc, Items::new(alloc), failing(alloc, &[2])?)?;
     assert_eq!(rt; place.place(&path, b"abc", true), Ok(()));
     assert_eq!(rt; place.place(&path, b"de", true), Err(Failed));
     assert_eq!(rt; place.place(&path, b"fgh", false), Ok(()));
@@ -111,7 +111,10 @@ fn sources(rt: HostRuntime) -> Result<(), Fail> {
     let alloc = rt.alloc();
     let path = RelPath::read(alloc, "d")?;
     let entries: SourceEntries<Brand> = SourceEntries::new(alloc);
-    let change = Some(Change { after: 2, entries });
+    let change = Some(Change {
+        when: When::AfterCalls(2),
+        entries,
+    });
     let mut sources = MemorySources::new(alloc, tree(alloc)?, change, Script::empty(alloc));
     assert_eq!(rt; sources.look(&path), Ok(Look::Dir));
     assert_eq!(rt; sources.list(&path, 5)?.len(), 1);

@@ -16,7 +16,8 @@ pub(crate) fn tell(
     look: Look,
     bytes: Option<Bytes>,
 ) -> Result<(), NoMemory>
-    ensures ok { OnOk result (given.new ≡ given.old ++ record { path = path.now; look = look; bytes = bytes } ∷ []) }
+    ensures ok { OnOk result
+        (given.new ≡ given.old ++ record { path = path.now; look = look; bytes = bytes } ∷ []) }
     ensures err { OnErr result (given.new ≡ given.old) }
 {
     let path = path.try_clone(alloc)?;
