@@ -1,5 +1,5 @@
 -- A read from bytes in memory.
-use Rattle.std.proofs.Common.{◌≡◌, ℕ, ◌+◌, ◌<◌, ◌≤◌, List, [], ◌++◌, arith, drop, drop_of_length-le, length, length-drop, min, sym, take}
+use Rattle.std.proofs.Common.{◌≡◌, ℕ, ◌+◌, ◌<◌, ◌≤◌, List, [], ◌++◌, arith, drop, drop_of_length-le, length, length-drop, max, min, sym, take}
 use Rattle.std.proofs.lemmas.List.{drop-drop, take-append-drop}
 
 -- what is left goes on after the bytes that were copied
@@ -7,5 +7,5 @@ pub left_after : (bytes new : List ℕ) (at count : ℕ) → take count new ≡ 
 left_after bytes new at count copied = rw (copied, ← drop-drop count at bytes) (sym (take-append-drop count (drop at bytes)))
 
 -- no byte is copied into some room only at the end
-pub left_ends : (bytes old : List ℕ) (at count : ℕ) → at ≤ length bytes → count ≡ min (length (drop at bytes)) (length old) → count ≡ 0 → 0 < length old → drop (at + count) bytes ≡ []
-left_ends bytes old at count within counted none room = drop_of_length-le bytes (omega (arith, within, counted, none, room, length-drop at bytes))
+pub left_ends : (bytes old : List ℕ) (at most count : ℕ) → at ≤ length bytes → count ≡ min (min (length (drop at bytes)) (length old)) (max most 1) → count ≡ 0 → 0 < length old → drop (at + count) bytes ≡ []
+left_ends bytes old at most count within counted none room = drop_of_length-le bytes (omega (arith, within, counted, none, room, length-drop at bytes))

@@ -10,6 +10,8 @@ use std::alloc::Global;
 #[derive(Debug, Drop)]
 pub struct MemorySink {
     pub bytes: Vec<u8>,
+    /// How many bytes a call takes at most. A zero counts as one.
+    pub most: usize,
     pub script: Script,
 }
 
@@ -22,13 +24,14 @@ pub struct QuietSink {
 }
 
 impl MemorySink {
-    /// Nothing was written.
+    /// Nothing was written, and a call takes all that it is given.
     pub fn new(alloc: Global, script: Script) -> MemorySink
         ensures bytes { result.bytes.items ≡ [] }
         ensures script { result.script ≡ script }
     {
         MemorySink {
             bytes: Vec::new(alloc),
+            most: usize::MAX,
             script,
         }
     }
@@ -54,8 +57,10 @@ impl Sink for MemorySink {
 
     fn write(&mut self, piece: &[u8]) -> Result<usize, Failed> {
         self.script.call()?;
-        match self.bytes.extend_from_slice(piece) {
-            Ok(()) => Ok(piece.len()),
+        let count = piece.len().min(self.most.max(1));
+        let (front, _) = piece.split_at(count);
+        match self.bytes.extend_from_slice(front) {
+            Ok(()) => Ok(count),
             Err(_) => Err(self.script.fault()),
         }
     }

@@ -10,6 +10,8 @@ use rx_world::{Failed, Source};
 pub struct MemorySource {
     pub bytes: Vec<u8>,
     pub at: usize,
+    /// How many bytes a call gives at most. A zero counts as one.
+    pub most: usize,
     pub script: Script,
     ghost within: { at ≤ length bytes.items },
 }
@@ -23,7 +25,7 @@ pub struct QuietSource {
 }
 
 impl MemorySource {
-    /// All these bytes are left.
+    /// All these bytes are left, and a call gives as many as there is room for.
     pub fn new(bytes: Vec<u8>, script: Script) -> MemorySource
         ensures bytes { result.bytes ≡ bytes }
         ensures at { result.at ≡ 0 }
@@ -32,6 +34,7 @@ impl MemorySource {
         MemorySource {
             bytes,
             at: 0,
+            most: usize::MAX,
             script,
         }
     }
@@ -54,7 +57,7 @@ impl Source for MemorySource {
 
     fn read(&mut self, into: &mut [u8]) -> Result<usize, Failed> {
         self.script.call()?;
-        let count = read_from(&self.bytes, self.at, into);
+        let count = read_from(&self.bytes, self.at, self.most, into);
         self.at += count;
         Ok(count)
     }
@@ -66,14 +69,14 @@ impl Source for QuietSource {
     ghost faults = { λ s. 0 };
 
     fn read(&mut self, into: &mut [u8]) -> Result<usize, Failed> {
-        let count = read_from(&self.bytes, self.at, into);
+        let count = read_from(&self.bytes, self.at, usize::MAX, into);
         self.at += count;
         Ok(count)
     }
 }
 
-/// Reads bytes from an offset on: as many as are left and as there is room for.
-fn read_from(bytes: &[u8], at: usize, into: &mut [u8]) -> usize
+/// Reads bytes from an offset on: as many as are left, as there is room for and as may come at most.
+fn read_from(bytes: &[u8], at: usize, most: usize, into: &mut [u8]) -> usize
     requires { at ≤ length bytes.now }
     ensures within { at + result ≤ length bytes.now }
     ensures len { length into.new ≡ length into.old }
@@ -82,16 +85,16 @@ fn read_from(bytes: &[u8], at: usize, into: &mut [u8]) -> usize
     ensures end { result ≡ 0 → 0 < length into.old → drop (at + result) bytes.now ≡ [] }
 {
     let (_, left) = bytes.split_at(at);
-    copy_front(left, into)
+    copy_front(left, most.max(1), into)
 }
 
-/// Copies as many bytes as both have, and answers how many.
-fn copy_front(from: &[u8], into: &mut [u8]) -> usize
-    ensures count { result ≡ min (length from.now) (length into.old) }
+/// Copies as many bytes as both have, but so many at most, and answers how many.
+fn copy_front(from: &[u8], most: usize, into: &mut [u8]) -> usize
+    ensures count { result ≡ min (min (length from.now) (length into.old)) most }
     ensures len { length into.new ≡ length into.old }
     ensures copied { take result into.new ≡ take result from.now }
 {
-    let count = from.len().min(into.len());
+    let count = from.len().min(into.len()).min(most);
     let (front, _) = from.split_at(count);
     into[..count].copy_from_slice(front);
     count

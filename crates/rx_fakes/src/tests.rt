@@ -7,7 +7,7 @@ use crate::{
 };
 use rx_base::{Bytes, Items, RelPath, TryClone};
 use rx_world::{
-    Bench, BenchMaker, Command, Failed, Look, Place, Refused, Sink, Source, Sources, Toy,
+    Bench, BenchMaker, Command, Failed, Look, Place, Refused, Sink, Source, Sources, Stamp, Toy,
 };
 use std::alloc::{AllocError, Global};
 use std::marker::Brand;
@@ -27,6 +27,10 @@ fn source(rt: HostRuntime) -> Result<(), Fail> {
     assert_eq!(rt; source.read(&mut buffer), Err(Failed));
     assert_eq!(rt; source.read(&mut buffer), Ok(1));
     assert_eq!(rt; source.read(&mut buffer), Ok(0));
+    let mut slow = MemorySource::new(b"de".to_vec(alloc)?, Script::empty(alloc));
+    slow.most = 1;
+    assert_eq!(rt; slow.read(&mut buffer), Ok(1));
+    assert_eq!(rt; buffer, *b"db");
     Ok(())
 }
 
@@ -36,7 +40,9 @@ fn sink(rt: HostRuntime) -> Result<(), Fail> {
     let mut sink = MemorySink::new(alloc, failing(alloc, &[1])?);
     assert_eq!(rt; sink.write(b"de"), Err(Failed));
     assert_eq!(rt; sink.write(b"fg"), Ok(2));
-    assert_eq!(rt; sink.bytes.as_slice(), b"fg".as_slice());
+    sink.most = 1;
+    assert_eq!(rt; sink.write(b"hi"), Ok(1));
+    assert_eq!(rt; sink.bytes.as_slice(), b"fgh".as_slice());
     Ok(())
 }
 
@@ -70,6 +76,10 @@ fn make_bench<M: BenchMaker<Toy<Brand>>>(maker: &mut M) -> Result<M::B, Failed> 
     maker.make()
 }
 
+fn take_back<M: BenchMaker<Toy<Brand>>>(maker: &mut M, bench: M::B) {
+    maker.done(bench);
+}
+
 fn command(alloc: Global, output: RelPath) -> Result<Command, AllocError> {
     Ok(Command {
         words: Items::new(alloc),
@@ -81,19 +91,23 @@ fn command(alloc: Global, output: RelPath) -> Result<Command, AllocError> {
     })
 }
 
-/// What the tool makes at `b`, where `b` held `abc`.
-fn made_at_b(alloc: Global) -> Result<Option<Bytes>, Fail> {
+/// What the tool makes at `b`, where `b` held `abc`, and how many benches came back.
+fn made_at_b(alloc: Global) -> Result<(Option<Bytes>, Option<usize>), Fail> {
     let dir = RelPath::read(alloc, "d")?;
     let path = RelPath::read(alloc, "b")?;
     let command = command(alloc, path.try_clone(alloc)?)?;
     let mut maker = ToyBenches::new(alloc, Vec::new(alloc), Script::empty(alloc));
     let mut bench: ToyBench = make_bench(&mut maker)?;
-    Ok(output_of(&mut bench, &command, &dir, &path)?)
+    let made = output_of(&mut bench, &command, &dir, &path)?;
+    take_back(&mut maker, bench);
+    Ok((made, maker.returned.map(|benches| benches.len())))
 }
 
 #[test]
 fn bench(rt: HostRuntime) -> Result<(), Fail> {
-    let bytes = made_at_b(rt.alloc())?.ok_or("no file")?;
+    let (bytes, benches) = made_at_b(rt.alloc())?;
+    let bytes = bytes.ok_or("no file")?;
+    assert_eq!(rt; benches, Some(1));
     assert_eq!(rt; bytes.as_slice(), b"b\nb 3 294\n".as_slice());
     Ok(())
 }
@@ -119,6 +133,28 @@ fn sources(rt: HostRuntime) -> Result<(), Fail> {
     assert_eq!(rt; sources.look(&path), Ok(Look::Dir));
     assert_eq!(rt; sources.list(&path, 5)?.len(), 1);
     assert_eq!(rt; sources.look(&path), Ok(Look::Absent));
+    Ok(())
+}
+
+/// A file that another takes the place of once it was looked at, and a path that fails.
+#[test]
+fn courses(rt: HostRuntime) -> Result<(), Fail> {
+    let alloc = rt.alloc();
+    let path = RelPath::read(alloc, "d/a")?;
+    let mut entries: SourceEntries<Brand> = SourceEntries::new(alloc);
+    let stamp = Stamp { size: 9, mark: 8 };
+    entries.add_stamped(path.try_clone(alloc)?, stamp, false, Bytes::new(alloc))?;
+    let when = When::AfterLook(path.try_clone(alloc)?);
+    let change = Some(Change { when, entries });
+    let mut sources = MemorySources::new(alloc, tree(alloc)?, change, Script::empty(alloc));
+    let (first, bytes) = sources.read(&path)?;
+    assert_eq!(rt; bytes.as_slice(), b"abc".as_slice());
+    assert_eq!(rt; sources.look(&path), Ok(first));
+    let executable = false;
+    assert_eq!(rt; sources.look(&path), Ok(Look::File { stamp, executable }));
+    sources.broken.push(path.try_clone(alloc)?)?;
+    assert_eq!(rt; sources.look(&path), Err(Failed));
+    assert_eq!(rt; sources.reads(), 1);
     Ok(())
 }
 
