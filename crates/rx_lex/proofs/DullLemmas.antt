@@ -5,7 +5,7 @@ use Rattle.std.proofs.lemmas.Bool.Decides.{nat_tests}
 use Rattle.rx_lex.specs.Letters.{Letter, begins, is_blank}
 use Rattle.rx_lex.specs.Quiet.{IsDull, is_dull}
 use Rattle.rx_lex.proofs.ShorterLemmas.{behind_all_short, behind_number_short}
-use Rattle.rx_lex.specs.Pieces.{behind_all, behind_number, begins_digit, raw_at, raw_behind, space_at, comment_at, literal_at, number_at, word_at, mark_at, header_at, front, plain_front, or_else, whole, is_name, is_digit, is_exponent, begins_name, Front, Kind, Number, Word, Blank, LineEnd, Mark}
+use Rattle.rx_lex.specs.Pieces.{behind_all, behind_number, begins_digit, raw_at, raw_behind, space_at, comment_at, literal_at, number_at, word_at, mark_at, header_at, front, plain_front, or_else, whole, is_name, is_digit, is_exponent, is_sign, is_double_step, is_single_step, Front, Kind, Number, Word, Blank, LineEnd, Mark}
 
 -- what follows a run doesn't go on with what passes the test
 abbrev pub Stops : (ℕ → Bool) → List Letter → Type 0
@@ -30,9 +30,6 @@ all_append test (l ∷ run) rest h =
 abbrev pub may_continue : ℕ → Bool
 may_continue b = is_name b || b == 46 || b == 43 || b == 45 || b == 39
 
-number_stop : (n d s e q x : Bool) → n ≡ false → d ≡ false → s ≡ false → q ≡ false → (n || d || (s && e) || (q && x)) ≡ false
-number_stop n d s e q x a b c f = rw (a, b, c, f) refl
-
 apart : (n d p m q : Bool) → (n || d || p || m || q) ≡ false → (n ≡ false) × (d ≡ false) × ((p || m) ≡ false) × (q ≡ false)
 apart false false false false false h = (refl, refl, refl, refl)
 apart true d p m q h = absurd (grind arith)
@@ -44,17 +41,48 @@ apart false false false false true h = absurd (grind arith)
 dull_quote : (b : ℕ) → is_dull b ≡ true → (b == 39) ≡ false
 dull_quote b h = grind (arith, nat_tests)
 
-pub number_append : (last : ℕ) (run rest : List Letter) → IsDull run → Stops may_continue rest → behind_number last (run ++ rest) ≡ behind_number last run ++ rest
-number_append last [] [] d h = refl
-number_append last [] (l ∷ rest) d h =
+no_exponent : (b : ℕ) → is_name b ≡ false → is_exponent b ≡ false
+no_exponent b h = grind (arith, nat_tests)
+
+not_both : (q n e s : Bool) → q ≡ false → s ≡ false → ((q && n) || (e && s)) ≡ false
+not_both q n false s a b = rw a refl
+not_both q n true s a b = rw (a, b) refl
+
+not_either : (q n e s : Bool) → q ≡ false → e ≡ false → ((q && n) || (e && s)) ≡ false
+not_either q n e s a b = rw (a, b) refl
+
+neither : (n d : Bool) → n ≡ false → d ≡ false → (n || d) ≡ false
+neither n d a b = rw (a, b) refl
+
+number_stops : (l : Letter) (rest : List Letter) → may_continue l.byte ≡ false → behind_number (l ∷ rest) ≡ l ∷ rest
+number_stops l [] h =
     let a = apart (is_name l.byte) (l.byte == 46) (l.byte == 43) (l.byte == 45) (l.byte == 39) h in
-    rw (number_stop (is_name l.byte) (l.byte == 46) (l.byte == 43 || l.byte == 45) (is_exponent last) (l.byte == 39) (begins_name rest) a.0 a.1 a.2 a.3) refl
-number_append last (l ∷ run) rest d h =
-    let q = dull_quote l.byte d.0 in
-    rw q (choose_same (is_name l.byte || l.byte == 46 || ((l.byte == 43 || l.byte == 45) && is_exponent last) || false)
-    (behind_number l.byte (run ++ rest)) (behind_number l.byte run ++ rest) (l ∷ (run ++ rest)) ((l ∷ run) ++ rest)
-    (number_append l.byte run rest d.1 h) refl
-    ∙ sym (choose_append (is_name l.byte || l.byte == 46 || ((l.byte == 43 || l.byte == 45) && is_exponent last) || false) (behind_number l.byte run) (l ∷ run) rest))
+    rw (neither (is_name l.byte) (l.byte == 46) a.0 a.1) refl
+number_stops l (m ∷ rest) h =
+    let a = apart (is_name l.byte) (l.byte == 46) (l.byte == 43) (l.byte == 45) (l.byte == 39) h in
+    rw (
+      not_either (l.byte == 39) (is_name m.byte) (is_exponent l.byte) (is_sign m.byte) a.3 (no_exponent l.byte a.0),
+      neither (is_name l.byte) (l.byte == 46) a.0 a.1,
+    ) refl
+
+pub number_append : (run rest : List Letter) → IsDull run → Stops may_continue rest → behind_number (run ++ rest) ≡ behind_number run ++ rest
+number_append [] [] d h = refl
+number_append [] (l ∷ rest) d h = number_stops l rest h
+number_append (l ∷ []) [] d h = sym (choose_append (is_single_step l.byte) [] (l ∷ []) [])
+number_append (l ∷ []) (m ∷ rest) d h =
+    let a = apart (is_name m.byte) (m.byte == 46) (m.byte == 43) (m.byte == 45) (m.byte == 39) h in
+    rw (not_both (l.byte == 39) (is_name m.byte) (is_exponent l.byte) (is_sign m.byte) (dull_quote l.byte d.0) a.2)
+    (choose_same (is_single_step l.byte) (behind_number (m ∷ rest)) (m ∷ rest) (l ∷ m ∷ rest) (l ∷ m ∷ rest) (number_stops m rest h) refl
+    ∙ sym (choose_append (is_single_step l.byte) [] (l ∷ []) (m ∷ rest)))
+number_append (l ∷ m ∷ run) rest d h =
+    choose_same (is_double_step l.byte m.byte) (behind_number (run ++ rest)) (behind_number run ++ rest)
+    (cond (is_single_step l.byte) (behind_number (m ∷ (run ++ rest))) (l ∷ m ∷ (run ++ rest)))
+    (cond (is_single_step l.byte) (behind_number (m ∷ run)) (l ∷ m ∷ run) ++ rest)
+    (number_append run rest d.1.1 h)
+    (choose_same (is_single_step l.byte) (behind_number (m ∷ (run ++ rest))) (behind_number (m ∷ run) ++ rest)
+    (l ∷ m ∷ (run ++ rest)) (l ∷ m ∷ (run ++ rest)) (number_append (m ∷ run) rest d.1 h) refl
+    ∙ sym (choose_append (is_single_step l.byte) (behind_number (m ∷ run)) (l ∷ m ∷ run) rest))
+    ∙ sym (choose_append (is_double_step l.byte m.byte) (behind_number run) (cond (is_single_step l.byte) (behind_number (m ∷ run)) (l ∷ m ∷ run)) rest)
 
 dull_no_quote : (b : ℕ) → is_dull b ≡ true → (b == 34) ≡ false
 dull_no_quote b h = grind (arith, nat_tests)
@@ -155,11 +183,13 @@ all_dull : (test : ℕ → Bool) (run : List Letter) → IsDull run → IsDull (
 all_dull test [] d = tt
 all_dull test (l ∷ run) d = choose_run (test l.byte) (behind_all test run) (l ∷ run) (all_dull test run d.1) d
 
-number_dull : (last : ℕ) (run : List Letter) → IsDull run → IsDull (behind_number last run)
-number_dull last [] d = tt
-number_dull last (l ∷ run) d =
-    choose_run (is_name l.byte || l.byte == 46 || ((l.byte == 43 || l.byte == 45) && is_exponent last) || (l.byte == 39 && begins_name run))
-    (behind_number l.byte run) (l ∷ run) (number_dull l.byte run d.1) d
+number_dull : (run : List Letter) → IsDull run → IsDull (behind_number run)
+number_dull [] d = tt
+number_dull (l ∷ []) d = choose_run (is_single_step l.byte) [] (l ∷ []) tt d
+number_dull (l ∷ m ∷ run) d =
+    choose_run (is_double_step l.byte m.byte) (behind_number run) (cond (is_single_step l.byte) (behind_number (m ∷ run)) (l ∷ m ∷ run))
+    (number_dull run d.1.1)
+    (choose_run (is_single_step l.byte) (behind_number (m ∷ run)) (l ∷ m ∷ run) (number_dull (m ∷ run) d.1) d)
 
 whole_dull : (kind : Kind) (left run rest : List Letter) → IsDullKind kind → IsDull left → length left ≤ length run → DullFront (whole kind (left ++ rest)) run rest
 whole_dull kind left run rest k d s = record { kind = k; whole_is = refl; left = left; is = refl; dull = d; short = s }
@@ -179,9 +209,9 @@ space_dull b run rest d s =
 number_at_dull : (b : ℕ) (run rest : List Letter) → IsDull run → IsStop rest → IfDull (number_at b (run ++ rest)) run rest
 unfolding number_at
 number_at_dull b run rest d s =
-    choose_dull (is_digit b || (b == 46 && begins_digit (run ++ rest))) (Some (whole Number (behind_number b (run ++ rest)))) None run rest
-    (whole_dull_at Number (behind_number b (run ++ rest)) (behind_number b run) run rest (number_append b run rest d (stop_no_number rest s)) tt
-    (number_dull b run d) (behind_number_short b run)) tt
+    choose_dull (is_digit b || (b == 46 && begins_digit (run ++ rest))) (Some (whole Number (behind_number (run ++ rest)))) None run rest
+    (whole_dull_at Number (behind_number (run ++ rest)) (behind_number run) run rest (number_append run rest d (stop_no_number rest s)) tt
+    (number_dull run d) (behind_number_short run)) tt
 
 word_at_dull : (b : ℕ) (run rest : List Letter) → IsDull run → IsStop rest → IfDull (word_at b (run ++ rest)) run rest
 unfolding word_at

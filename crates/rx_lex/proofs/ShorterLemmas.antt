@@ -1,7 +1,7 @@
 -- What is left behind a piece is shorter than what it was read from.
 use Rattle.std.proofs.Common.{not, ℕ, zero, suc, ◌≤◌, List, [], ◌∷◌, length, drop, arith, Bool, true, false, cond, ◌==◌, ◌&&◌, ◌||◌, ◌++◌, Option, codes, Some, None, nat_le, length-drop}
 use Rattle.rx_lex.specs.Letters.{Letter, begins, is_blank}
-use Rattle.rx_lex.specs.Pieces.{behind_all, behind_text, behind_header, behind_number, begins_digit, behind_block, behind_line, is_name, is_digit, literal, raw, raw_prefix, raw_behind, unless_open, goes_on, Kind, header_end, whole, front, plain_front, or_else, space_at, comment_at, raw_at, literal_at, number_at, word_at, mark_at, header_at, Front, Literal, Raw, LineEnd, Blank, Comment, Number, Word, Mark, is_delimiter, all_at_front}
+use Rattle.rx_lex.specs.Pieces.{behind_all, behind_text, behind_header, behind_number, begins_digit, behind_block, behind_line, is_name, is_digit, literal, raw, raw_prefix, raw_behind, unless_open, is_double_step, is_single_step, Kind, header_end, whole, front, plain_front, or_else, space_at, comment_at, raw_at, literal_at, number_at, word_at, mark_at, header_at, Front, Literal, Raw, LineEnd, Blank, Comment, Number, Word, Mark, is_delimiter, all_at_front}
 
 abbrev pub IfSomeShort : Option (List Letter) → ℕ → Type 0
 IfSomeShort None n = Unit {0}
@@ -51,11 +51,14 @@ behind_header_short close (l ∷ ls) =
     (choose_some (l.byte == close) (Some ls) (behind_header close ls) (length (l ∷ ls)) (omega arith)
     (some_more (behind_header close ls) (length ls) (length (l ∷ ls)) (omega arith) (behind_header_short close ls)))
 
-pub behind_number_short : (last : ℕ) (ls : List Letter) → length (behind_number last ls) ≤ length ls
-behind_number_short last [] = omega arith
-behind_number_short last (l ∷ ls) =
-    choose_short (goes_on last l.byte ls)
-    (behind_number l.byte ls) (l ∷ ls) (length (l ∷ ls)) (omega (arith, behind_number_short l.byte ls)) (omega arith)
+pub behind_number_short : (ls : List Letter) → length (behind_number ls) ≤ length ls
+behind_number_short [] = omega arith
+behind_number_short (l ∷ []) = choose_short (is_single_step l.byte) [] (l ∷ []) 1 (omega arith) (omega arith)
+behind_number_short (l ∷ m ∷ ls) =
+    choose_short (is_double_step l.byte m.byte) (behind_number ls) (cond (is_single_step l.byte) (behind_number (m ∷ ls)) (l ∷ m ∷ ls))
+    (length (l ∷ m ∷ ls)) (omega (arith, behind_number_short ls))
+    (choose_short (is_single_step l.byte) (behind_number (m ∷ ls)) (l ∷ m ∷ ls)
+    (length (l ∷ m ∷ ls)) (omega (arith, behind_number_short (m ∷ ls))) (omega arith))
 
 open_short : (kind : Kind) (x : Option (List Letter)) (n : ℕ) → IfSomeShort x n → length (unless_open kind x).rest ≤ n
 open_short kind None n h = omega arith
@@ -113,7 +116,7 @@ literal_at_short b ls = choose_at (b == 34 || b == 39) (Some (literal b false ls
 
 number_at_short : (b : ℕ) (ls : List Letter) → IfFrontShort (number_at b ls) (length ls)
 unfolding number_at
-number_at_short b ls = choose_at (is_digit b || (b == 46 && begins_digit ls)) (Some (whole Number (behind_number b ls))) None (length ls) (behind_number_short b ls) tt
+number_at_short b ls = choose_at (is_digit b || (b == 46 && begins_digit ls)) (Some (whole Number (behind_number ls))) None (length ls) (behind_number_short ls) tt
 
 word_at_short : (b : ℕ) (ls : List Letter) → IfFrontShort (word_at b ls) (length ls)
 unfolding word_at

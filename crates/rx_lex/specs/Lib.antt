@@ -6,6 +6,7 @@ pub mod Found
 pub mod Class
 pub mod Header
 pub mod Literal
+pub mod Number
 pub mod Words
 pub mod Raw
 pub mod Cut

@@ -112,28 +112,38 @@ raw_behind (suc n) ls = Some (raw (drop (suc n) ls))
 unfoldable pub raw_at : ℕ → List Letter → Option Front
 raw_at b ls = raw_behind (raw_prefix b ls) ls
 
--- A number ([lex.ppnumber]) whose last byte so far is `last` goes on with letters, digits, `_` and `.`, with a sign behind e, E, p or P, and with `'` before a byte of a name.
+-- A number ([lex.ppnumber]) goes on by steps. A step takes `'` with the byte of a name behind it, or e, E, p or P with
+-- the sign behind it, or one digit, letter, `_` or `.`. So the `e` of `'e` was taken already, and begins no sign.
 abbrev pub is_exponent : ℕ → Bool
 is_exponent b = b == 101 || b == 69 || b == 112 || b == 80
+
+abbrev pub is_sign : ℕ → Bool
+is_sign b = b == 43 || b == 45
+
+abbrev pub is_double_step : ℕ → ℕ → Bool
+is_double_step b c = (b == 39 && is_name c) || (is_exponent b && is_sign c)
+
+abbrev pub is_single_step : ℕ → Bool
+is_single_step b = is_name b || b == 46
+
+abbrev pub behind_number : List Letter → List Letter
+behind_number [] = []
+behind_number (l ∷ []) = if is_single_step l.byte then [] else l ∷ []
+behind_number (l ∷ m ∷ ls) =
+    if is_double_step l.byte m.byte then behind_number ls
+    else if is_single_step l.byte then behind_number (m ∷ ls)
+    else l ∷ m ∷ ls
 
 abbrev pub begins_name : List Letter → Bool
 begins_name [] = false
 begins_name (l ∷ ls) = is_name l.byte
-
-abbrev pub goes_on : ℕ → ℕ → List Letter → Bool
-goes_on last b ls =
-    is_name b || b == 46 || ((b == 43 || b == 45) && is_exponent last) || (b == 39 && begins_name ls)
-
-abbrev pub behind_number : ℕ → List Letter → List Letter
-behind_number last [] = []
-behind_number last (l ∷ ls) = if goes_on last l.byte ls then behind_number l.byte ls else l ∷ ls
 
 abbrev pub begins_digit : List Letter → Bool
 begins_digit [] = false
 begins_digit (l ∷ ls) = is_digit l.byte
 
 unfoldable pub number_at : ℕ → List Letter → Option Front
-number_at b ls = if is_digit b || (b == 46 && begins_digit ls) then Some (whole Number (behind_number b ls)) else None
+number_at b ls = if is_digit b || (b == 46 && begins_digit ls) then Some (whole Number (behind_number ls)) else None
 
 -- A word ([lex.name]) of letters, digits and `_`.
 unfoldable pub word_at : ℕ → List Letter → Option Front

@@ -23,7 +23,7 @@ fn shown(alloc: Global, found: &Directives) -> Result<Vec<u8>, AllocError> {
 /// A text, its includes, whether it is hard and whether it has a raw literal.
 type Row = (&'static str, &'static str, bool, bool);
 
-const ROWS: [Row; 84] = [
+const ROWS: [Row; 97] = [
     ("R\"(/*)\"\n#include \"a.h\"", "\"a.h\" ", false, true),
     ("int n = 1'000; /* c */\n#include <b>", "<b> ", false, false),
     (
@@ -173,6 +173,85 @@ const ROWS: [Row; 84] = [
     ),
     ("R\"x()y\")x)x\"\n#include <a>", "<a> ", false, true),
     ("1e+/**/'0'0\n1'/*\n#include <a>", "<a> ", true, false),
+    // numbers: the e of 'e begins no sign; g++ -E includes a.h in just these rows
+    (
+        "#define X 1'e+R\"(\" /* )\"\n#include \"a.h\"\n/* */ int y = from_a;",
+        "\"a.h\" ",
+        false,
+        true,
+    ),
+    (
+        "#define X 1'E+R\"(\" /* )\"\n#include \"a.h\"\n/* */ int y = from_a;",
+        "\"a.h\" ",
+        false,
+        true,
+    ),
+    (
+        "#define X 1'p-R\"(\" /* )\"\n#include \"a.h\"\n/* */ int y = from_a;",
+        "\"a.h\" ",
+        false,
+        true,
+    ),
+    (
+        "#define X 1'e'e+R\"(\" /* )\"\n#include \"a.h\"\n/* */ int y = from_a;",
+        "\"a.h\" ",
+        false,
+        true,
+    ),
+    (
+        "#define X .1'e+R\"(\" /* )\"\n#include \"a.h\"\n/* */ int y = from_a;",
+        "\"a.h\" ",
+        false,
+        true,
+    ),
+    (
+        "#define X 1e+'e+R\"(\" /* )\"\n#include \"a.h\"\n/* */ int y = from_a;",
+        "\"a.h\" ",
+        false,
+        true,
+    ),
+    (
+        "#define X 1e'+R\"(\" /* )\"\n#include \"a.h\"\n/* */ int y = from_a;",
+        "\"a.h\" ",
+        true,
+        false,
+    ),
+    (
+        "#define X 1.e+R\"(\" /* )\"\n#include \"a.h\"\n/* */ int y = from_a;",
+        "",
+        false,
+        false,
+    ),
+    (
+        "#define X 1e+R\"(\" /* )\"\n#include \"a.h\"\n/* */ int y = from_a;",
+        "",
+        false,
+        false,
+    ),
+    (
+        "#define X 1'ee+R\"(\" /* )\"\n#include \"a.h\"\n/* */ int y = from_a;",
+        "",
+        false,
+        false,
+    ),
+    (
+        "#define X 1e+e+R\"(\" /* )\"\n#include \"a.h\"\n/* */ int y = from_a;",
+        "",
+        false,
+        false,
+    ),
+    (
+        "#define X 1'_e+R\"(\" /* )\"\n#include \"a.h\"\n/* */ int y = from_a;",
+        "",
+        false,
+        false,
+    ),
+    (
+        "#define X 1P-R\"(\" /* )\"\n#include \"a.h\"\n/* */ int y = from_a;",
+        "",
+        false,
+        false,
+    ),
     // lines that matter to no phase, and what follows them
     ("int a;\nimport b;\n#include <c>", "<c> ", true, false),
     (
