@@ -21,11 +21,12 @@ use Rattle.rx_hpack.specs.Text.{plain_bytes, IsString}
 use Rattle.rx_hpack.specs.StaticTable.{static_fields, has_name, is_field}
 use Rattle.rx_hpack.specs.DynamicTable.{Table}
 use Rattle.rx_hpack.specs.Representation.{NameForm, IndexedName, NewName, Form, IndexedField, LiteralField, Spells, SpellsName}
-use Rattle.rx_hpack.specs.Decoder.{Progress, field_at, named, with_field, applied, AreSpelled, processed, IsBlock, block_of}
+use Rattle.rx_hpack.specs.Index.{field_at}
+use Rattle.rx_hpack.specs.Decoder.{Progress, named, with_field, applied, AreSpelled, processed, IsBlock, block_of}
 use Rattle.rx_hpack.specs.Encoder.{IsWritable, name_bytes, form_bytes, field_bytes, block_bytes}
 use Rattle.rx_hpack.proofs.IntegerLemmas.{more_groups}
 use Rattle.rx_hpack.proofs.WriteLemmas.{limit, groups_last, groups_more}
-use Rattle.rx_hpack.proofs.DecoderLemmas.{length-static_fields}
+use Rattle.rx_hpack.proofs.IndexLemmas.{length-static_fields}
 use Rattle.rx_hpack.proofs.HeaderListLemmas.{kept_fits}
 use Rattle.rx_hpack.proofs.BlockLemmas.{block_is_read}
 use Rattle.rx_hpack.proofs.TableLemmas.{size_of_last}

@@ -3,7 +3,7 @@ pub mod HuffmanLoop
 pub mod StaticTableLemmas
 pub mod TableLemmas
 pub mod HeaderListLemmas
-pub mod DecoderLemmas
+pub mod IndexLemmas
 pub mod Takes
 pub mod IntegerLemmas
 pub mod HuffmanLemmas

@@ -1,24 +1,19 @@
 -- What a header block means (RFC 7541 3.2): the list of its headers, and the dynamic table after it.
-use Rattle.std.specs.Prelude.{◌≡◌, ℕ, ◌-◌, ◌||◌, not, zero, suc, List, [], ◌∷◌, ◌++◌, length, if◌then◌else◌, nat_lt, ◌==◌, slice_get, Option, Some, None, Result, Ok, Err}
-use Rattle.std.specs.Option.{ok_or}
+use Rattle.std.specs.Prelude.{◌≡◌, ℕ, ◌||◌, not, zero, suc, List, [], ◌∷◌, ◌++◌, length, if◌then◌else◌, nat_lt, ◌==◌, Option, Some, None, Result, Ok, Err}
 use Rattle.std.specs.Global.{Vec}
 use Rattle.rx_hpack.specs.declared.fault.HpackFault.{HpackFault}
-use Rattle.rx_hpack.specs.declared.fault.HpackFault.TheVariants.{BadIndex, BadInteger, SizeUpdate, NoMemory}
+use Rattle.rx_hpack.specs.declared.fault.HpackFault.TheVariants.{BadInteger, SizeUpdate, NoMemory}
 use Rattle.rx_hpack.specs.declared.header.Header.{Header}
 use Rattle.rx_hpack.specs.declared.representation.Indexing.{Indexing}
 use Rattle.rx_hpack.specs.declared.representation.Indexing.TheVariants.{Incremental, Without, Never}
 use Rattle.rx_hpack.specs.Answers.{◌>>=◌, Fails}
 use Rattle.rx_hpack.specs.Header.{Field, views}
-use Rattle.rx_hpack.specs.StaticTable.{static_fields}
 use Rattle.rx_hpack.specs.DynamicTable.{Table, inserted, resized}
+use Rattle.rx_hpack.specs.Index.{field_at}
 use Rattle.rx_hpack.specs.HeaderList.{kept}
 use Rattle.rx_hpack.specs.Representation.{NameForm, Form, IndexedName, NewName, IndexedField, LiteralField, NewSize, representation_at, Spells}
 
 -- ---- one representation
-
--- The field with an index (2.3.3): the static table's fields from 1 on, and then the dynamic table's.
-unfoldable pub field_at : Table → ℕ → Result Field HpackFault
-field_at table index = if index == 0 then Err BadIndex else ok_or (slice_get (static_fields ++ table.entries) (index - 1)) BadIndex
 
 -- the name of a literal field
 abbrev pub named : Table → NameForm → Result (List ℕ) HpackFault
@@ -54,7 +49,7 @@ unfoldable pub block_from : ℕ → List Field → Table → List ℕ → Result
 block_from most fields table [] = Ok (record { fields = fields; table = table })
 block_from zero fields table (first ∷ bytes) = Err BadInteger
 block_from (suc most) fields table (first ∷ bytes) = do
-  read ← representation_at first bytes
+  read ← representation_at table first bytes
   next ← applied fields table read.0
   block_from most next.fields next.table read.1
 

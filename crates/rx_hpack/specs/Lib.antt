@@ -6,6 +6,7 @@ pub mod HuffmanTables
 pub mod Text
 pub mod StaticTable
 pub mod DynamicTable
+pub mod Index
 pub mod HeaderList
 pub mod Representation
 pub mod Decoder

@@ -10,6 +10,8 @@ use Rattle.rx_hpack.specs.declared.representation.Representation.TheVariants as 
 use Rattle.rx_hpack.specs.Answers.{◌>>=◌}
 use Rattle.rx_hpack.specs.Integer.{integer_at, IsInteger}
 use Rattle.rx_hpack.specs.Text.{string_at, IsString}
+use Rattle.rx_hpack.specs.DynamicTable.{Table}
+use Rattle.rx_hpack.specs.Index.{field_at}
 
 -- the name of a literal field: that of an index, or one of its own
 pub data NameForm : Type 0 where
@@ -31,19 +33,19 @@ representation_view (code.Indexed index) = IndexedField index
 representation_view (code.Literal indexing name value) = LiteralField indexing (name_view name) value.items
 representation_view (code.SizeUpdate size) = NewSize size
 
--- ---- reading
+-- ---- reading, from left to right
 
--- the name of a literal field with this index, and the bytes after it
-unfoldable pub name_at : ℕ → List ℕ → Result (NameForm × List ℕ) HpackFault
-name_at index bytes =
-    if nat_lt 0 index then Ok (IndexedName index, bytes)
+-- The name of a literal field with this index, and the bytes after it. An index that isn't 0 stands for a field.
+unfoldable pub name_at : Table → ℕ → List ℕ → Result (NameForm × List ℕ) HpackFault
+name_at table index bytes =
+    if nat_lt 0 index then (field_at table index >>= λ field. Ok (IndexedName index, bytes))
     else string_at bytes >>= λ name. Ok (NewName name.0, name.1)
 
 -- a literal field whose index has this in its prefix, and the bytes after it
-unfoldable pub literal_at : Indexing → ℕ → ℕ → List ℕ → Result (Form × List ℕ) HpackFault
-literal_at indexing full prefix bytes = do
+unfoldable pub literal_at : Table → Indexing → ℕ → ℕ → List ℕ → Result (Form × List ℕ) HpackFault
+literal_at table indexing full prefix bytes = do
   index ← integer_at full prefix bytes
-  name ← name_at index.0 index.1
+  name ← name_at table index.0 index.1
   value ← string_at name.1
   Ok (LiteralField indexing name.0 value.0, value.1)
 
@@ -54,13 +56,13 @@ indexed_at prefix bytes = integer_at 127 prefix bytes >>= λ index. Ok (IndexedF
 abbrev pub size_at : ℕ → List ℕ → Result (Form × List ℕ) HpackFault
 size_at prefix bytes = integer_at 31 prefix bytes >>= λ size. Ok (NewSize size.0, size.1)
 
--- the representation that begins with this byte, and the bytes after it
-unfoldable pub representation_at : ℕ → List ℕ → Result (Form × List ℕ) HpackFault
-representation_at first bytes =
-    if nat_lt first 16 then literal_at Without 15 first bytes
-    else if nat_lt first 32 then literal_at Never 15 (first - 16) bytes
+-- the representation that begins with this byte, before the dynamic table has changed, and the bytes after it
+unfoldable pub representation_at : Table → ℕ → List ℕ → Result (Form × List ℕ) HpackFault
+representation_at table first bytes =
+    if nat_lt first 16 then literal_at table Without 15 first bytes
+    else if nat_lt first 32 then literal_at table Never 15 (first - 16) bytes
     else if nat_lt first 64 then size_at (first - 32) bytes
-    else if nat_lt first 128 then literal_at Incremental 63 (first - 64) bytes
+    else if nat_lt first 128 then literal_at table Incremental 63 (first - 64) bytes
     else indexed_at (first - 128) bytes
 
 -- ---- the same as a relation

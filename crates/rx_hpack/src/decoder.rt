@@ -2,19 +2,18 @@
 //! the dynamic table.
 
 ghost use Rattle.std.specs.Prelude.{[], ◌≡◌, IfOk, List};
-ghost use Rattle.rx_hpack.specs.Answers.{Equals, Gives};
+ghost use Rattle.rx_hpack.specs.Answers.{Gives};
 ghost use Rattle.rx_hpack.specs.Header.{Field, view, views};
 ghost use Rattle.rx_hpack.specs.Representation.{name_view, representation_view};
 ghost use Rattle.rx_hpack.specs.DynamicTable.{Table};
-ghost use Rattle.rx_hpack.specs.Decoder.{Decodes, DecodesBlock, IsBlock, Leaves, Reaches, Ready, StandsFor, applied, field_at, named, seen, with_field};
+ghost use Rattle.rx_hpack.specs.Decoder.{Decodes, DecodesBlock, IsBlock, Leaves, Reaches, Ready, StandsFor, applied, named, seen, with_field};
 
 use crate::dynamic_table::{DynamicTable, LARGEST_TABLE};
 use crate::fault::HpackFault;
 use crate::header::Header;
 use crate::header_list::HeaderList;
 use crate::representation::{Indexing, Name, Representation};
-use crate::static_table::STATIC_LENGTH;
-use crate::{representation, static_table};
+use crate::{index, representation};
 use std::alloc::Global;
 use std::marker::Model;
 
@@ -85,7 +84,7 @@ fn decode(alloc: Global, table: &mut DynamicTable, bytes: &[u8]) -> Result<Vec<H
     let mut list = HeaderList::new(alloc);
     let mut left = bytes;
     while let [first, rest @ ..] = left {
-        let (read, rest) = representation::read(alloc, *first, rest)?;
+        let (read, rest) = representation::read(alloc, table, *first, rest)?;
         apply(alloc, table, &mut list, read)?;
         left = rest;
     }
@@ -104,7 +103,7 @@ fn apply(
 {
     match representation {
         Representation::Indexed(index) => {
-            let (name, value) = find(table, index)?;
+            let (name, value) = index::find(table, index)?;
             list.push_copy(alloc, name, value)
         }
         Representation::Literal(indexing, name, value) => {
@@ -121,32 +120,13 @@ fn apply(
     }
 }
 
-/// The field with an index: the static table comes first, and then the dynamic one, from 1 on
-/// (RFC 7541 2.3.3).
-#[tactic(auto, unfolding(crate::specs::Decoder::field_at))]
-fn find(table: &DynamicTable, index: u32) -> Result<(&[u8], &[u8]), HpackFault>
-    ensures { Equals (λ x. record { name = x.0.now; value = x.1.now }) result (field_at table.now index) }
-{
-    if index == 0 {
-        return Err(HpackFault::BadIndex);
-    }
-    let place = index as usize - 1;
-    if place < STATIC_LENGTH {
-        return Ok(static_table::entry(place));
-    }
-    match table.get(place - STATIC_LENGTH) {
-        Some(header) => Ok((&header.name, &header.value)),
-        None => Err(HpackFault::BadIndex),
-    }
-}
-
 /// The name of a literal field.
 fn own_name(alloc: Global, table: &DynamicTable, name: Name) -> Result<Vec<u8>, HpackFault>
     ensures { Gives (λ text. text.items) result (named table.now (name_view name)) }
 {
     match name {
         Name::Indexed(index) => {
-            let (name, _) = find(table, index)?;
+            let (name, _) = index::find(table, index)?;
             Ok(Vec::from_slice(alloc, name)?)
         }
         Name::New(text) => Ok(text),

@@ -13,6 +13,7 @@ mod header;
 mod header_list;
 mod huffman;
 mod huffman_tables;
+mod index;
 mod integer;
 mod representation;
 mod static_table;

@@ -15,8 +15,9 @@ ghost use Rattle.std.specs.Prelude.{◌≡◌, ◌≤◌, IfOk, length};
 ghost use Rattle.rx_hpack.specs.Answers.{Gives};
 ghost use Rattle.rx_hpack.specs.Representation.{literal_at, name_at, name_view, representation_at, representation_view};
 
+use crate::dynamic_table::DynamicTable;
 use crate::fault::HpackFault;
-use crate::{integer, text};
+use crate::{index, integer, text};
 use std::alloc::Global;
 
 /// The largest number in the prefix of an indexed field's index: seven bits.
@@ -58,24 +59,40 @@ pub(crate) enum Representation {
 }
 
 /// The representation that begins with the byte `first` and goes on with `bytes`, and the bytes
-/// after it.
+/// after it. A name's index is looked up before the value is read, so the first fault is told.
 #[tactic(auto, unfolding(crate::specs::Representation::representation_at))]
-pub(crate) fn read(
+pub(crate) fn read<'a>(
     alloc: Global,
+    table: &DynamicTable,
     first: u8,
-    bytes: &[u8],
-) -> Result<(Representation, &[u8]), HpackFault>
-    ensures { Gives (λ x. (representation_view x.0, x.1.now)) result (representation_at first bytes.now) }
+    bytes: &'a [u8],
+) -> Result<(Representation, &'a [u8]), HpackFault>
+    ensures { Gives (λ x. (representation_view x.0, x.1.now)) result (representation_at table.now first bytes.now) }
 {
     match first {
-        0..=15 => read_literal(alloc, Indexing::Without, LITERAL_PREFIX, first, bytes),
-        16..=31 => read_literal(alloc, Indexing::Never, LITERAL_PREFIX, first - 16, bytes),
+        0..=15 => read_literal(
+            alloc,
+            table,
+            Indexing::Without,
+            LITERAL_PREFIX,
+            first,
+            bytes,
+        ),
+        16..=31 => read_literal(
+            alloc,
+            table,
+            Indexing::Never,
+            LITERAL_PREFIX,
+            first - 16,
+            bytes,
+        ),
         32..=63 => {
             let (size, rest) = integer::read(SIZE_PREFIX, first - 32, bytes)?;
             Ok((Representation::SizeUpdate(size), rest))
         }
         64..=127 => read_literal(
             alloc,
+            table,
             Indexing::Incremental,
             INCREMENTAL_PREFIX,
             first - 64,
@@ -90,27 +107,34 @@ pub(crate) fn read(
 
 /// A literal field whose index has this in its prefix.
 #[tactic(auto, unfolding(crate::specs::Representation::literal_at))]
-fn read_literal(
+fn read_literal<'a>(
     alloc: Global,
+    table: &DynamicTable,
     indexing: Indexing,
     full: u8,
     prefix: u8,
-    bytes: &[u8],
-) -> Result<(Representation, &[u8]), HpackFault>
-    ensures { Gives (λ x. (representation_view x.0, x.1.now)) result (literal_at indexing full prefix bytes.now) }
+    bytes: &'a [u8],
+) -> Result<(Representation, &'a [u8]), HpackFault>
+    ensures { Gives (λ x. (representation_view x.0, x.1.now)) result (literal_at table.now indexing full prefix bytes.now) }
 {
     let (index, rest) = integer::read(full, prefix, bytes)?;
-    let (name, rest) = read_name(alloc, index, rest)?;
+    let (name, rest) = read_name(alloc, table, index, rest)?;
     let (value, rest) = text::read(alloc, rest)?;
     Ok((Representation::Literal(indexing, name, value), rest))
 }
 
 /// The name of a literal field with this index: where it is 0, the string that follows.
 #[tactic(auto, unfolding(crate::specs::Representation::name_at))]
-fn read_name(alloc: Global, index: u32, bytes: &[u8]) -> Result<(Name, &[u8]), HpackFault>
-    ensures { Gives (λ x. (name_view x.0, x.1.now)) result (name_at index bytes.now) }
+fn read_name<'a>(
+    alloc: Global,
+    table: &DynamicTable,
+    index: u32,
+    bytes: &'a [u8],
+) -> Result<(Name, &'a [u8]), HpackFault>
+    ensures { Gives (λ x. (name_view x.0, x.1.now)) result (name_at table.now index bytes.now) }
 {
     if index > 0 {
+        index::find(table, index)?;
         return Ok((Name::Indexed(index), bytes));
     }
     let (text, rest) = text::read(alloc, bytes)?;

@@ -86,7 +86,7 @@ static EXAMPLES: [(bool, &[u8], &[u8]); 18] = [
 ];
 
 /// Blocks that are refused.
-static REFUSED: [(&[u8], HpackFault); 14] = [
+static REFUSED: [(&[u8], HpackFault); 17] = [
     // Index 0, and one past the static table while the dynamic one is empty.
     (b"\x80", HpackFault::BadIndex),
     (b"\xbe", HpackFault::BadIndex),
@@ -107,8 +107,11 @@ static REFUSED: [(&[u8], HpackFault); 14] = [
     // Behind a header, and 4,097.
     (b"\x82\x20", HpackFault::SizeUpdate),
     (b"\x3f\xe2\x1f", HpackFault::SizeUpdate),
-    // The first thing that is wrong is told.
+    // The first thing that is wrong is told: a name's index comes before the value.
     (b"\x82\x3f\x80", HpackFault::BadInteger),
+    (b"\x7e", HpackFault::BadIndex),
+    (b"\x7e\x81\xff", HpackFault::BadIndex),
+    (b"\x0f\x2f\x02a", HpackFault::BadIndex),
 ];
 
 fn lines(alloc: Global, headers: &[Header]) -> Result<Vec<u8>, AllocError> {

@@ -1,5 +1,5 @@
-use Rattle.rx_hpack.proofs.DecoderLemmas.{found_behind, none_behind}
-use Rattle.rx_hpack.proofs.decoder.find.Goals as goal
+use Rattle.rx_hpack.proofs.IndexLemmas.{found_behind, none_behind}
+use Rattle.rx_hpack.proofs.index.find.Goals as goal
 
 pub returns-in-Some : goal.returns-in-Some
 returns-in-Some c =

@@ -1,4 +1,4 @@
--- Finding a field in the two tables, and reading a block representation by representation.
+-- Finding a field in the two tables.
 use Rattle.std.proofs.Common.{◌≡◌, ℕ, ◌+◌, ◌-◌, ◌≤◌, suc, List, [], ◌∷◌, ◌++◌, length, Option, Some, None, Ok, Err, refl, sym, ap, ◌∙◌, arith, slice_get}
 use Rattle.std.specs.Option.{ok_or}
 use Rattle.rx_hpack.specs.declared.fault.HpackFault.TheVariants.{BadIndex}
@@ -7,7 +7,7 @@ use Rattle.rx_hpack.specs.declared.header.Header.{Header}
 use Rattle.std.proofs.lemmas.Bool.{ne_eqb}
 use Rattle.rx_hpack.specs.StaticTable.{static_fields}
 use Rattle.rx_hpack.specs.DynamicTable.{Table}
-use Rattle.rx_hpack.specs.Decoder.{field_at}
+use Rattle.rx_hpack.specs.Index.{field_at}
 
 slice_get-append : (front back : List Field) (i : ℕ) → slice_get (front ++ back) (length front + i) ≡ slice_get back i
 slice_get-append [] back i = ap (slice_get back) (omega arith)
