@@ -8,10 +8,10 @@ use Rattle.rx_h2conn.specs.Session.{Session}
 use Rattle.rx_h2conn.specs.Streams.{fresh, is_open, stream_at}
 use Rattle.rx_h2conn.specs.Window.{spent}
 use Rattle.rx_h2conn.specs.Sound.{IsSoundBy, IsSound, used}
-use Rattle.rx_h2conn.specs.Output.{AnswersAt, ends, charged, sent, reset, told, emptied}
+use Rattle.rx_h2conn.specs.Output.{given_up, AnswersAt, ends, charged, sent, reset, told, emptied}
 use Rattle.rx_h2conn.specs.Open.{refused_by, refusal, opened}
 use Rattle.rx_h2conn.specs.Reader.{IsConn}
-use Rattle.rx_h2conn.proofs.SoundLemmas.{open_at, sound_left, sound_set}
+use Rattle.rx_h2conn.proofs.SoundLemmas.{open_at, sound_left, sound_set, sound_less}
 use Rattle.rx_h2conn.proofs.PieceLemmas.{within}
 
 -- the streams with one more
@@ -60,8 +60,8 @@ sent-fault s id piece last = refl
 pub sound_given_up : (s : Session) (id code : ℕ) → is_open s id ≡ true → IsSound s → IsSound (reset s id code)
 unfolding reset
 sound_given_up s id code is h =
-    let t : Stream = record (stream_at s id) { client_reset = true } in
-    sound_left fresh (record s { streams = set s.streams (id / 2) t }) _ (record { receive = refl; owed = refl; streams = refl; events = refl }) (sound_set fresh s (id / 2) t (open_at s id is) refl h)
+    let t : Stream = given_up (stream_at s id) in
+    sound_left fresh (record s { streams = set s.streams (id / 2) t }) _ (record { receive = refl; owed = refl; streams = refl; events = refl }) (sound_less fresh s (id / 2) t (open_at s id is) (omega arith) h)
 
 pub reset-fault : (s : Session) (id code : ℕ) → (reset s id code).fault ≡ s.fault
 unfolding reset

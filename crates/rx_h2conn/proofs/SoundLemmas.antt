@@ -61,15 +61,19 @@ sound_told none s ps free each h = record {
 }
 
 -- a stream that keeps its receive window and its credit
-pub sound_set : (none : Stream) (s : Session) (i : ℕ) (t : Stream) → i < length s.streams → t.receive + t.owed ≡ (get_or s.streams i fresh).receive + (get_or s.streams i fresh).owed → IsSoundBy none s → IsSoundBy none (record s { streams = set s.streams i t })
-sound_set none s i t small same h =
+-- a stream may be owed less
+pub sound_less : (none : Stream) (s : Session) (i : ℕ) (t : Stream) → i < length s.streams → t.receive + t.owed ≤ (get_or s.streams i fresh).receive + (get_or s.streams i fresh).owed → IsSoundBy none s → IsSoundBy none (record s { streams = set s.streams i t })
+sound_less none s i t small less h =
     let e = get_or_within none fresh s.streams i small in
     let old = h.stream i in
     record {
       connection = h.connection;
-      stream = each_set none (λ k x. x.receive + x.owed + waiting k s.events ≤ 1048576) s.streams i t small (λ k other. h.stream k) (omega (arith, same, rw e at old));
+      stream = each_set none (λ k x. x.receive + x.owed + waiting k s.events ≤ 1048576) s.streams i t small (λ k other. h.stream k) (omega (arith, less, rw e at old));
       count = rw (length-set s.streams i t) h.count;
     }
+
+pub sound_set : (none : Stream) (s : Session) (i : ℕ) (t : Stream) → i < length s.streams → t.receive + t.owed ≡ (get_or s.streams i fresh).receive + (get_or s.streams i fresh).owed → IsSoundBy none s → IsSoundBy none (record s { streams = set s.streams i t })
+sound_set none s i t small same h = sound_less none s i t small (omega (arith, same)) h
 
 pub sound_passed : (none : Stream) (s : Session) → IsSoundBy none s → IsSoundBy none (passed s)
 unfolding passed

@@ -57,13 +57,18 @@ AnswersAt (Some e) old want value new r = (new ≡ old) × (r ≡ Err e)
 AnswersAt None old want value new (Ok n) = (new ≡ want) × (n ≡ value)
 AnswersAt None old want value new (Err e) = (new ≡ old) × (e ≡ NoMemory)
 
--- RFC 9113 6.4
+-- RST_STREAM (RFC 9113 6.4)
 abbrev pub reset_frame : ℕ → ℕ → Out
 reset_frame id code = record { kind = ResetStream; flags = 0; stream = id; body = four code }
 
+-- A stream that is given up is closed, so no WINDOW_UPDATE may follow on it (5.1): what it was owed is forgotten. The
+-- credit of the connection stays.
+abbrev pub given_up : Stream → Stream
+given_up t = record t { client_reset = true; owed = 0 }
+
 unfoldable pub reset : Session → ℕ → ℕ → Session
 reset s id code = record s {
-  streams = slice_set s.streams (id / 2) (record (stream_at s id) { client_reset = true });
+  streams = slice_set s.streams (id / 2) (given_up (stream_at s id));
   queued = s.queued ++ out_bytes (reset_frame id code);
 }
 

@@ -278,7 +278,7 @@ impl Machine {
         }
     }
 
-    /// Gives a stream up (RFC 9113 6.4), or changes nothing.
+    /// Gives a stream up (RFC 9113 6.4), or changes nothing. It is owed no credit from then on (RFC 9113 5.1).
     #[tactic(auto, unfolding(crate::specs::Output::reset))]
     fn give_up(&mut self, id: u32, code: u32) -> Result<(), AllocError>
         requires open { is_open (state_of self.old) id ≡ true }
@@ -289,6 +289,7 @@ impl Machine {
         put_reset(id, code, &mut self.queued)?;
         let given_up = Stream {
             client_reset: true,
+            owed: 0,
             ..self.stream_at(id)
         };
         self.set_stream(id, given_up);
