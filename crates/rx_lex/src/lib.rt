@@ -19,8 +19,6 @@ mod raw;
 mod raw_cut;
 mod read;
 mod step;
-#[cfg(test)]
-mod tests;
 mod words;
 
 pub use found::{Directives, Include, NoMemory};
