@@ -1,7 +1,11 @@
 pub mod Bad
+pub mod CallFaults
+pub mod Ends
 pub mod Frames
 pub mod Jobs
 pub mod Messages
+pub mod Parts
 pub mod Replies
 pub mod Rules
+pub mod SeenMessage
 pub mod Streams

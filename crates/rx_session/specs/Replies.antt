@@ -1,103 +1,22 @@
 -- The bytes of a reply: the fields of its message in the order of their numbers, defaults left out.
-use Rattle.std.specs.Prelude.{ℕ, ℤ, ◌/◌, ◌%◌, ◌^◌, ◌==◌, Bool, true, false, List, [], ◌++◌, length, Option, None, Some, if◌then◌else◌}
-use Rattle.rx_wire.specs.Integers.{sign_extended}
+use Rattle.std.specs.Prelude.{ℕ, ℤ, List, [], ◌++◌, Option, None, Some}
 use Rattle.std.specs.List.{flat_map}
-use Rattle.hex.specs.Hex.{encode_lower}
-use Rattle.rx_base.specs.declared.digests.Digest.{Digest}
-use Rattle.rx_wire.specs.Out.{varint_field, bytes_field}
-use Rattle.rx_world.specs.declared.attempts.Attempt.{Attempt}
-use Rattle.rx_world.specs.declared.attempts.Attempt.TheVariants as attempts
-use Rattle.rx_world.specs.declared.attempts.BenchStep.{BenchStep}
-use Rattle.rx_world.specs.declared.attempts.BenchStep.TheVariants as steps
-use Rattle.rx_world.specs.declared.attempts.Cause.{Cause}
-use Rattle.rx_world.specs.declared.attempts.Cause.TheVariants as causes
+use Rattle.rx_wire.specs.Out.{bytes_field}
 use Rattle.rx_world.specs.declared.attempts.Failure.{Failure}
 use Rattle.rx_world.specs.declared.attempts.Origin.{Origin}
 use Rattle.rx_world.specs.declared.attempts.Origin.TheVariants as origins
-use Rattle.rx_world.specs.declared.looks.Look.{Look}
-use Rattle.rx_world.specs.declared.looks.Look.TheVariants as looks
-use Rattle.rx_world.specs.declared.looks.Seen.{Seen}
 use Rattle.rx_world.specs.declared.refusals.Limit.{Limit}
 use Rattle.rx_world.specs.declared.refusals.Limit.TheVariants as limits
 use Rattle.rx_world.specs.declared.refusals.LocalCause.{LocalCause}
 use Rattle.rx_world.specs.declared.refusals.LocalCause.TheVariants as locals
+use Rattle.rx_session.specs.declared.bad.Bad.{Bad}
 use Rattle.rx_session.specs.declared.replies.Reply.{Reply}
 use Rattle.rx_session.specs.declared.replies.Reply.TheVariants as replies
 use Rattle.rx_session.specs.Bad.{reason_number}
+use Rattle.rx_session.specs.Ends.{end_message}
 use Rattle.rx_session.specs.Frames.{frame}
-
--- ---- fields
-
--- a number, left out where it is 0
-unfoldable pub number_part : ℕ → ℕ → List ℕ
-number_part number value = if value == 0 then [] else varint_field number value
-
--- bytes, left out where there are none
-unfoldable pub bytes_part : ℕ → List ℕ → List ℕ
-bytes_part number value = if length value == 0 then [] else bytes_field number value
-
--- a signed number as one of 64 bits
-abbrev pub signed_part : ℕ → ℤ → List ℕ
-signed_part number value = number_part number (sign_extended value)
-
--- ---- messages within
-
--- remote_execution.proto, Digest: hash 1, size_bytes 2
-unfoldable pub digest_message : Digest → List ℕ
-digest_message digest = bytes_part 1 (encode_lower digest.hash) ++ number_part 2 digest.size
-
-abbrev pub bool_number : Bool → ℕ
-bool_number true = 1
-bool_number false = 0
-
--- kind 1, size 2, the mark's upper 64 bits 3, its lower 64 bits 4
-abbrev pub look_part : Look → List ℕ
-look_part looks.Absent = []
-look_part (looks.File stamp executable) =
-    number_part 1 1 ++ number_part 2 stamp.size ++ number_part 3 (stamp.mark / 2 ^ 64) ++ number_part 4 (stamp.mark % 2 ^ 64)
-look_part looks.Dir = number_part 1 2
-look_part looks.Other = number_part 1 3
-
--- digest 5, left out only where there is none
-abbrev pub digest_part : Option Digest → List ℕ
-digest_part None = []
-digest_part (Some digest) = bytes_field 5 (digest_message digest)
-
--- executable 6
-abbrev pub executable_number : Look → ℕ
-executable_number (looks.File stamp executable) = bool_number executable
-executable_number looks.Absent = 0
-executable_number looks.Dir = 0
-executable_number looks.Other = 0
-
-unfoldable pub seen_message : Seen → List ℕ
-seen_message seen = look_part seen.look ++ digest_part seen.digest ++ number_part 6 (executable_number seen.look)
-
-abbrev pub attempt_number : Attempt → ℕ
-attempt_number attempts.Local = 1
-attempt_number attempts.Remote = 2
-
-abbrev pub step_number : BenchStep → ℕ
-step_number steps.Make = 1
-step_number steps.MakeDir = 2
-step_number steps.Put = 3
-step_number steps.Run = 4
-step_number steps.Take = 5
-
--- cause 2, value 3, path 4, first 5, second 6, of a local attempt
-abbrev pub cause_part : Cause → List ℕ
-cause_part (causes.BenchFault step) = number_part 2 1 ++ number_part 3 (step_number step)
-cause_part (causes.OutputMissing path) = number_part 2 2 ++ bytes_part 4 path
-cause_part (causes.InputChanged path first second) =
-    number_part 2 3 ++ bytes_part 4 path ++ bytes_field 5 (seen_message first) ++ bytes_field 6 (seen_message second)
-cause_part (causes.SourceFault path) = number_part 2 5 ++ bytes_part 4 path
-cause_part causes.NoMemory = number_part 2 7
-
--- attempt 1, and its cause
-unfoldable pub end_message : Failure → List ℕ
-end_message failure = number_part 1 (attempt_number failure.attempt) ++ cause_part failure.cause
-
--- ---- the message
+use Rattle.rx_session.specs.Parts.{bytes_part, number_part, signed_part}
+use Rattle.rx_session.specs.SeenMessage.{seen_parts}
 
 abbrev pub origin_number : Origin → ℕ
 origin_number origins.Local = 1
@@ -121,22 +40,60 @@ abbrev pub path_part : Option (List ℕ) → List ℕ
 path_part None = []
 path_part (Some path) = bytes_part 10 path
 
--- kind 1, exit 2, stdout 3, stderr 4, origin 5, receipt 6, placed 7, reason 8, value 9, path 10, first 11, second 12, ends 13
+-- how a command ended: exit 2, stdout 3, stderr 4
+abbrev pub exit_part : ℤ → List ℕ → List ℕ → List ℕ
+exit_part exit stdout stderr = signed_part 2 exit ++ bytes_part 3 stdout ++ bytes_part 4 stderr
+
+-- receipt 6, and how many files of it were placed 7
+abbrev pub receipt_part : ℕ → ℕ → List ℕ
+receipt_part receipt placed = number_part 6 receipt ++ number_part 7 placed
+
+-- reason 8, value 9
+abbrev pub bad_part : Bad → List ℕ
+bad_part bad = number_part 8 (reason_number bad.reason) ++ number_part 9 bad.value
+
+-- limit 8, how much it is 9, path 10
+abbrev pub too_large_part : Limit → ℕ → Option (List ℕ) → List ℕ
+too_large_part limit n path = number_part 8 (limit_number limit) ++ number_part 9 n ++ path_part path
+
+-- the ends of attempts, each in a field 13
+abbrev pub ends_part : List Failure → List ℕ
+ends_part failures = flat_map (λ failure. bytes_field 13 (end_message failure)) failures
+
+-- the number of each reply
+abbrev pub kind_number : Reply → ℕ
+kind_number (replies.Done exit stdout stderr origin receipt placed) = 0
+kind_number (replies.BadRequest bad) = 1
+kind_number (replies.NotRemotable cause) = 2
+kind_number (replies.InputMissing path) = 3
+kind_number (replies.InputChanged input) = 4
+kind_number (replies.SourceFault path) = 5
+kind_number (replies.TooLarge limit n path) = 6
+kind_number (replies.AllFailed failures) = 7
+kind_number (replies.PlaceFault receipt placed) = 9
+kind_number replies.JournalFull = 10
+kind_number replies.NoMemory = 11
+kind_number (replies.Blocked path) = 12
+
+-- what a reply says: exit 2, stdout 3, stderr 4, origin 5, receipt 6, placed 7, reason 8, value 9, path 10, first 11, second 12, ends 13
+abbrev pub parts_of : Reply → List ℕ
+parts_of (replies.Done exit stdout stderr origin receipt placed) =
+    exit_part exit stdout stderr ++ number_part 5 (origin_number origin) ++ receipt_part receipt placed
+parts_of (replies.BadRequest bad) = bad_part bad
+parts_of (replies.NotRemotable cause) = local_cause_part cause
+parts_of (replies.InputMissing path) = bytes_part 10 path
+parts_of (replies.InputChanged input) = bytes_part 10 input.path ++ seen_parts 11 input
+parts_of (replies.SourceFault path) = bytes_part 10 path
+parts_of (replies.TooLarge limit n path) = too_large_part limit n path
+parts_of (replies.AllFailed failures) = ends_part failures
+parts_of (replies.PlaceFault receipt placed) = receipt_part receipt placed
+parts_of replies.JournalFull = []
+parts_of replies.NoMemory = []
+parts_of (replies.Blocked path) = bytes_part 10 path
+
+-- kind 1, left out of a reply of kind 0, and what the reply says
 unfoldable pub payload_of : Reply → List ℕ
-payload_of (replies.Done exit stdout stderr origin receipt placed) =
-    signed_part 2 exit ++ bytes_part 3 stdout ++ bytes_part 4 stderr ++ number_part 5 (origin_number origin) ++ number_part 6 receipt ++ number_part 7 placed
-payload_of (replies.BadRequest bad) = number_part 1 1 ++ number_part 8 (reason_number bad.reason) ++ number_part 9 bad.value
-payload_of (replies.NotRemotable cause) = number_part 1 2 ++ local_cause_part cause
-payload_of (replies.InputMissing path) = number_part 1 3 ++ bytes_part 10 path
-payload_of (replies.InputChanged path first second) =
-    number_part 1 4 ++ bytes_part 10 path ++ bytes_field 11 (seen_message first) ++ bytes_field 12 (seen_message second)
-payload_of (replies.SourceFault path) = number_part 1 5 ++ bytes_part 10 path
-payload_of (replies.TooLarge limit n path) = number_part 1 6 ++ number_part 8 (limit_number limit) ++ number_part 9 n ++ path_part path
-payload_of (replies.AllFailed failures) = number_part 1 7 ++ flat_map (λ failure. bytes_field 13 (end_message failure)) failures
-payload_of (replies.PlaceFault receipt placed) = number_part 1 9 ++ number_part 6 receipt ++ number_part 7 placed
-payload_of replies.JournalFull = number_part 1 10
-payload_of replies.NoMemory = number_part 1 11
-payload_of (replies.Blocked path) = number_part 1 12 ++ bytes_part 10 path
+payload_of reply = number_part 1 (kind_number reply) ++ parts_of reply
 
 -- the frame of a reply: kind 2
 abbrev pub frame_of : Reply → List ℕ

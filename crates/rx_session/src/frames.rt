@@ -17,6 +17,7 @@ ghost use Rattle.rx_session.specs.Messages.{offset_of};
 ghost use Rattle.rx_session.specs.Streams.{IsNoCut, IsNoCutPast};
 
 use crate::bad::{BadReason, SessionFault, refuse};
+use crate::headers::{HEADER_LEN, REQUEST_KIND};
 use crate::message_fault::MessageFault;
 use crate::messages::read_raw_request;
 use crate::requests::Request;
@@ -25,12 +26,6 @@ use crate::streams::read_up_to;
 use rx_wire::WireFault;
 use rx_world::Source;
 use std::alloc::Global;
-
-/// The bytes of a frame's header.
-const HEADER_LEN: usize = 5;
-
-/// The kind of a frame that is a request.
-const REQUEST_KIND: u8 = 1;
 
 /// The most bytes of a request's payload.
 pub const MAX_REQUEST_LEN: usize = 4_194_304;

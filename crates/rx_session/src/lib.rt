@@ -3,26 +3,36 @@
 #![tactic(auto)]
 
 mod bad;
+mod call_faults;
+mod ends;
 mod field_rules;
+mod fields;
 mod frames;
+mod headers;
 mod jobs;
+mod local_ends;
 mod message_fault;
 mod messages;
 mod output_rules;
 mod parts;
 mod paths_in;
+mod payloads;
 mod raw_request;
-mod refusal_parts;
+mod refusals;
+mod remote_ends;
 mod replies;
-mod reply_parts;
+mod reply_frames;
 mod requests;
 mod rules;
+mod seen_parts;
 mod streams;
+mod version_text;
 
 pub use bad::{Bad, BadReason, SessionFault};
 pub use frames::{MAX_REQUEST_LEN, read_request};
 pub use jobs::{command_for, declared_inputs};
-pub use replies::{MAX_REPLY_LEN, Reply, Room, encode};
+pub use replies::Reply;
+pub use reply_frames::{MAX_REPLY_LEN, Room, encode};
 pub use requests::Request;
 pub use streams::write_frame;
 

@@ -7,6 +7,7 @@ ghost use Rattle.rx_wire.specs.Values.{content_of};
 ghost use Rattle.rx_wire.specs.Fields.{Placed, ReadsAll, placed_before};
 ghost use Rattle.rx_session.specs.Messages.{Reads, bytes_before, is_pair_field, is_text_field, made_of, pair_from, pair_with_content, pair_with_text, raw_request_of, no_pair, no_request, request_with, text_at, with_bytes, with_number, with_pair, with_text};
 
+use crate::fields::{pair, request};
 use crate::message_fault::MessageFault;
 use crate::raw_request::RawRequest;
 use rx_base::{Items, NoMemory, Text};
@@ -99,13 +100,21 @@ fn take_bytes(
 fn is_text_field(number: u32) -> bool
     ensures { result ≡ is_text_field number }
 {
-    matches!(number, 2 | 3 | 5 | 8 | 9 | 10)
+    matches!(
+        number,
+        request::ROOT
+            | request::WORDS
+            | request::WORKING_DIRECTORY
+            | request::INPUTS
+            | request::TOOLCHAIN_INPUTS
+            | request::OUTPUTS
+    )
 }
 
 fn is_pair_field(number: u32) -> bool
     ensures { result ≡ is_pair_field number }
 {
-    matches!(number, 4 | 11)
+    matches!(number, request::ENVIRONMENT | request::PLATFORM)
 }
 
 /// A text, whose length stands at an offset.
@@ -124,12 +133,12 @@ fn put_number(raw: &mut RawRequest, number: u32, n: u64)
     ensures { raw.new ≡ with_number raw.old number n }
 {
     match number {
-        1 => raw.version = n,
-        6 => raw.strategy = n,
-        7 => raw.kind = n,
-        12 => raw.accept_cached = n,
-        13 => raw.watch = n,
-        14 => raw.timeout_seconds = n,
+        request::VERSION => raw.version = n,
+        request::STRATEGY => raw.strategy = n,
+        request::KIND => raw.kind = n,
+        request::ACCEPT_CACHED => raw.accept_cached = n,
+        request::WATCH => raw.watch = n,
+        request::TIMEOUT_SECONDS => raw.timeout_seconds = n,
         _ => {}
     }
 }
@@ -139,12 +148,12 @@ fn put_text(raw: &mut RawRequest, number: u32, text: Text) -> Result<(), NoMemor
     ensures { OnOk result (raw.new ≡ with_text raw.old number text) }
 {
     match number {
-        2 => raw.root = text,
-        3 => raw.words.push(text)?,
-        5 => raw.working_directory = text,
-        8 => raw.inputs.push(text)?,
-        9 => raw.toolchain_inputs.push(text)?,
-        10 => raw.outputs.push(text)?,
+        request::ROOT => raw.root = text,
+        request::WORDS => raw.words.push(text)?,
+        request::WORKING_DIRECTORY => raw.working_directory = text,
+        request::INPUTS => raw.inputs.push(text)?,
+        request::TOOLCHAIN_INPUTS => raw.toolchain_inputs.push(text)?,
+        request::OUTPUTS => raw.outputs.push(text)?,
         _ => {}
     }
     Ok(())
@@ -155,8 +164,8 @@ fn put_pair(raw: &mut RawRequest, number: u32, pair: Pair) -> Result<(), NoMemor
     ensures { OnOk result (raw.new ≡ with_pair raw.old number pair) }
 {
     match number {
-        4 => raw.environment.push(pair)?,
-        11 => raw.platform.push(pair)?,
+        request::ENVIRONMENT => raw.environment.push(pair)?,
+        request::PLATFORM => raw.platform.push(pair)?,
         _ => {}
     }
     Ok(())
@@ -212,11 +221,11 @@ fn pair_with_text(
 {
     let Pair { name, value } = pair;
     match number {
-        1 => {
+        pair::NAME => {
             let name = read_text(alloc, bytes, at)?;
             Ok(Pair { name, value })
         }
-        2 => {
+        pair::VALUE => {
             let value = read_text(alloc, bytes, at)?;
             Ok(Pair { name, value })
         }

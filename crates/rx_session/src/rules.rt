@@ -7,6 +7,7 @@ ghost use Rattle.rx_session.specs.Rules.{bad_field, bad_last_field, kind_of, req
 
 use crate::bad::{BadReason, SessionFault, refuse};
 use crate::field_rules::{environment_holds, is_within, platform_holds, words_hold};
+use crate::fields::request;
 use crate::output_rules::outputs_stand;
 use crate::paths_in::{read_directory, read_paths};
 use crate::raw_request::RawRequest;
@@ -17,6 +18,23 @@ use std::alloc::Global;
 
 /// The only version of the protocol.
 const VERSION: u64 = 1;
+
+/// The number of each strategy.
+const LOCAL: u64 = 1;
+
+const REMOTE: u64 = 2;
+
+const REMOTE_LOCAL_FALLBACK: u64 = 3;
+
+const RACING: u64 = 4;
+
+/// The number of each kind.
+const TOOL: u64 = 1;
+
+const COMPILE: u64 = 2;
+
+/// The longest timeout: 2^32 - 1 seconds.
+const MAX_TIMEOUT_SECONDS: u64 = 4_294_967_295;
 
 /// The request that a message is, of the served root.
 #[tactic(auto, unfolding(crate::specs::Rules::request_by))]
@@ -35,79 +53,79 @@ pub(crate) fn request_by(
         return refuse(BadReason::WrongRoot, 0);
     }
     if let Some(number) = bad_field(alloc, &raw)? {
-        return refuse(BadReason::BadField, number);
+        return refuse(BadReason::BadField, u64::from(number));
     }
     if let Some(number) = unbuilt_field(&raw) {
-        return refuse(BadReason::NotBuilt, number);
+        return refuse(BadReason::NotBuilt, u64::from(number));
     }
     Ok(request_from(raw))
 }
 
 /// The least field that breaks its rule.
 #[tactic(auto, unfolding(crate::specs::Rules::bad_field, crate::specs::Rules::outputs_hold))]
-fn bad_field(alloc: Global, raw: &RawRequest) -> Result<Option<u64>, NoMemory>
+fn bad_field(alloc: Global, raw: &RawRequest) -> Result<Option<u32>, NoMemory>
     ensures { IfOk result (λ number. number ≡ bad_field raw.now) }
 {
     if !words_hold(raw.words.as_slice()) {
-        return Ok(Some(3));
+        return Ok(Some(request::WORDS));
     }
     if !environment_holds(alloc, raw.environment.as_slice())? {
-        return Ok(Some(4));
+        return Ok(Some(request::ENVIRONMENT));
     }
     let Some(directory) = read_directory(alloc, &raw.working_directory)? else {
-        return Ok(Some(5));
+        return Ok(Some(request::WORKING_DIRECTORY));
     };
-    if !is_within(1, 4, raw.strategy) {
-        return Ok(Some(6));
+    if !is_within(LOCAL, RACING, raw.strategy) {
+        return Ok(Some(request::STRATEGY));
     }
-    if !is_within(1, 2, raw.kind) {
-        return Ok(Some(7));
+    if !is_within(TOOL, COMPILE, raw.kind) {
+        return Ok(Some(request::KIND));
     }
     let Some(inputs) = read_paths(alloc, raw.inputs.as_slice())? else {
-        return Ok(Some(8));
+        return Ok(Some(request::INPUTS));
     };
     let Some(toolchain) = read_paths(alloc, raw.toolchain_inputs.as_slice())? else {
-        return Ok(Some(9));
+        return Ok(Some(request::TOOLCHAIN_INPUTS));
     };
     let Some(outputs) = read_paths(alloc, raw.outputs.as_slice())? else {
-        return Ok(Some(10));
+        return Ok(Some(request::OUTPUTS));
     };
     if !outputs_stand(&directory, inputs.as_slice(), toolchain.as_slice(), outputs)? {
-        return Ok(Some(10));
+        return Ok(Some(request::OUTPUTS));
     }
     Ok(bad_last_field(raw))
 }
 
 /// The least field from 11 on that breaks its rule.
 #[tactic(auto, unfolding(crate::specs::Rules::bad_last_field))]
-fn bad_last_field(raw: &RawRequest) -> Option<u64>
+fn bad_last_field(raw: &RawRequest) -> Option<u32>
     ensures { result ≡ bad_last_field raw.now }
 {
     if !platform_holds(raw.platform.as_slice()) {
-        return Some(11);
+        return Some(request::PLATFORM);
     }
     if !is_within(0, 1, raw.accept_cached) {
-        return Some(12);
+        return Some(request::ACCEPT_CACHED);
     }
     if !is_within(0, 1, raw.watch) {
-        return Some(13);
+        return Some(request::WATCH);
     }
-    if !is_within(0, 4_294_967_295, raw.timeout_seconds) {
-        return Some(14);
+    if !is_within(0, MAX_TIMEOUT_SECONDS, raw.timeout_seconds) {
+        return Some(request::TIMEOUT_SECONDS);
     }
     None
 }
 
 /// The least field whose value isn't served yet. A line goes with what is built.
 #[tactic(auto, unfolding(crate::specs::Rules::unbuilt_field))]
-fn unbuilt_field(raw: &RawRequest) -> Option<u64>
+fn unbuilt_field(raw: &RawRequest) -> Option<u32>
     ensures { result ≡ unbuilt_field raw.now }
 {
-    if raw.strategy != 1 {
-        return Some(6);
+    if raw.strategy != LOCAL {
+        return Some(request::STRATEGY);
     }
     if raw.watch != 0 {
-        return Some(13);
+        return Some(request::WATCH);
     }
     None
 }
@@ -137,9 +155,9 @@ fn strategy_of(number: u64) -> Strategy
     ensures { result ≡ strategy_of number }
 {
     match number {
-        1 => Strategy::Local,
-        2 => Strategy::Remote,
-        3 => Strategy::RemoteLocalFallback,
+        LOCAL => Strategy::Local,
+        REMOTE => Strategy::Remote,
+        REMOTE_LOCAL_FALLBACK => Strategy::RemoteLocalFallback,
         _ => Strategy::Racing,
     }
 }
@@ -148,7 +166,7 @@ fn kind_of(number: u64) -> Kind
     ensures { result ≡ kind_of number }
 {
     match number {
-        1 => Kind::Tool,
+        TOOL => Kind::Tool,
         _ => Kind::Compile,
     }
 }

@@ -3,14 +3,13 @@
 use super::{path_of, writes};
 use crate::Reply;
 use rx_base::{Digest, Items};
-use rx_world::{Attempt, BenchStep, Cause, Failure, Look, Seen, Stamp};
+use rx_world::{BenchStep, Cause, ChangedInput, Failure, Look, Seen, Stamp};
 use std::alloc::Global;
 use std::test::Fail;
 
 fn failed(alloc: Global, cause: Cause) -> Result<Reply, Fail> {
-    let attempt = Attempt::Local;
     let mut failures = Items::new(alloc);
-    failures.push(Failure { attempt, cause })?;
+    failures.push(Failure::Local { cause })?;
     Ok(Reply::AllFailed { failures })
 }
 
@@ -31,12 +30,12 @@ fn writes_ends(rt: HostRuntime) -> Result<(), Fail> {
 /// Two values of the input `a`, found by an attempt.
 fn changed_since(alloc: Global, first: Seen, second: Seen) -> Result<Reply, Fail> {
     let path = path_of(alloc, "a")?;
-    let cause = Cause::InputChanged {
+    let input = ChangedInput {
         path,
         first,
         second,
     };
-    failed(alloc, cause)
+    failed(alloc, Cause::InputChanged(input))
 }
 
 #[test]
@@ -88,11 +87,11 @@ const CHANGED_SINCE: &str = "02 000000b0 0807 6aab01 0801 1003 220161 \
 #[test]
 fn writes_contents(rt: HostRuntime) -> Result<(), Fail> {
     let alloc = rt.alloc();
-    let changed = Reply::InputChanged {
+    let changed = Reply::InputChanged(ChangedInput {
         path: path_of(alloc, "a")?,
         first: content(0xa5),
         second: content(0),
-    };
+    });
     writes(&rt, alloc, changed, CHANGED)?;
     let since = changed_since(alloc, content(0xa5), content(0))?;
     writes(&rt, alloc, since, CHANGED_SINCE)

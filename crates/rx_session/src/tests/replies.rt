@@ -3,7 +3,7 @@
 use super::{bytes_of, path_of, writes};
 use crate::{Bad, BadReason, Reply, Room};
 use rx_base::{Bytes, Text};
-use rx_world::{Limit, LocalCause, Look, Origin, Seen, Stamp};
+use rx_world::{ChangedInput, Limit, LocalCause, Look, Origin, Seen, Stamp};
 use std::alloc::Global;
 use std::test::Fail;
 
@@ -66,11 +66,11 @@ fn writes_where_a_path_is_at_fault(rt: HostRuntime) -> Result<(), Fail> {
     let path = path_of(alloc, "a")?;
     let blocked = Reply::Blocked { path };
     writes(&rt, alloc, blocked, "02 00000005 080c 520161")?;
-    let changed = Reply::InputChanged {
+    let changed = Reply::InputChanged(ChangedInput {
         path: path_of(alloc, "a")?,
         first: file(3, 1),
         second: file(4, 2),
-    };
+    });
     let frame = "02 00000015 0804 520161 5a06080110032001 6206080110042002";
     writes(&rt, alloc, changed, frame)
 }

@@ -1,8 +1,8 @@
 use Rattle.std.proofs.Common.{◌≡◌, ◌++◌, take}
 use Rattle.std.specs.List.{flat_map}
 use Rattle.rx_wire.specs.Out.{bytes_field}
-use Rattle.rx_session.specs.Replies.{end_message}
-use Rattle.rx_session.proofs.replies.push_failures.Given as goal
+use Rattle.rx_session.specs.Ends.{end_message}
+use Rattle.rx_session.proofs.payloads.push_ends.Given as goal
 
 abbrev pub invariant-loop-failure : goal.invariant-loop-failure
 invariant-loop-failure l =
