@@ -8,9 +8,18 @@ use Rattle.rx_world.specs.declared.looks.Look.{Look}
 use Rattle.rx_world.specs.declared.looks.Look.TheVariants.{Absent, Dir, File, Other}
 use Rattle.rx_world.specs.declared.looks.Stamp.{Stamp}
 use Rattle.rx_world.specs.declared.sources.Given.{Given}
+use Rattle.rx_world.specs.declared.sources.Sources as sources
+use Rattle.rx_world.specs.declared.world.World as world
+use Rattle.rx_world.specs.Answers.{Gives}
 use Rattle.rx_world.specs.Sources.{given_bytes, given_look, is_file}
 use Rattle.rx_digest_cache.specs.declared.cache_fault.CacheFault.{CacheFault}
 use Rattle.rx_digest_cache.specs.declared.cache_fault.CacheFault.TheVariants.{NoMemory, NotFile, SourceFault}
+
+-- between two states a source tree gave answers of which this holds
+pub record Asks {T W : Type 0} (w : world.Ghosts W) (s : sources.Ghosts T W) (before after : T) (Fact : List Given → Type 0) : Type 0 where
+  pub answers : List Given
+  pub gives : Gives w s before after answers
+  pub fact : Fact answers
 
 -- the first answer is a look at the path, which was a file, and these are the others
 pub record FollowsFile (path : List ℕ) (answers others : List Given) : Type 0 where

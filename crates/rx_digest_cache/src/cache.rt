@@ -2,12 +2,10 @@
 
 ghost use Rattle.std.specs.Prelude.{◌≡◌, [], ◌∷◌, IfOk, IfSome, IsOk, List, MatchResult, false, true};
 ghost use Rattle.rx_base.specs.Digests.{digest_of};
-ghost use Rattle.rx_world.specs.declared.sources.Given.{Given};
 ghost use Rattle.rx_world.specs.Causes.{HasCauseOf};
 ghost use Rattle.rx_world.specs.Sources.{given_bytes, given_look, is_file};
 ghost use Rattle.rx_digest_cache.specs.declared.cache_fault.CacheFault.TheVariants.{SourceFault as source_fault};
-ghost use Rattle.rx_world.specs.Answers.{Gives};
-ghost use Rattle.rx_digest_cache.specs.Cache.{HasDigest, IsFound, IsRead, Refuses, RefusesRead};
+ghost use Rattle.rx_digest_cache.specs.Cache.{Asks, HasDigest, IsFound, IsRead, Refuses, RefusesRead};
 ghost use Rattle.rx_digest_cache.specs.Kept.{IsTied};
 
 use crate::{CacheFault, KeptDigests, StampedDigest};
@@ -48,9 +46,10 @@ impl<W: World> DigestCache<W> {
         sources: &mut S,
         path: &RelPath,
     ) -> Result<(Look, Digest), CacheFault>
-        ensures answered { (answers : List Given) × Gives S.listed S.keeps S.given W.content W.stamps_honest sources.old sources.new answers
-            × MatchResult result (λ found. IsFound path.now answers found.0 found.1) (Refuses path.now answers) }
-        ensures content { IfOk result (λ found. W.stamps_honest → HasDigest W.content path.now found.0 found.1) }
+        ensures answered { Asks W.World S.Sources sources.old sources.new (λ answers. MatchResult result
+            (λ found. IsFound path.now answers found.0 found.1) (Refuses path.now answers)) }
+        ensures content { IfOk result (λ found. W.stamps_honest →
+            HasDigest W.content path.now found.0 found.1) }
         ensures cause { HasCauseOf source_fault (S.faults sources.old) (S.faults sources.new) result }
     {
         let look = sources.look(path)?;
@@ -70,7 +69,8 @@ impl<W: World> DigestCache<W> {
     /// The digest that is kept of a path under just this stamp, without a look at the path. It takes
     /// no memory, and holds the lock for this alone.
     pub fn find(&self, rt: &impl Wait, path: &RelPath, stamp: Stamp) -> Option<Digest>
-        ensures { IfSome result (λ digest. W.stamps_honest → digest ≡ digest_of (W.content path.now stamp)) }
+        ensures { IfSome result (λ digest. W.stamps_honest →
+            digest ≡ digest_of (W.content path.now stamp)) }
     {
         self.kept.lock(rt).find(path, stamp)
     }
@@ -83,9 +83,10 @@ impl<W: World> DigestCache<W> {
         sources: &mut S,
         path: &RelPath,
     ) -> Result<(Look, Digest), CacheFault>
-        ensures answered { (others : List Given) × Gives S.listed S.keeps S.given W.content W.stamps_honest sources.old sources.new others
-            × MatchResult result (λ found. IsRead path.now others found.0 found.1) (RefusesRead path.now others) }
-        ensures content { IfOk result (λ found. W.stamps_honest → HasDigest W.content path.now found.0 found.1) }
+        ensures answered { Asks W.World S.Sources sources.old sources.new (λ others. MatchResult result
+            (λ found. IsRead path.now others found.0 found.1) (RefusesRead path.now others)) }
+        ensures content { IfOk result (λ found. W.stamps_honest →
+            HasDigest W.content path.now found.0 found.1) }
         ensures cause { HasCauseOf source_fault (S.faults sources.old) (S.faults sources.new) result }
     {
         let (look, bytes) = sources.read(path)?;

@@ -62,7 +62,8 @@ impl<W: World> Model for KeptDigests<W> {
 
     ghost view = { λ k. record { entries = k.entries.entries; limit = k.limit } };
 
-    ghost invariant = { λ k. (length k.entries.entries ≤ k.limit) × (W.stamps_honest → AreTied W.content k.entries.entries) };
+    ghost invariant = { λ k. (length k.entries.entries ≤ k.limit)
+        × (W.stamps_honest → AreTied W.content k.entries.entries) };
 }
 
 impl<W: World> KeptDigests<W> {
@@ -80,7 +81,8 @@ impl<W: World> KeptDigests<W> {
     /// The digest that is kept of a path, where it was read under this stamp. It takes no memory.
     pub fn find(&self, path: &RelPath, stamp: Stamp) -> Option<Digest>
         ensures kept { result ≡ digest_under stamp (kept_at self.now.entries path.now) }
-        ensures tied { IfSome result (λ digest. W.stamps_honest → digest ≡ digest_of (W.content path.now stamp)) }
+        ensures tied { IfSome result (λ digest. W.stamps_honest →
+            digest ≡ digest_of (W.content path.now stamp)) }
     {
         let entry = self.entries.get(path)?;
         if entry.stamp != stamp {
@@ -98,8 +100,10 @@ impl<W: World> KeptDigests<W> {
     ) -> Result<(), NotKept>
         requires { W.stamps_honest → IsTied W.content path.now entry }
         ensures kept { OnOk result (Keeps self.old.entries self.new.entries path.now entry) }
-        ensures same { OnErr result ((self.new.entries ≡ self.old.entries) × (kept_at self.old.entries path.now ≡ None)) }
-        ensures full { IsErrOf result full ↔ ((kept_at self.old.entries path.now ≡ None) × (length self.old.entries ≡ self.old.limit)) }
+        ensures same { OnErr result
+            ((self.new.entries ≡ self.old.entries) × (kept_at self.old.entries path.now ≡ None)) }
+        ensures full { IsErrOf result full ↔ ((kept_at self.old.entries path.now ≡ None)
+            × (length self.old.entries ≡ self.old.limit)) }
         ensures within { length self.new.entries ≤ self.new.limit }
         ensures limit { self.new.limit ≡ self.old.limit }
     {
