@@ -46,11 +46,13 @@ impl<W: World> DigestCache<W> {
         sources: &mut S,
         path: &RelPath,
     ) -> Result<(Look, Digest), CacheFault>
-        ensures answered { Asks W.World S.Sources sources.old sources.new (λ answers. MatchResult result
+        ensures answered { Asks W.World S.Sources sources.old sources.new (λ answers.
+            MatchResult result
             (λ found. IsFound path.now answers found.0 found.1) (Refuses path.now answers)) }
         ensures content { IfOk result (λ found. W.stamps_honest →
             HasDigest W.content path.now found.0 found.1) }
-        ensures cause { HasCauseOf source_fault (S.faults sources.old) (S.faults sources.new) result }
+        ensures cause { HasCauseOf source_fault (S.faults sources.old)
+            (S.faults sources.new) result }
     {
         let look = sources.look(path)?;
         let Look::File {
@@ -83,11 +85,13 @@ impl<W: World> DigestCache<W> {
         sources: &mut S,
         path: &RelPath,
     ) -> Result<(Look, Digest), CacheFault>
-        ensures answered { Asks W.World S.Sources sources.old sources.new (λ others. MatchResult result
+        ensures answered { Asks W.World S.Sources sources.old sources.new (λ others.
+            MatchResult result
             (λ found. IsRead path.now others found.0 found.1) (RefusesRead path.now others)) }
         ensures content { IfOk result (λ found. W.stamps_honest →
             HasDigest W.content path.now found.0 found.1) }
-        ensures cause { HasCauseOf source_fault (S.faults sources.old) (S.faults sources.new) result }
+        ensures cause { HasCauseOf source_fault (S.faults sources.old)
+            (S.faults sources.new) result }
     {
         let (look, bytes) = sources.read(path)?;
         let Look::File {
