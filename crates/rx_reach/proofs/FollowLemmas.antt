@@ -14,7 +14,7 @@ use Rattle.rx_reach.specs.declared.tries.Candidate.{Candidate}
 use Rattle.rx_reach.specs.declared.tries.Candidate.TheVariants as candidate
 use Rattle.rx_reach.specs.declared.candidates.Step.{Step}
 use Rattle.rx_reach.specs.declared.tries.Tried.{Tried}
-use Rattle.rx_reach.specs.Candidates.{AreShort, Follows, IsAt, IsOutside, IsTried, Try, arrived, candidate_at, end_of, is_dir, is_other, is_passable, left_at, left_of, refusal, step_look, stopped, walked, way}
+use Rattle.rx_reach.specs.Candidates.{AreShort, Follows, IsAt, IsOutside, IsTried, Try, candidate_at_end, candidate_at, end_of, is_dir, is_other, is_passable, left_at, left_of, refusal, step_look, candidate_at_stop, walked, way}
 use Rattle.rx_reach.specs.Scenes.{Scene}
 
 -- ---- step by step
@@ -29,7 +29,7 @@ passable-from scene step look b e h = sym (ap is_dir h) ∙ e
 candidate-pass : (scene : Scene) (step : Step) (others : List Step) (path : List ℕ) → is_passable scene step ≡ true → candidate_at scene (step ∷ others) path ≡ candidate_at scene others path
 candidate-pass scene step others path e = rw e refl
 
-candidate-stop : (scene : Scene) (step : Step) (others : List Step) (path : List ℕ) → is_passable scene step ≡ false → candidate_at scene (step ∷ others) path ≡ stopped (step_look scene step.path) step.path
+candidate-stop : (scene : Scene) (step : Step) (others : List Step) (path : List ℕ) → is_passable scene step ≡ false → candidate_at scene (step ∷ others) path ≡ candidate_at_stop (step_look scene step.path) step.path
 candidate-stop scene step others path e = rw e refl
 
 walked-pass : (scene : Scene) (step : Step) (others : List Step) → is_passable scene step ≡ true → walked scene (step ∷ others) ≡ step ∷ walked scene others
@@ -48,9 +48,9 @@ left-first step look others e = rw e (by step.left)
 left-none : (step : Step) (look : Look) → is_dir look ≡ false → left_at look step ≡ []
 left-none step look e = rw e refl
 
-pub turn-passes : (scene : Scene) (all : List Step) (path : List ℕ) (old new : List (List ℕ)) (i : ℕ) (step : Step) (look : Look) → i < length all → step ≡ get_or all i step
+pub step-passes : (scene : Scene) (all : List Step) (path : List ℕ) (old new : List (List ℕ)) (i : ℕ) (step : Step) (look : Look) → i < length all → step ≡ get_or all i step
     → is_dir look ≡ true → new ≡ old ++ left_at look step → look ≡ step_look scene step.path → GoesOn scene all path old i → GoesOn scene all path new (i + 1)
-turn-passes scene all path old new i step look h e dir pushed is so =
+step-passes scene all path old new i step look h e dir pushed is so =
     let pass = passable-from scene step look true dir is in
     let rest = drop (i + 1) all in (
       so.0 ∙ at_drop_more (λ steps. candidate_at scene steps path) all i step h ∙ ap (λ s. candidate_at scene (s ∷ rest) path) (sym e) ∙ candidate-pass scene step rest path pass,
@@ -58,23 +58,23 @@ turn-passes scene all path old new i step look h e dir pushed is so =
           ∙ sym (append_assoc old (left_at look step) (left_of (walked scene rest))) ∙ ap (λ (front : List (List ℕ)). front ++ left_of (walked scene rest)) (sym pushed),
     )
 
-pub turn-stops : (scene : Scene) (all : List Step) (path : List ℕ) (old new : List (List ℕ)) (i : ℕ) (step : Step) (look : Look) (found : Candidate) → i < length all → step ≡ get_or all i step
-    → is_dir look ≡ false → new ≡ old ++ left_at look step → found ≡ stopped look step.path → look ≡ step_look scene step.path → GoesOn scene all path old i
+pub step-stops : (scene : Scene) (all : List Step) (path : List ℕ) (old new : List (List ℕ)) (i : ℕ) (step : Step) (look : Look) (found : Candidate) → i < length all → step ≡ get_or all i step
+    → is_dir look ≡ false → new ≡ old ++ left_at look step → found ≡ candidate_at_stop look step.path → look ≡ step_look scene step.path → GoesOn scene all path old i
     → Follows scene all path (record { candidate = found; left = new })
-turn-stops scene all path old new i step look found h e dir pushed f is so =
+step-stops scene all path old new i step look found h e dir pushed f is so =
     let stop = passable-from scene step look false dir is in
     let rest = drop (i + 1) all in (
-      f ∙ ap (λ l. stopped l step.path) is
+      f ∙ ap (λ l. candidate_at_stop l step.path) is
           ∙ sym (so.0 ∙ at_drop_more (λ steps. candidate_at scene steps path) all i step h ∙ ap (λ s. candidate_at scene (s ∷ rest) path) (sym e) ∙ candidate-stop scene step rest path stop),
       pushed ∙ ap (λ more. old ++ more) (left-none step look dir)
           ∙ sym (so.1 ∙ ap (λ more. old ++ more) (at_drop_more (λ steps. left_of (walked scene steps)) all i step h ∙ ap (λ s. left_of (walked scene (s ∷ rest))) (sym e) ∙ ap left_of (walked-stop scene step rest stop))),
     )
 
 pub end-arrives : (scene : Scene) (all : List Step) (path : List ℕ) (left : List (List ℕ)) (i : ℕ) (look : Look) (found : Candidate) → length all ≤ i
-    → found ≡ arrived look path → look ≡ scene.look path → GoesOn scene all path left i → Follows scene all path (record { candidate = found; left = left })
+    → found ≡ candidate_at_end look path → look ≡ scene.look path → GoesOn scene all path left i → Follows scene all path (record { candidate = found; left = left })
 end-arrives scene all path left i look found h f is so =
     let none = drop_all i all h in (
-      f ∙ ap (λ l. arrived l path) is ∙ sym (so.0 ∙ ap (λ steps. candidate_at scene steps path) none),
+      f ∙ ap (λ l. candidate_at_end l path) is ∙ sym (so.0 ∙ ap (λ steps. candidate_at scene steps path) none),
       sym (so.1 ∙ ap (λ steps. left ++ left_of (walked scene steps)) none ∙ append-nil left),
     )
 
@@ -84,59 +84,59 @@ split : (b : Bool) → (b ≡ true) ⊎ (b ≡ false)
 split true = inl refl
 split false = inr refl
 
-arrived-found : (look : Look) (path found : List ℕ) → arrived look path ≡ candidate.Found found → (is_file look ≡ true) × (path ≡ found)
-arrived-found (File stamp executable) path found e = (refl, cc e)
-arrived-found Other path found e = absurd (cc e)
-arrived-found Absent path found e = absurd (cc e)
-arrived-found Dir path found e = absurd (cc e)
+at_end-found : (look : Look) (path found : List ℕ) → candidate_at_end look path ≡ candidate.Found found → (is_file look ≡ true) × (path ≡ found)
+at_end-found (File stamp executable) path found e = (refl, cc e)
+at_end-found Other path found e = absurd (cc e)
+at_end-found Absent path found e = absurd (cc e)
+at_end-found Dir path found e = absurd (cc e)
 
-arrived-other : (look : Look) (path found : List ℕ) → arrived look path ≡ candidate.Other found → (is_other look ≡ true) × (path ≡ found)
-arrived-other Other path found e = (refl, cc e)
-arrived-other (File stamp executable) path found e = absurd (cc e)
-arrived-other Absent path found e = absurd (cc e)
-arrived-other Dir path found e = absurd (cc e)
+at_end-other : (look : Look) (path found : List ℕ) → candidate_at_end look path ≡ candidate.Other found → (is_other look ≡ true) × (path ≡ found)
+at_end-other Other path found e = (refl, cc e)
+at_end-other (File stamp executable) path found e = absurd (cc e)
+at_end-other Absent path found e = absurd (cc e)
+at_end-other Dir path found e = absurd (cc e)
 
-arrived-file : (look : Look) (path : List ℕ) → is_file look ≡ true → arrived look path ≡ candidate.Found path
-arrived-file (File stamp executable) path e = refl
-arrived-file Other path e = absurd (cc e)
-arrived-file Absent path e = absurd (cc e)
-arrived-file Dir path e = absurd (cc e)
+at_end-file : (look : Look) (path : List ℕ) → is_file look ≡ true → candidate_at_end look path ≡ candidate.Found path
+at_end-file (File stamp executable) path e = refl
+at_end-file Other path e = absurd (cc e)
+at_end-file Absent path e = absurd (cc e)
+at_end-file Dir path e = absurd (cc e)
 
-arrived-is_other : (look : Look) (path : List ℕ) → is_other look ≡ true → arrived look path ≡ candidate.Other path
-arrived-is_other Other path e = refl
-arrived-is_other (File stamp executable) path e = absurd (cc e)
-arrived-is_other Absent path e = absurd (cc e)
-arrived-is_other Dir path e = absurd (cc e)
+at_end-is_other : (look : Look) (path : List ℕ) → is_other look ≡ true → candidate_at_end look path ≡ candidate.Other path
+at_end-is_other Other path e = refl
+at_end-is_other (File stamp executable) path e = absurd (cc e)
+at_end-is_other Absent path e = absurd (cc e)
+at_end-is_other Dir path e = absurd (cc e)
 
-arrived-inside : (look : Look) (path : List ℕ) → arrived look path ≡ candidate.Outside → ⊥
-arrived-inside Other path e = cc e
-arrived-inside (File stamp executable) path e = cc e
-arrived-inside Absent path e = cc e
-arrived-inside Dir path e = cc e
+at_end-inside : (look : Look) (path : List ℕ) → candidate_at_end look path ≡ candidate.Outside → ⊥
+at_end-inside Other path e = cc e
+at_end-inside (File stamp executable) path e = cc e
+at_end-inside Absent path e = cc e
+at_end-inside Dir path e = cc e
 
-stopped-found : (look : Look) (path found : List ℕ) → stopped look path ≡ candidate.Found found → ⊥
-stopped-found Other path found e = cc e
-stopped-found (File stamp executable) path found e = cc e
-stopped-found Absent path found e = cc e
-stopped-found Dir path found e = cc e
+at_stop-found : (look : Look) (path found : List ℕ) → candidate_at_stop look path ≡ candidate.Found found → ⊥
+at_stop-found Other path found e = cc e
+at_stop-found (File stamp executable) path found e = cc e
+at_stop-found Absent path found e = cc e
+at_stop-found Dir path found e = cc e
 
-stopped-other : (look : Look) (path found : List ℕ) → stopped look path ≡ candidate.Other found → (is_other look ≡ true) × (path ≡ found)
-stopped-other Other path found e = (refl, cc e)
-stopped-other (File stamp executable) path found e = absurd (cc e)
-stopped-other Absent path found e = absurd (cc e)
-stopped-other Dir path found e = absurd (cc e)
+at_stop-other : (look : Look) (path found : List ℕ) → candidate_at_stop look path ≡ candidate.Other found → (is_other look ≡ true) × (path ≡ found)
+at_stop-other Other path found e = (refl, cc e)
+at_stop-other (File stamp executable) path found e = absurd (cc e)
+at_stop-other Absent path found e = absurd (cc e)
+at_stop-other Dir path found e = absurd (cc e)
 
-stopped-is_other : (look : Look) (path : List ℕ) → is_other look ≡ true → stopped look path ≡ candidate.Other path
-stopped-is_other Other path e = refl
-stopped-is_other (File stamp executable) path e = absurd (cc e)
-stopped-is_other Absent path e = absurd (cc e)
-stopped-is_other Dir path e = absurd (cc e)
+at_stop-is_other : (look : Look) (path : List ℕ) → is_other look ≡ true → candidate_at_stop look path ≡ candidate.Other path
+at_stop-is_other Other path e = refl
+at_stop-is_other (File stamp executable) path e = absurd (cc e)
+at_stop-is_other Absent path e = absurd (cc e)
+at_stop-is_other Dir path e = absurd (cc e)
 
-stopped-inside : (look : Look) (path : List ℕ) → stopped look path ≡ candidate.Outside → ⊥
-stopped-inside Other path e = cc e
-stopped-inside (File stamp executable) path e = cc e
-stopped-inside Absent path e = cc e
-stopped-inside Dir path e = cc e
+at_stop-inside : (look : Look) (path : List ℕ) → candidate_at_stop look path ≡ candidate.Outside → ⊥
+at_stop-inside Other path e = cc e
+at_stop-inside (File stamp executable) path e = cc e
+at_stop-inside Absent path e = cc e
+at_stop-inside Dir path e = cc e
 
 -- what stands at a step where one can't go on is what the scene has there
 stop-look : (scene : Scene) (step : Step) → is_passable scene step ≡ false → step_look scene step.path ≡ scene.look step.path
@@ -147,7 +147,7 @@ stop-look scene step e = by (length step.path == 0) e
     by false p = refl
 
 whole-found : (scene : Scene) (steps : List Step) (path : List ℕ) → walked scene steps ≡ steps → is_file (scene.look path) ≡ true → candidate_at scene steps path ≡ candidate.Found path
-whole-found scene [] path e f = arrived-file (scene.look path) path f
+whole-found scene [] path e f = at_end-file (scene.look path) path f
 whole-found scene (step ∷ others) path e f =
     elim (split (is_passable scene step)) [
       | inl p ↦ candidate-pass scene step others path p ∙ whole-found scene others path (cc (sym (walked-pass scene step others p) ∙ e)) f
@@ -155,11 +155,11 @@ whole-found scene (step ∷ others) path e f =
     ]
 
 found-whole : (scene : Scene) (steps : List Step) (path found : List ℕ) → candidate_at scene steps path ≡ candidate.Found found → (walked scene steps ≡ steps) × (is_file (scene.look path) ≡ true) × (path ≡ found)
-found-whole scene [] path found e = let a = arrived-found (scene.look path) path found e in (refl, a.0, a.1)
+found-whole scene [] path found e = let a = at_end-found (scene.look path) path found e in (refl, a.0, a.1)
 found-whole scene (step ∷ others) path found e =
     elim (split (is_passable scene step)) [
       | inl p ↦ let r = found-whole scene others path found (sym (candidate-pass scene step others path p) ∙ e) in (walked-pass scene step others p ∙ ap (λ s. step ∷ s) r.0, r.1, r.2)
-      | inr p ↦ absurd (stopped-found _ _ found (sym (candidate-stop scene step others path p) ∙ e))
+      | inr p ↦ absurd (at_stop-found _ _ found (sym (candidate-stop scene step others path p) ∙ e))
     ]
 
 end-pass : (scene : Scene) (step : Step) (others : List Step) (path : List ℕ) → is_passable scene step ≡ true → end_of scene (step ∷ others) path ≡ end_of scene others path
@@ -169,32 +169,32 @@ end-stop : (scene : Scene) (step : Step) (others : List Step) (path : List ℕ) 
 end-stop scene step others path e = rw e refl
 
 end-other : (scene : Scene) (steps : List Step) (path end : List ℕ) → end ≡ end_of scene steps path → is_other (scene.look end) ≡ true → candidate_at scene steps path ≡ candidate.Other end
-end-other scene [] path end e o = let o2 = subst (λ p. is_other (scene.look p) ≡ true) e o in arrived-is_other (scene.look path) path o2 ∙ ap (λ p. candidate.Other p) (sym e)
+end-other scene [] path end e o = let o2 = subst (λ p. is_other (scene.look p) ≡ true) e o in at_end-is_other (scene.look path) path o2 ∙ ap (λ p. candidate.Other p) (sym e)
 end-other scene (step ∷ others) path end e o =
     elim (split (is_passable scene step)) [
       | inl p ↦ candidate-pass scene step others path p ∙ end-other scene others path end (e ∙ end-pass scene step others path p) o
       | inr p ↦
           let at : end ≡ step.path = e ∙ end-stop scene step others path p in
           let o2 = subst (λ q. is_other (scene.look q) ≡ true) at o in
-          candidate-stop scene step others path p ∙ stopped-is_other (step_look scene step.path) step.path (ap is_other (stop-look scene step p) ∙ o2) ∙ ap (λ q. candidate.Other q) (sym at)
+          candidate-stop scene step others path p ∙ at_stop-is_other (step_look scene step.path) step.path (ap is_other (stop-look scene step p) ∙ o2) ∙ ap (λ q. candidate.Other q) (sym at)
     ]
 
 other-end : (scene : Scene) (steps : List Step) (path end : List ℕ) → candidate_at scene steps path ≡ candidate.Other end → (end ≡ end_of scene steps path) × (is_other (scene.look end) ≡ true)
-other-end scene [] path end e = let a = arrived-other (scene.look path) path end e in (sym a.1, subst (λ q. is_other (scene.look q) ≡ true) a.1 a.0)
+other-end scene [] path end e = let a = at_end-other (scene.look path) path end e in (sym a.1, subst (λ q. is_other (scene.look q) ≡ true) a.1 a.0)
 other-end scene (step ∷ others) path end e =
     elim (split (is_passable scene step)) [
       | inl p ↦ let r = other-end scene others path end (sym (candidate-pass scene step others path p) ∙ e) in (r.0 ∙ sym (end-pass scene step others path p), r.1)
       | inr p ↦
-          let a = stopped-other (step_look scene step.path) step.path end (sym (candidate-stop scene step others path p) ∙ e) in
+          let a = at_stop-other (step_look scene step.path) step.path end (sym (candidate-stop scene step others path p) ∙ e) in
           (sym a.1 ∙ sym (end-stop scene step others path p), subst (λ q. is_other (scene.look q) ≡ true) a.1 (ap is_other (sym (stop-look scene step p)) ∙ a.0))
     ]
 
 end-inside : (scene : Scene) (steps : List Step) (path : List ℕ) → candidate_at scene steps path ≡ candidate.Outside → ⊥
-end-inside scene [] path e = arrived-inside (scene.look path) path e
+end-inside scene [] path e = at_end-inside (scene.look path) path e
 end-inside scene (step ∷ others) path e =
     elim (split (is_passable scene step)) [
       | inl p ↦ end-inside scene others path (sym (candidate-pass scene step others path p) ∙ e)
-      | inr p ↦ stopped-inside _ _ (sym (candidate-stop scene step others path p) ∙ e)
+      | inr p ↦ at_stop-inside _ _ (sym (candidate-stop scene step others path p) ∙ e)
     ]
 
 -- ---- what is left again

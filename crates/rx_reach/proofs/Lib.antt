@@ -1,5 +1,6 @@
 mod EndLemmas
 mod FollowLemmas
+pub mod KnownLemmas
 pub mod LeftLemmas
 mod NextLemmas
 pub mod OpenedLemmas

@@ -1,6 +1,6 @@
 -- The next file that waits is read, until nothing waits.
 use Rattle.std.proofs.Common.{◌≡◌, ℕ, ◌+◌, inl, inr, true, false, List, [], ◌∷◌, length, sym, ap, ◌∙◌, subst, arith}
-use Rattle.std.specs.Prelude.{Contains}
+use Rattle.std.specs.Prelude.{Contains, Some}
 use Rattle.std.proofs.lemmas.List.Elements.{All-contains, All-nil}
 use Rattle.std.proofs.lemmas.Map.Views.{All-after_first}
 use Rattle.std.specs.declared.cmp.Ordering.TheVariants.{Less}
@@ -10,15 +10,18 @@ use Rattle.rx_base.specs.Digests.{digest_of}
 use Rattle.rx_base.specs.SortedPaths.{AreSorted}
 use Rattle.rx_base.proofs.FrontOrder.{not_self}
 use Rattle.rx_world.specs.declared.input_files.InputFile.{InputFile}
+use Rattle.rx_world.specs.declared.looks.Look.{Look}
+use Rattle.rx_world.specs.declared.looks.Look.TheVariants.{File}
 use Rattle.rx_world.specs.declared.looks.Stamp.{Stamp}
 use Rattle.rx_world.specs.Sources.{is_file}
 use Rattle.rx_reach.specs.declared.progress.Progress.{Progress}
 use Rattle.rx_reach.specs.declared.searches.Search.{Search}
-use Rattle.rx_reach.specs.Explored.{Advances, Explored, GoesOn, HaveDigests, IsExplored}
+use Rattle.rx_reach.specs.Explored.{Advances, AreSeen, Explored, GoesOn, HaveDigests, IsExplored}
 use Rattle.rx_reach.specs.FileTables.{paths_of}
 use Rattle.rx_reach.specs.Progress.{AreApart, IsKnown}
 use Rattle.rx_reach.specs.Reach.{IsReached, LeadsTo}
 use Rattle.rx_reach.specs.Scenes.{Scene}
+use Rattle.rx_reach.specs.Sights.{seen_at}
 use Rattle.rx_reach.specs.Visits.{Begins, VisitsAt}
 use Rattle.rx_reach.proofs.ReachLemmas.{explored-first, explored-next, popped-visits}
 use Rattle.rx_reach.proofs.SetLemmas.{head, none, tail}
@@ -61,25 +64,25 @@ none-next scene search p rest was is e = (subst (λ w. Explored scene search (re
 -- ---- over the turns
 
 -- each file was read in a turn of its own
-abbrev pub Turned : Scene → Search → ℕ → Progress → Progress → Type 0
-Turned scene search count old new = Explored scene search old → Explored scene search new × (length new.read ≡ length old.read + count)
+abbrev pub ReadEach : Scene → Search → ℕ → Progress → Progress → Type 0
+ReadEach scene search count old new = Explored scene search old → Explored scene search new × (length new.read ≡ length old.read + count)
 
-pub turned-none : (scene : Scene) (search : Search) (p : Progress) → Turned scene search 0 p p
-turned-none scene search p e = (e, omega arith)
+pub each-none : (scene : Scene) (search : Search) (p : Progress) → ReadEach scene search 0 p p
+each-none scene search p e = (e, omega arith)
 
-pub turned-more : (scene : Scene) (search : Search) (count : ℕ) (p mid q : Progress) → Turned scene search count p mid → (Explored scene search mid → GoesOn scene search true mid q) → Turned scene search (count + 1) p q
-turned-more scene search count p mid q turned next e =
+pub each-more : (scene : Scene) (search : Search) (count : ℕ) (p mid q : Progress) → ReadEach scene search count p mid → (Explored scene search mid → GoesOn scene search true mid q) → ReadEach scene search (count + 1) p q
+each-more scene search count p mid q turned next e =
     let x = turned e in
     let y = next x.0 in
     (y.0, omega (arith, x.1, y.1))
 
-pub turned-done : (scene : Scene) (search : Search) (count most : ℕ) (p mid q : Progress) → Turned scene search count p mid → (Explored scene search mid → GoesOn scene search false mid q) → Explored scene search p → Advances scene search most p q
-turned-done scene search count most p mid q turned next e =
+pub each-done : (scene : Scene) (search : Search) (count most : ℕ) (p mid q : Progress) → ReadEach scene search count p mid → (Explored scene search mid → GoesOn scene search false mid q) → Explored scene search p → Advances scene search most p q
+each-done scene search count most p mid q turned next e =
     let y = next (turned e).0 in
     (y.0, inl y.1)
 
-pub turned-out : (scene : Scene) (search : Search) (count most : ℕ) (p q : Progress) → count ≡ most → Turned scene search count p q → Explored scene search p → Advances scene search most p q
-turned-out scene search count most p q is turned e =
+pub each-out : (scene : Scene) (search : Search) (count most : ℕ) (p q : Progress) → count ≡ most → ReadEach scene search count p q → Explored scene search p → Advances scene search most p q
+each-out scene search count most p q is turned e =
     let x = turned e in
     (x.0, inr (x.1 ∙ ap (λ n. length p.read + n) is))
 
@@ -93,6 +96,9 @@ explored-all scene search count p q empty b advances =
 
 pub empty-digests : (content : List ℕ → Stamp → List ℕ) (files : List InputFile) → files ≡ [] → HaveDigests content files
 empty-digests content files e = subst (HaveDigests content) (sym e) (All-nil (λ (file : InputFile). file.digest ≡ digest_of (content file.path file.stamp)))
+
+pub empty-seen : (sights : List (List ℕ × Look)) (files : List InputFile) → files ≡ [] → AreSeen sights files
+empty-seen sights files e = subst (AreSeen sights) (sym e) (All-nil (λ (file : InputFile). seen_at sights file.path ≡ Some (File file.stamp file.executable)))
 
 pub none-apart : (p : Progress) (rest : List (List ℕ)) → rest ≡ [] → AreApart (record { waiting = rest; read = p.read; hard = p.hard; left = p.left })
 none-apart p rest is = λ path k _. none path (subst (λ xs. Contains xs path) is k)

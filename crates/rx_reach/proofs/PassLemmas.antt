@@ -46,19 +46,19 @@ steps-append names next (p ∷ ps) qs e =
     ∙ sym (append_assoc (steps names (p ∷ [])) (steps r.0 ps) (steps next qs)) ∙ ap (λ (front : List Step). front ++ steps next qs) (sym (steps-cons names r.0 p ps r.1))
 
 -- what is left to pass leads on
-pub turn-leads : (all names final : Names) (i : ℕ) (part : List ℕ) → (i < length all) × (part ≡ get_or all i part) → with_parts names (drop i all) ≡ Ok final
+pub part-leads : (all names final : Names) (i : ℕ) (part : List ℕ) → (i < length all) × (part ≡ get_or all i part) → with_parts names (drop i all) ≡ Ok final
     → (next : Names) × (with_part names part ≡ Ok next)
-turn-leads all names final i part t e =
+part-leads all names final i part t e =
     let r = bind_ok (with_part names part) (λ next. with_parts next (drop (i + 1) all)) final (sym (with_parts-drop all names i part t) ∙ e) in
     (r.0, r.1)
 
-pub turn-names : (all names next : Names) (i : ℕ) (part : List ℕ) → (i < length all) × (part ≡ get_or all i part) → with_part names part ≡ Ok next
+pub part-names : (all names next : Names) (i : ℕ) (part : List ℕ) → (i < length all) × (part ≡ get_or all i part) → with_part names part ≡ Ok next
     → with_parts next (drop (i + 1) all) ≡ with_parts names (drop i all)
-turn-names all names next i part t e = sym (with_parts-drop all names i part t ∙ ap (λ r. r >>= λ one. with_parts one (drop (i + 1) all)) e)
+part-names all names next i part t e = sym (with_parts-drop all names i part t ∙ ap (λ r. r >>= λ one. with_parts one (drop (i + 1) all)) e)
 
-pub turn-steps : (all names next : Names) (i : ℕ) (part : List ℕ) → (i < length all) × (part ≡ get_or all i part) → with_part names part ≡ Ok next
+pub part-steps : (all names next : Names) (i : ℕ) (part : List ℕ) → (i < length all) × (part ≡ get_or all i part) → with_part names part ≡ Ok next
     → steps names (drop i all) ≡ steps names (part ∷ []) ++ steps next (drop (i + 1) all)
-turn-steps all names next i part t e =
+part-steps all names next i part t e =
     at_drop_more (steps names) all i part t.0 ∙ ap (λ p. steps names (p ∷ drop (i + 1) all)) (sym t.1) ∙ steps-cons names next part (drop (i + 1) all) e
 
 pub lacks-at : (c : ℕ) (all : Names) (i : ℕ) (part : List ℕ) → AllByRecursion (Lacks c) all → (i < length all) × (part ≡ get_or all i part) → Lacks c part
@@ -91,15 +91,15 @@ long-ends names final (p ∷ ps) e short long h =
     by false s r rest k = let here = All-head HasShort _ (steps (next_names names p) ps) k in omega (arith, here, long)
 
 -- where one part leads to too long a path, not all are short
-pub turn-long : (all names final names0 : Names) (before before0 : List Step) (i : ℕ) (part : List ℕ) → (i < length all) × (part ≡ get_or all i part)
+pub part-long : (all names final names0 : Names) (before before0 : List Step) (i : ℕ) (part : List ℕ) → (i < length all) × (part ≡ get_or all i part)
     → with_parts names (drop i all) ≡ Ok final → length (joined final) ≤ longest → is_skipped part ≡ false → longest < length (joined (next_names names part))
     → before ++ steps names (drop i all) ≡ before0 ++ steps names0 all → AreShort before0 → AreShort (steps names0 all) → ⊥
-turn-long all names final names0 before before0 i part t leads short some long same h k =
+part-long all names final names0 before before0 i part t leads short some long same h k =
     let r = bind_ok (with_part names part) (λ next. with_parts next (drop (i + 1) all)) final (sym (with_parts-drop all names i part t) ∙ leads) in
     let next = with_part-next names r.0 part some r.1 in
     let whole = subst AreShort (sym same) (All-append HasShort before0 (steps names0 all) h k) in
     let rest = All-right before (steps names (drop i all)) whole in
-    let after = All-right (steps names (part ∷ [])) (steps r.0 (drop (i + 1) all)) (subst AreShort (turn-steps all names r.0 i part t r.1) rest) in
+    let after = All-right (steps names (part ∷ [])) (steps r.0 (drop (i + 1) all)) (subst AreShort (part-steps all names r.0 i part t r.1) rest) in
     long-ends r.0 final (drop (i + 1) all) r.2 short (subst (λ ns. longest < length (joined ns)) (sym next) long) after
 
 -- ---- a name in a directory

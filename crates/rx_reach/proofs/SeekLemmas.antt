@@ -134,9 +134,9 @@ Names = List (List ℕ)
 pub seeks-as : (scene : Scene) (blamed : List ℕ) (xs ys : List Try) (p q : Progress) → xs ≡ ys → Seeks scene blamed xs p q → Seeks scene blamed ys p q
 seeks-as scene blamed xs ys p q e h = subst (λ ts. Seeks scene blamed ts p q) e h
 
-pub under-turn : (scene : Scene) (blamed : List ℕ) (dirs : Names) (name : List ℕ) (i : ℕ) (dir : List ℕ) (p q r : Progress) → i < length dirs → dir ≡ get_or dirs i dir
+pub under-next : (scene : Scene) (blamed : List ℕ) (dirs : Names) (name : List ℕ) (i : ℕ) (dir : List ℕ) (p q r : Progress) → i < length dirs → dir ≡ get_or dirs i dir
     → Seeks scene blamed (tries_under (take i dirs) name) p q → Seeks scene blamed (record { dir = dir; name = name } ∷ []) q r → Seeks scene blamed (tries_under (take (i + 1) dirs) name) p r
-under-turn scene blamed dirs name i dir p q r lt e a b =
+under-next scene blamed dirs name i dir p q r lt e a b =
     let f : List ℕ → Try = λ d. record { dir = d; name = name } in
     let more : tries_under (take i dirs) name ++ f dir ∷ [] ≡ tries_under (take (i + 1) dirs) name = ap (λ d. tries_under (take i dirs) name ++ f d ∷ []) e ∙ sym (map_more f dirs i dir lt) in
     seeks-as scene blamed _ _ p r more (seeks-join scene blamed (tries_under (take i dirs) name) (f dir ∷ []) p q r a b)
@@ -156,9 +156,9 @@ flat-push : {A : Type 0} (f : A → List Try) (xs : List A) (x : A) → flat_map
 flat-push f [] x = append-nil (f x)
 flat-push f (y ∷ ys) x = ap (λ rest. f y ++ rest) (flat-push f ys x) ∙ sym (append_assoc (f y) (flat_map f ys) (f x))
 
-pub flat-turn : {A : Type 0} (scene : Scene) (blamed : List ℕ) (f : A → List Try) (all : List A) (i : ℕ) (x : A) (p q r : Progress) → i < length all → x ≡ get_or all i x
+pub flat-next : {A : Type 0} (scene : Scene) (blamed : List ℕ) (f : A → List Try) (all : List A) (i : ℕ) (x : A) (p q r : Progress) → i < length all → x ≡ get_or all i x
     → Seeks scene blamed (flat_map f (take i all)) p q → Seeks scene blamed (f x) q r → Seeks scene blamed (flat_map f (take (i + 1) all)) p r
-flat-turn scene blamed f all i x p q r lt e a b =
+flat-next scene blamed f all i x p q r lt e a b =
     let more : flat_map f (take i all) ++ f x ≡ flat_map f (take (i + 1) all) = sym (flat-push f (take i all) x) ∙ ap (λ y. flat_map f (take i all ++ y ∷ [])) e ∙ ap (flat_map f) (sym (take_more all i x lt)) in
     seeks-as scene blamed _ _ p r more (seeks-join scene blamed (flat_map f (take i all)) (f x) p q r a b)
 

@@ -172,10 +172,10 @@ table-sorted es (Err e) s h = tt
 
 -- ---- one more path
 
-pub adds-turn : (start old new all : List (List ℕ)) (i : ℕ) (path : List ℕ) → i < length all → path ≡ get_or all i path
+pub adds-next : (start old new all : List (List ℕ)) (i : ℕ) (path : List ℕ) → i < length all → path ≡ get_or all i path
     → ((p : List ℕ) → Contains old p ↔ (Contains start p ⊎ Contains (take i all) p)) → Adds old new path
     → (p : List ℕ) → Contains new p ↔ (Contains start p ⊎ Contains (take (i + 1) all) p)
-adds-turn start old new all i path lt e inv adds p =
+adds-next start old new all i path lt e inv adds p =
     let more : take (i + 1) all ≡ take i all ++ path ∷ [] = take_more all i path lt ∙ ap (λ q. take i all ++ q ∷ []) (sym e) in
     rw more (λ h. to ((adds p).0 h), λ h. (adds p).1 (from h))
   where

@@ -3,18 +3,19 @@ use Rattle.std.proofs.Common.{◌≡◌, ℕ, ◌≤◌, ◌⊎◌, inl, inr, Bo
 use Rattle.std.proofs.lemmas.List.Elements.{All-append, All-cons, All-contains, All-nil, All-weaker, Contains-append_left, Contains-append_right}
 use Rattle.std.proofs.lemmas.Map.Text.{is_eq-slice_cmp}
 use Rattle.std.proofs.lemmas.Slice.Eq.{bytes_eq-Decides}
-use Rattle.std.specs.Prelude.{All, Contains, None, Option, Some}
+use Rattle.std.specs.Prelude.{All, None, Option, Some}
 use Rattle.std.specs.BTreeMap.{BTreeMap, UpdatesBy, is_at}
 use Rattle.std.specs.Cmp.Lexicographic.{slice_cmp}
 use Rattle.std.specs.Option.{option_or}
 use Rattle.std.specs.Ordering.{nat_cmp}
 use Rattle.std.specs.Str.{bytes_eq}
+use Rattle.rx_world.specs.declared.looks.ChangedInput.{ChangedInput}
 use Rattle.rx_world.specs.declared.looks.Look.{Look}
 use Rattle.rx_world.specs.declared.sources.Given.{Given}
 use Rattle.rx_reach.specs.declared.faults.SightFault.{SightFault}
 use Rattle.rx_reach.specs.declared.faults.SightFault.TheVariants.{InputChanged, NoMemory, SourceFault}
 use Rattle.rx_reach.specs.Scenes.{AreRight, IsRight, Scene}
-use Rattle.rx_reach.specs.Sights.{Blames, Notes, WasSeen, answer_of, first_at, seen_at}
+use Rattle.rx_reach.specs.Sights.{BeginsWith, Blames, HaveDiffered, IsAnswered, Notes, WasSeen, answer_of, first_at, first_seen, seen_at}
 
 abbrev Sights : Type 0
 Sights = List (List ℕ × Look)
@@ -97,18 +98,19 @@ notes-put old new answer none u = record {
 
 -- ---- causes
 
-abbrev TellsOf : List ℕ → Look → List Given → Type 0
-TellsOf path look xs = (answer : Given) × Contains xs answer × (answer.path ≡ path) × (answer.look ≡ look)
-
-first-contains : (path : List ℕ) (xs : List Given) (look : Look) → first_at path xs ≡ Some look → TellsOf path look xs
+pub first-contains : (path : List ℕ) (xs : List Given) (look : Look) → first_at path xs ≡ Some look → IsAnswered xs path look
 first-contains path [] look e = absurd (cc e)
 first-contains path (x ∷ xs) look e = by (bytes_eq x.path path) refl (first-contains path xs look) e
   where
-    by : (b : Bool) → bytes_eq x.path path ≡ b → (first_at path xs ≡ Some look → TellsOf path look xs) → cond b (Some x.look) (first_at path xs) ≡ Some look → TellsOf path look (x ∷ xs)
+    by : (b : Bool) → bytes_eq x.path path ≡ b → (first_at path xs ≡ Some look → IsAnswered xs path look) → cond b (Some x.look) (first_at path xs) ≡ Some look → IsAnswered (x ∷ xs) path look
     by true q rest p = (x, Contains-append_left (x ∷ []) xs x (0, omega arith, refl), (bytes_eq-Decides x.path path).0 q, cc p)
     by false q rest p =
         let there = rest p in
         (there.0, Contains-append_right (x ∷ []) xs there.0 there.1, there.2, there.3)
+
+-- an answer stays one behind others
+pub answered-later : (xs ys : List Given) (path : List ℕ) (look : Look) → IsAnswered ys path look → IsAnswered (xs ++ ys) path look
+answered-later xs ys path look h = (h.0, Contains-append_right xs ys h.0 h.1, h.2, h.3)
 
 pub seen-later : (a b : Sights) (xs ys : List Given) (path : List ℕ) (look : Look) → Notes a b xs → WasSeen b ys path look → WasSeen a (xs ++ ys) path look
 seen-later a b xs ys path look n (inl e) =
@@ -116,12 +118,26 @@ seen-later a b xs ys path look n (inl e) =
       | inl before ↦ inl before
       | inr there ↦ let found = first-contains path xs look there in inr (found.0, Contains-append_left xs ys found.0 found.1, found.2, found.3)
     ]
-seen-later a b xs ys path look n (inr found) = inr (found.0, Contains-append_right xs ys found.0 found.1, found.2, found.3)
+seen-later a b xs ys path look n (inr h) = inr (answered-later xs ys path look h)
+
+-- what is seen first after some answers is seen first with them
+pub first-later : (a b : Sights) (xs ys : List Given) (path : List ℕ) → Notes a b xs → first_seen a (xs ++ ys) path ≡ first_seen b ys path
+first-later a b xs ys path n =
+    ap (λ o. option_or (seen_at a path) o) (first-append path xs ys)
+    ∙ sym (or-assoc (seen_at a path) (first_at path xs) (first_at path ys))
+    ∙ ap (λ o. option_or o (first_at path ys)) (sym (n.first path))
+
+pub begins-later : (a b : Sights) (xs ys : List Given) (change : ChangedInput) → Notes a b xs → BeginsWith b ys change → BeginsWith a (xs ++ ys) change
+begins-later a b xs ys change n h = record { first_is = first-later a b xs ys change.path n ∙ h.first_is; first_alone = h.first_alone; second_alone = h.second_alone }
+
+-- two looks that differ do so after other answers
+pub differed-later : (a b : Sights) (xs ys : List Given) (change : ChangedInput) → Notes a b xs → HaveDiffered b ys change → HaveDiffered a (xs ++ ys) change
+differed-later a b xs ys change n h = (begins-later a b xs ys change n h.0, (answered-later xs ys change.path change.second.look h.1.0, h.1.1))
 
 -- a fault after other answers
 pub blames-later : (a b : Sights) (xs ys : List Given) (before then now : ℕ) (fault : SightFault) → Notes a b xs → before ≤ then → Blames b ys then now fault → Blames a (xs ++ ys) before now fault
 blames-later a b xs ys before then now (SourceFault path) n le e = omega (arith, le, e)
-blames-later a b xs ys before then now (InputChanged path first second) n le e = (e.0, e.1, seen-later a b xs ys path first.look n e.2, seen-later a b xs ys path second.look n e.3, e.4)
+blames-later a b xs ys before then now (InputChanged change) n le e = differed-later a b xs ys change n e
 blames-later a b xs ys before then now NoMemory n le e = tt
 
 -- ---- scenes
@@ -149,11 +165,12 @@ notes-put-at old new answer path e none u =
 
 -- a look that differs from the one before
 pub changed-at : (sights : Sights) (path copy : List ℕ) (first second : Look) (bytes : Option (List ℕ)) (before now : ℕ) → copy ≡ path → Some first ≡ seen_at sights path → (first ≡ second → ⊥)
-    → Blames sights (answer_of path second bytes ∷ []) before now (InputChanged copy (record { look = first; digest = None }) (record { look = second; digest = None }))
+    → Blames sights (answer_of path second bytes ∷ []) before now (InputChanged (record { path = copy; first = record { look = first; digest = None }; second = record { look = second; digest = None } }))
 changed-at sights path copy first second bytes before now e seen apart = (
-  refl,
-  refl,
-  inl (ap (seen_at sights) e ∙ sym seen),
-  inr (answer_of path second bytes, (0, omega arith, refl), sym e, refl),
-  apart,
+  record {
+    first_is = or-some (seen_at sights copy) (first_at copy (answer_of path second bytes ∷ [])) first (ap (seen_at sights) e ∙ sym seen);
+    first_alone = refl;
+    second_alone = refl;
+  },
+  ((answer_of path second bytes, (0, omega arith, refl), sym e, refl), apart),
 )

@@ -10,13 +10,13 @@ use Rattle.rx_reach.specs.declared.searches.Search.{Search}
 use Rattle.rx_reach.specs.Candidates.{Try}
 use Rattle.rx_reach.specs.FileTables.{paths_of}
 use Rattle.rx_reach.specs.PathSets.{Adds}
-use Rattle.rx_reach.specs.Progress.{Explores, IsHardBy, IsHardIn, IsKnown, IsLeftBy, Judges, Seeks, Stays}
+use Rattle.rx_reach.specs.Progress.{Explores, IsHardBy, IsHardIn, IsKnown, IsLeftBy, Marks, Seeks, Stays}
 use Rattle.rx_reach.specs.Reach.{IsFound, has_hidden}
 use Rattle.rx_reach.specs.Scenes.{Scene}
 use Rattle.rx_reach.specs.Searches.{includes_in, includes_of, tries_in, tries_of}
 
-pub judged-hidden : (path : List ℕ) (hidden : Bool) (old new : Progress) → hidden ≡ true → new.waiting ≡ old.waiting → new.read ≡ old.read → new.left ≡ old.left → Adds old.hard new.hard path → Judges path hidden old new
-judged-hidden path hidden old new is w r l adds = record {
+pub marked-hidden : (path : List ℕ) (hidden : Bool) (old new : Progress) → hidden ≡ true → new.waiting ≡ old.waiting → new.read ≡ old.read → new.left ≡ old.left → Adds old.hard new.hard path → Marks path hidden old new
+marked-hidden path hidden old new is w r l adds = record {
   waiting_is = w;
   read_is = r;
   left_is = l;
@@ -26,8 +26,8 @@ judged-hidden path hidden old new is w r l adds = record {
   );
 }
 
-pub judged-open : (path : List ℕ) (hidden : Bool) (p : Progress) → hidden ≡ false → Judges path hidden p p
-judged-open path hidden p is = record {
+pub marked-open : (path : List ℕ) (hidden : Bool) (p : Progress) → hidden ≡ false → Marks path hidden p p
+marked-open path hidden p is = record {
   waiting_is = refl;
   read_is = refl;
   left_is = refl;
@@ -36,7 +36,7 @@ judged-open path hidden p is = record {
 
 -- with the tries and the judgement as the code has them
 explored-by : (scene : Scene) (search : Search) (path : List ℕ) (tries : List Try) (hidden : Bool) (p mid q : Progress) → tries ≡ tries_in search scene path → hidden ≡ has_hidden scene search path
-    → Judges path hidden p mid → Seeks scene path tries mid q → Explores scene search path p q
+    → Marks path hidden p mid → Seeks scene path tries mid q → Explores scene search path p q
 explored-by scene search path tries hidden p mid q te he j s = record {
   known = λ other. (
     λ h. elim ((s.known other).0 h) [ inl a ↦ inl (back other a) | inr a ↦ inr (subst (λ ts. IsFound scene ts other) te a) ],
@@ -67,13 +67,13 @@ explored-by scene search path tries hidden p mid q te he j s = record {
     hard-from other (inr (inr h)) = inr (subst (λ ts. IsHardBy scene path ts other) (sym te) h)
 
 pub explored : (scene : Scene) (search : Search) (path text : List ℕ) (found : Directives) (hidden : Bool) (p mid q : Progress) → found_view found ≡ includes_in text → hidden ≡ (found.hard || (search.is_c && found.raw))
-    → Judges path hidden p mid → Seeks scene path (flat_map (tries_of search path) (map name_view found.list.items)) mid q → scene.text path ≡ text → Explores scene search path p q
+    → Marks path hidden p mid → Seeks scene path (flat_map (tries_of search path) (map name_view found.list.items)) mid q → scene.text path ≡ text → Explores scene search path p q
 explored scene search path text found hidden p mid q view he j s e =
     let is : found_view found ≡ includes_of scene path = view ∙ ap includes_in (sym e) in
     explored-by scene search path _ hidden p mid q (ap (λ (f : Found). flat_map (tries_of search path) f.list) is) (he ∙ ap (λ (f : Found). f.hard || (search.is_c && f.raw)) is) j s
 
-pub judged-stays : (path : List ℕ) (hidden : Bool) (old new : Progress) → Judges path hidden old new → Stays old new
-judged-stays path hidden old new j = record {
+pub marked-stays : (path : List ℕ) (hidden : Bool) (old new : Progress) → Marks path hidden old new → Stays old new
+marked-stays path hidden old new j = record {
   read_is = j.read_is;
   apart = λ a other w r. a other (subst (λ xs. Contains xs other) j.waiting_is w) (subst (λ (xs : List InputFile). Contains (paths_of xs) other) j.read_is r);
 }

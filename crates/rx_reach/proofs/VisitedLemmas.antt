@@ -1,23 +1,26 @@
 -- A file that was read, among those that were read before.
 use Rattle.std.proofs.Common.{◌≡◌, ◌↔◌, ℕ, ◌+◌, ◌⊎◌, inl, inr, Bool, List, length, refl, sym, ap, ◌∙◌, subst}
-use Rattle.std.specs.Prelude.{Contains}
-use Rattle.std.proofs.lemmas.List.Elements.{All-contains}
+use Rattle.std.specs.Prelude.{Contains, Some}
+use Rattle.std.proofs.lemmas.List.Elements.{All-contains, All-weaker}
 use Rattle.rx_base.specs.Digests.{digest_of}
 use Rattle.rx_base.specs.declared.digests.Digest.{Digest}
 use Rattle.rx_world.specs.declared.input_files.InputFile.{InputFile}
 use Rattle.rx_world.specs.declared.looks.Look.{Look}
 use Rattle.rx_world.specs.declared.looks.Look.TheVariants.{File}
 use Rattle.rx_world.specs.declared.looks.Stamp.{Stamp}
+use Rattle.rx_world.specs.declared.sources.Given.{Given}
 use Rattle.rx_reach.specs.declared.progress.Progress.{Progress}
 use Rattle.rx_reach.specs.declared.searches.Search.{Search}
-use Rattle.rx_reach.specs.Explored.{HaveDigests}
+use Rattle.rx_reach.specs.Explored.{AreSeen, HaveDigests}
 use Rattle.rx_reach.specs.FileTables.{paths_of}
 use Rattle.rx_reach.specs.Progress.{AreApart, Explores, IsHardIn, IsKnown, IsLeftBy, Stays}
 use Rattle.rx_reach.specs.Reach.{IsFileOf}
 use Rattle.rx_reach.specs.Scenes.{Scene}
 use Rattle.rx_reach.specs.Searches.{tries_in}
+use Rattle.rx_reach.specs.Sights.{Notes, seen_at}
 use Rattle.rx_reach.specs.Visits.{VisitsAt}
 use Rattle.rx_reach.proofs.SetLemmas.{all-from, mapped, unmapped}
+use Rattle.rx_reach.proofs.SightLemmas.{notes-keep}
 
 -- the paths of the files after one more was added
 paths-more : (file : InputFile) (old new : List InputFile) → ((f : InputFile) → Contains new f ↔ ((f ≡ file) ⊎ Contains old f)) → (path : List ℕ) → Contains (paths_of new) path ↔ ((path ≡ file.path) ⊎ Contains (paths_of old) path)
@@ -84,3 +87,23 @@ visited-digests content file old new added d all =
       | inl e ↦ subst (λ (x : InputFile). x.digest ≡ digest_of (content x.path x.stamp)) (sym e) d
       | inr k ↦ All-contains (λ (x : InputFile). x.digest ≡ digest_of (content x.path x.stamp)) old f all k
     ])
+
+-- ---- what was seen
+
+abbrev Sights : Type 0
+Sights = List (List ℕ × Look)
+
+abbrev IsSeen : Sights → InputFile → Type 0
+IsSeen sights file = seen_at sights file.path ≡ Some (File file.stamp file.executable)
+
+-- what was seen of files is seen later
+pub seen-kept : (old new : Sights) (answers : List Given) (files : List InputFile) → Notes old new answers → AreSeen old files → AreSeen new files
+seen-kept old new answers files n all = All-weaker (IsSeen old) (IsSeen new) (λ (file : InputFile) e. notes-keep old new answers file.path (File file.stamp file.executable) n e) files all
+
+-- a file is what was seen at the path of which its path is a copy
+pub seen-file : (sights : Sights) (look : Look) (stamp : Stamp) (executable : Bool) (path copy : List ℕ) → copy ≡ path → look ≡ File stamp executable → seen_at sights path ≡ Some look → seen_at sights copy ≡ Some (File stamp executable)
+seen-file sights look stamp executable path copy same is seen = ap (seen_at sights) same ∙ seen ∙ ap (λ l. Some l) is
+
+pub visited-seen : (sights : Sights) (file : InputFile) (old new : List InputFile) → ((f : InputFile) → Contains new f ↔ ((f ≡ file) ⊎ Contains old f)) → IsSeen sights file → AreSeen sights old → AreSeen sights new
+visited-seen sights file old new added is all =
+    all-from (IsSeen sights) new (λ (f : InputFile) h. elim ((added f).0 h) [ inl e ↦ subst (IsSeen sights) (sym e) is | inr k ↦ All-contains (IsSeen sights) old f all k ])

@@ -18,6 +18,9 @@ pub record Try : Type 0 where
   pub dir : List ℕ
   pub name : List ℕ
 
+abbrev pub try_in : List ℕ → List ℕ → Try
+try_in dir name = record { dir = dir; name = name }
+
 -- the name begins with a slash, or leaves the root
 abbrev pub IsOutside : Try → Type 0
 IsOutside t = IsUtf8 t.name × ((join_of t.dir t.name ≡ Err Absolute) ⊎ (join_of t.dir t.name ≡ Err AboveRoot))
@@ -93,23 +96,23 @@ end_of scene (step ∷ others) path = if is_passable scene step then end_of scen
 -- ---- where a way ends
 
 -- what was found where nothing is left of the way
-abbrev pub arrived : Look → List ℕ → Candidate
-arrived (File stamp executable) path = candidate.Found path
-arrived Other path = candidate.Other path
-arrived Absent path = candidate.Nothing
-arrived Dir path = candidate.Nothing
+abbrev pub candidate_at_end : Look → List ℕ → Candidate
+candidate_at_end (File stamp executable) path = candidate.Found path
+candidate_at_end Other path = candidate.Other path
+candidate_at_end Absent path = candidate.Nothing
+candidate_at_end Dir path = candidate.Nothing
 
 -- what was found at a step that is no directory
-abbrev pub stopped : Look → List ℕ → Candidate
-stopped Other path = candidate.Other path
-stopped (File stamp executable) path = candidate.Nothing
-stopped Absent path = candidate.Nothing
-stopped Dir path = candidate.Nothing
+abbrev pub candidate_at_stop : Look → List ℕ → Candidate
+candidate_at_stop Other path = candidate.Other path
+candidate_at_stop (File stamp executable) path = candidate.Nothing
+candidate_at_stop Absent path = candidate.Nothing
+candidate_at_stop Dir path = candidate.Nothing
 
 abbrev pub candidate_at : Scene → List Step → List ℕ → Candidate
-candidate_at scene [] path = arrived (scene.look path) path
+candidate_at scene [] path = candidate_at_end (scene.look path) path
 candidate_at scene (step ∷ others) path =
-    if is_passable scene step then candidate_at scene others path else stopped (step_look scene step.path) step.path
+    if is_passable scene step then candidate_at scene others path else candidate_at_stop (step_look scene step.path) step.path
 
 -- the paths of those steps that are left again
 abbrev pub left_of : List Step → List (List ℕ)

@@ -1,7 +1,9 @@
 -- A scan of includes between two files: what was found so far is right, and what was read so far is closed.
-use Rattle.std.specs.Prelude.{◌≡◌, ◌⊎◌, ◌+◌, ℕ, Bool, true, false, List, [], All, Contains, length}
+use Rattle.std.specs.Prelude.{◌≡◌, ◌⊎◌, ◌+◌, ℕ, Bool, true, false, List, [], All, Contains, Some, length}
 use Rattle.rx_base.specs.Digests.{digest_of}
 use Rattle.rx_world.specs.declared.input_files.InputFile.{InputFile}
+use Rattle.rx_world.specs.declared.looks.Look.{Look}
+use Rattle.rx_world.specs.declared.looks.Look.TheVariants.{File}
 use Rattle.rx_world.specs.declared.looks.Stamp.{Stamp}
 use Rattle.rx_reach.specs.declared.progress.Progress.{Progress}
 use Rattle.rx_reach.specs.declared.searches.Search.{Search}
@@ -10,6 +12,7 @@ use Rattle.rx_reach.specs.Progress.{IsHardIn, IsKnown, IsLeftBy}
 use Rattle.rx_reach.specs.Reach.{IsFileOf, IsFirst, IsFound, IsHard, IsLeft, IsReached}
 use Rattle.rx_reach.specs.Scenes.{Scene}
 use Rattle.rx_reach.specs.Searches.{all_forced, tries_in}
+use Rattle.rx_reach.specs.Sights.{seen_at}
 use Rattle.rx_reach.specs.Visits.{IsHardFirst}
 
 pub record Explored (scene : Scene) (search : Search) (p : Progress) : Type 0 where
@@ -36,6 +39,10 @@ Advances scene search count old new = Explored scene search new × ((new.waiting
 -- the whole was explored, or so many files were read
 abbrev pub IsExplored : Scene → Search → ℕ → Progress → Type 0
 IsExplored scene search count progress = Explored scene search progress × ((progress.waiting ≡ []) ⊎ (length progress.read ≡ count))
+
+-- each file is what was seen at its path
+abbrev pub AreSeen : List (List ℕ × Look) → List InputFile → Type 0
+AreSeen sights files = All (λ file. seen_at sights file.path ≡ Some (File file.stamp file.executable)) files
 
 -- the digest of each file is that of what a file with its stamp holds
 abbrev pub HaveDigests : (List ℕ → Stamp → List ℕ) → List InputFile → Type 0

@@ -11,6 +11,7 @@ use Rattle.rx_reach.specs.FileTables.{paths_of}
 use Rattle.rx_reach.specs.Reach.{IsAnyOutside, IsFound, has_hidden}
 use Rattle.rx_reach.specs.Scenes.{Scene}
 use Rattle.rx_reach.specs.Searches.{tries_in}
+use Rattle.rx_reach.specs.Sights.{AreKnownAt, IsKnownAt}
 
 -- the file was found: it waits, or it was read
 abbrev pub IsKnown : Progress → List ℕ → Type 0
@@ -58,7 +59,7 @@ pub record Seeks (scene : Scene) (blamed : List ℕ) (tries : List Try) (old new
   pub left : (path : List ℕ) → Contains new.left path ↔ (Contains old.left path ⊎ IsLeftBy scene tries path)
 
 -- a file that may hide includes makes itself hard, and nothing else changed
-pub record Judges (path : List ℕ) (hidden : Bool) (old new : Progress) : Type 0 where
+pub record Marks (path : List ℕ) (hidden : Bool) (old new : Progress) : Type 0 where
   pub waiting_is : new.waiting ≡ old.waiting
   pub read_is : new.read ≡ old.read
   pub left_is : new.left ≡ old.left
@@ -73,3 +74,7 @@ pub record Explores (scene : Scene) (search : Search) (file : List ℕ) (old new
   pub known : (path : List ℕ) → IsKnown new path ↔ (IsKnown old path ⊎ IsFound scene (tries_in search scene file) path)
   pub hard : (path : List ℕ) → Contains new.hard path ↔ (Contains old.hard path ⊎ IsHardIn scene search file path)
   pub left : (path : List ℕ) → Contains new.left path ↔ (Contains old.left path ⊎ IsLeftBy scene (tries_in search scene file) path)
+
+-- Where the path to blame was looked at, and each path that made the command hard before, each was that makes it hard now.
+abbrev pub KeepsKnown : List (List ℕ × Look) → List (List ℕ × Look) → List ℕ → Progress → Progress → Type 0
+KeepsKnown before now blamed old new = IsKnownAt before blamed → AreKnownAt before old.hard → AreKnownAt now new.hard

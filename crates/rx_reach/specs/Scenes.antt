@@ -23,6 +23,10 @@ pub record IsRight (scene : Scene) (answer : Given) : Type 0 where
 abbrev pub AreRight : Scene → List (List ℕ × Look) → Type 0
 AreRight scene sights = (path : List ℕ) (look : Look) → seen_at sights path ≡ Some look → look ≡ scene.look path
 
+-- this holds in every scene: nothing is said of it
+abbrev pub Always : Scene → Type 0
+Always scene = Unit {0}
+
 -- this holds in each scene in which what was seen is right
 abbrev pub Sees : List (List ℕ × Look) → (Scene → Type 0) → Type 0
 Sees sights Known = (scene : Scene) → AreRight scene sights → Known scene

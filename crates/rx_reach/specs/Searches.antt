@@ -1,5 +1,5 @@
 -- Where the names of includes are sought.
-use Rattle.std.specs.Prelude.{ℕ, Bool, true, false, List, [], ◌∷◌, ◌++◌, flat_map, length, map, nat_lt, if◌then◌else◌}
+use Rattle.std.specs.Prelude.{ℕ, Bool, true, false, List, [], ◌∷◌, ◌++◌, Option, flat_map, length, map, nat_lt, if◌then◌else◌}
 use Rattle.std.specs.Option.{option_to_list}
 use Rattle.rx_base.specs.Paths.{parent_of}
 use Rattle.rx_lex.specs.Directives.{Found, Name, directives_of}
@@ -18,10 +18,14 @@ includes_in text = if nat_lt most_file_bytes (length text) then record { list = 
 abbrev pub includes_of : Scene → List ℕ → Found
 includes_of scene file = includes_in (scene.text file)
 
+-- the directories in which a quoted name is sought, after this first one
+abbrev pub quoted_dirs : Search → Option (List ℕ) → List (List ℕ)
+quoted_dirs search first = option_to_list first ++ search.quote_dirs ++ search.dirs
+
 -- An angled name is sought in the directories for both kinds, a quoted one first beside its file and in those for quoted names.
 abbrev pub dirs_for : Search → List ℕ → Bool → List (List ℕ)
 dirs_for search file true = search.dirs
-dirs_for search file false = option_to_list (parent_of file) ++ search.quote_dirs ++ search.dirs
+dirs_for search file false = quoted_dirs search (parent_of file)
 
 -- a name in these directories
 abbrev pub tries_under : List (List ℕ) → List ℕ → List Try

@@ -3,11 +3,11 @@
 ghost use Rattle.std.specs.Prelude.{◌≡◌, ◌≢◌, ◌≤◌, ◌<◌, ◌++◌, ◌∷◌, [], ℕ, All, IfErr, IfOk, IfSome, List, MatchOption, None, Ok, OnOk, false, length, true};
 ghost use Rattle.std.specs.Str.{IsUtf8};
 ghost use Rattle.rx_base.specs.Paths.{IsPath, Lacks, join_of, joined, longest, parts, with_part, with_text};
-ghost use Rattle.rx_reach.specs.Candidates.{AreShort, Follows, IsTried, arrived, is_dir, is_skipped, left_at, names_of, next_names, refusal, step_look, steps, stopped, way};
+ghost use Rattle.rx_reach.specs.Candidates.{AreShort, Follows, IsTried, candidate_at_end, candidate_at_stop, is_dir, is_skipped, left_at, names_of, next_names, refusal, step_look, steps, try_in, way};
 ghost use Rattle.rx_base.specs.declared.path_fault.PathFault.TheVariants.{NoMemory as lacks_memory};
 ghost use Rattle.rx_reach.specs.declared.faults.SightFault.TheVariants.{NoMemory as no_memory};
 ghost use Rattle.rx_reach.specs.Scans.{Ends, Scans};
-ghost use Rattle.rx_reach.specs.Scenes.{Sees};
+ghost use Rattle.rx_reach.specs.Scenes.{Always, Sees};
 
 use crate::faults::SightFault;
 use crate::sights::Sights;
@@ -36,9 +36,12 @@ fn pass_part(alloc: Global, walk: Walk, part: &str) -> Result<Option<Walk>, NoMe
     requires no_slash { Lacks 47 part.now }
     requires no_zero { Lacks 0 part.now }
     requires leads { (next : List (List ℕ)) × (with_part (names_of walk.at) part.now ≡ Ok next) }
-    ensures long { IfOk result (λ next. next ≡ None → (is_skipped part.now ≡ false) × (longest < length (joined (next_names (names_of walk.at) part.now)))) }
-    ensures steps { IfOk result (λ next. IfSome next (λ w. w.steps.items ≡ walk.steps.items ++ steps (names_of walk.at) (part.now ∷ []))) }
-    ensures names { IfOk result (λ next. IfSome next (λ w. IsPath w.at × (with_part (names_of walk.at) part.now ≡ Ok (names_of w.at)))) }
+    ensures long { IfOk result (λ next. next ≡ None → (is_skipped part.now ≡ false)
+        × (longest < length (joined (next_names (names_of walk.at) part.now)))) }
+    ensures steps { IfOk result (λ next. IfSome next (λ w.
+        w.steps.items ≡ walk.steps.items ++ steps (names_of walk.at) (part.now ∷ []))) }
+    ensures names { IfOk result (λ next. IfSome next (λ w. IsPath w.at
+        × (with_part (names_of walk.at) part.now ≡ Ok (names_of w.at)))) }
 {
     if part.is_empty() || part == "." {
         return Ok(Some(walk));
@@ -62,11 +65,15 @@ fn pass(alloc: Global, mut walk: Walk, text: &str) -> Result<Option<Walk>, NoMem
     requires path { IsPath walk.at }
     requires short { AreShort walk.steps.items }
     requires no_zero { Lacks 0 text.now }
-    requires leads { (all : List (List ℕ)) × (with_text (names_of walk.at) text.now ≡ Ok all) × (length (joined all) ≤ longest) }
-    ensures long { IfOk result (λ next. next ≡ None → AreShort (steps (names_of walk.at) (parts text.now)) → ⊥) }
-    ensures steps { IfOk result (λ next. IfSome next (λ w. w.steps.items ≡ walk.steps.items ++ steps (names_of walk.at) (parts text.now))) }
+    requires leads { (all : List (List ℕ)) × (with_text (names_of walk.at) text.now ≡ Ok all)
+        × (length (joined all) ≤ longest) }
+    ensures long { IfOk result (λ next. next ≡ None →
+        AreShort (steps (names_of walk.at) (parts text.now)) → ⊥) }
+    ensures steps { IfOk result (λ next. IfSome next (λ w.
+        w.steps.items ≡ walk.steps.items ++ steps (names_of walk.at) (parts text.now))) }
     ensures short { IfOk result (λ next. IfSome next (λ w. AreShort w.steps.items)) }
-    ensures names { IfOk result (λ next. IfSome next (λ w. IsPath w.at × (with_text (names_of walk.at) text.now ≡ Ok (names_of w.at)))) }
+    ensures names { IfOk result (λ next. IfSome next (λ w. IsPath w.at
+        × (with_text (names_of walk.at) text.now ≡ Ok (names_of w.at)))) }
 {
     for part in text.split('/') {
         match pass_part(alloc, walk, part)? {
@@ -81,8 +88,10 @@ fn pass(alloc: Global, mut walk: Walk, text: &str) -> Result<Option<Walk>, NoMem
 /// paths is too long to be looked at.
 fn way_of(alloc: Global, dir: &RelPath, name: &str) -> Result<Option<Vec<Step>>, NoMemory>
     requires { (path : List ℕ) × (join_of dir.now name.now ≡ Ok path) }
-    ensures long { IfOk result (λ found. found ≡ None → AreShort (way (record { dir = dir.now; name = name.now })) → ⊥) }
-    ensures steps { IfOk result (λ found. IfSome found (λ passed. passed.items ≡ way (record { dir = dir.now; name = name.now }))) }
+    ensures long { IfOk result (λ found. found ≡ None →
+        AreShort (way (try_in dir.now name.now)) → ⊥) }
+    ensures steps { IfOk result (λ found. IfSome found
+        (λ passed. passed.items ≡ way (try_in dir.now name.now))) }
     ensures short { IfOk result (λ found. IfSome found (λ passed. AreShort passed.items)) }
 {
     let start = Walk {
@@ -105,10 +114,11 @@ fn look_at<W: World, S: Sources<W>>(
     sights: &mut Sights,
     path: &RelPath,
 ) -> Result<Look, SightFault>
-    ensures ok { IfOk result (λ look. Scans S.listed S.keeps S.given W.content W.stamps_honest sources.old sources.new sights.old sights.new (λ scene. Unit {0})) }
-    ensures right { IfOk result (λ look. Sees sights.new (λ scene. look ≡ step_look scene path.now)) }
-    ensures err { IfErr result (Ends S.listed S.keeps S.given W.content W.stamps_honest sources.old sources.new sights.old (S.faults sources.old) (S.faults sources.new)) }
-    ensures later { S.faults sources.old ≤ S.faults sources.new }
+    ensures ok { IfOk result (λ look. Scans W.World S.Sources
+        sources.old sources.new sights.old sights.new Always) }
+    ensures right { IfOk result (λ look. Sees sights.new
+        (λ scene. look ≡ step_look scene path.now)) }
+    ensures err { IfErr result (Ends W.World S.Sources sources.old sources.new sights.old) }
 {
     if path.is_root() {
         return Ok(Look::Dir);
@@ -123,8 +133,8 @@ fn is_dir(look: Look) -> bool
 }
 
 /// What was found where a way is at its end.
-fn arrived(path: RelPath, look: Look) -> Candidate
-    ensures { result ≡ arrived look path }
+fn candidate_at_end(path: RelPath, look: Look) -> Candidate
+    ensures { result ≡ candidate_at_end look path }
 {
     match look {
         Look::File { .. } => Candidate::Found(path),
@@ -134,8 +144,8 @@ fn arrived(path: RelPath, look: Look) -> Candidate
 }
 
 /// What was found at a step that is no directory.
-fn stopped(alloc: Global, path: &RelPath, look: Look) -> Result<Candidate, NoMemory>
-    ensures { IfOk result (λ found. found ≡ stopped look path.now) }
+fn candidate_at_stop(alloc: Global, path: &RelPath, look: Look) -> Result<Candidate, NoMemory>
+    ensures { IfOk result (λ found. found ≡ candidate_at_stop look path.now) }
 {
     match look {
         Look::Other => Ok(Candidate::Other(path.try_clone(alloc)?)),
@@ -167,11 +177,12 @@ fn pass_step<W: World, S: Sources<W>>(
     step: &Step,
     left: &mut Items<RelPath>,
 ) -> Result<Look, SightFault>
-    ensures ok { IfOk result (λ look. Scans S.listed S.keeps S.given W.content W.stamps_honest sources.old sources.new sights.old sights.new (λ scene. Unit {0})) }
-    ensures right { IfOk result (λ look. Sees sights.new (λ scene. look ≡ step_look scene step.now.path)) }
+    ensures ok { IfOk result (λ look. Scans W.World S.Sources
+        sources.old sources.new sights.old sights.new Always) }
+    ensures right { IfOk result (λ look. Sees sights.new
+        (λ scene. look ≡ step_look scene step.now.path)) }
     ensures left { IfOk result (λ look. left.new ≡ left.old ++ left_at look step.now) }
-    ensures err { IfErr result (Ends S.listed S.keeps S.given W.content W.stamps_honest sources.old sources.new sights.old (S.faults sources.old) (S.faults sources.new)) }
-    ensures later { S.faults sources.old ≤ S.faults sources.new }
+    ensures err { IfErr result (Ends W.World S.Sources sources.old sources.new sights.old) }
 {
     let look = look_at::<W, S>(alloc, sources, sights, &step.path)?;
     keep_left(alloc, step, look, left)?;
@@ -186,22 +197,23 @@ fn follow<W: World, S: Sources<W>>(
     passed: &[Step],
     path: RelPath,
 ) -> Result<Tried, SightFault>
-    ensures ok { IfOk result (λ tried. Scans S.listed S.keeps S.given W.content W.stamps_honest sources.old sources.new sights.old sights.new (λ scene. Unit {0})) }
-    ensures right { IfOk result (λ tried. Sees sights.new (λ scene. Follows scene passed.now path tried)) }
-    ensures err { IfErr result (Ends S.listed S.keeps S.given W.content W.stamps_honest sources.old sources.new sights.old (S.faults sources.old) (S.faults sources.new)) }
-    ensures later { S.faults sources.old ≤ S.faults sources.new }
+    ensures ok { IfOk result (λ tried. Scans W.World S.Sources
+        sources.old sources.new sights.old sights.new Always) }
+    ensures right { IfOk result (λ tried. Sees sights.new (λ scene.
+        Follows scene passed.now path tried)) }
+    ensures err { IfErr result (Ends W.World S.Sources sources.old sources.new sights.old) }
 {
     let mut left = Items::new(alloc);
     for step in passed {
         let look = pass_step::<W, S>(alloc, sources, sights, step, &mut left)?;
         if !is_dir(look) {
-            let candidate = stopped(alloc, &step.path, look)?;
+            let candidate = candidate_at_stop(alloc, &step.path, look)?;
             return Ok(Tried { candidate, left });
         }
     }
     let look = sights.look::<W, S>(alloc, sources, &path)?;
     Ok(Tried {
-        candidate: arrived(path, look),
+        candidate: candidate_at_end(path, look),
         left,
     })
 }
@@ -225,10 +237,11 @@ pub(crate) fn seek<W: World, S: Sources<W>>(
     dir: &RelPath,
     name: &str,
 ) -> Result<Tried, SightFault>
-    ensures ok { IfOk result (λ tried. Scans S.listed S.keeps S.given W.content W.stamps_honest sources.old sources.new sights.old sights.new (λ scene. Unit {0})) }
-    ensures right { IfOk result (λ tried. Sees sights.new (λ scene. IsTried scene (record { dir = dir.now; name = name.now }) tried)) }
-    ensures err { IfErr result (Ends S.listed S.keeps S.given W.content W.stamps_honest sources.old sources.new sights.old (S.faults sources.old) (S.faults sources.new)) }
-    ensures later { S.faults sources.old ≤ S.faults sources.new }
+    ensures ok { IfOk result (λ tried. Scans W.World S.Sources
+        sources.old sources.new sights.old sights.new Always) }
+    ensures right { IfOk result (λ tried. Sees sights.new (λ scene.
+        IsTried scene (try_in dir.now name.now) tried)) }
+    ensures err { IfErr result (Ends W.World S.Sources sources.old sources.new sights.old) }
 {
     let left = Items::new(alloc);
     match dir.join(alloc, name) {

@@ -4,7 +4,7 @@ ghost use Rattle.std.specs.Prelude.{◌≡◌};
 ghost use Rattle.rx_reach.specs.declared.faults.SightFault.TheVariants.{NoMemory as no_memory};
 
 use rx_base::RelPath;
-use rx_world::Seen;
+use rx_world::ChangedInput;
 use std::alloc::{AllocError, AllocFailed};
 use thiserror::Error;
 
@@ -13,16 +13,10 @@ use thiserror::Error;
 pub enum SightFault {
     /// The source tree failed at this path, and its count of faults rose.
     #[error("the source tree failed")]
-    SourceFault {
-        path: RelPath,
-    },
+    SourceFault { path: RelPath },
     /// Two looks at one path that differ.
     #[error("an input changed")]
-    InputChanged {
-        path: RelPath,
-        first: Seen,
-        second: Seen,
-    },
+    InputChanged(ChangedInput),
     /// Memory ran out.
     #[error("out of memory")]
     NoMemory,

@@ -58,7 +58,8 @@ impl FileTable {
     /// Adds a file whose path is new.
     pub(crate) fn insert(&mut self, path: RelPath, file: ReadFile) -> Result<(), NoMemory>
         requires { Contains (paths_of self.old) path → ⊥ }
-        ensures added { OnOk result ((other : InputFile) → Contains self.new other ↔ ((other ≡ record { path = path; digest = file.digest; stamp = file.stamp; executable = file.executable }) ⊎ Contains self.old other)) }
+        ensures added { OnOk result ((other : InputFile) → Contains self.new other ↔
+            ((other ≡ file_of (path, file)) ⊎ Contains self.old other)) }
         ensures len { OnOk result (length self.new ≡ length self.old + 1) }
     {
         self.files.insert(path, file)?;

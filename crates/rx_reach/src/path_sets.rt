@@ -56,7 +56,8 @@ impl PathSet {
 
     /// Takes the first path out.
     pub(crate) fn pop_first(&mut self) -> Option<RelPath>
-        ensures taken { MatchOption result ((self.old ≡ []) × (self.new ≡ [])) (λ path. self.old ≡ path ∷ self.new) }
+        ensures taken { MatchOption result ((self.old ≡ []) × (self.new ≡ []))
+            (λ path. self.old ≡ path ∷ self.new) }
         ensures sorted { AreSorted self.old }
     {
         self.paths.pop_first()

@@ -27,7 +27,8 @@ pub(crate) struct Progress {
 
 /// Adds some paths to a set.
 fn insert_all(alloc: Global, set: &mut PathSet, paths: &[RelPath]) -> Result<(), SightFault>
-    ensures ok { OnOk result ((path : List ℕ) → Contains set.new path ↔ (Contains set.old path ⊎ Contains paths.now path)) }
+    ensures ok { OnOk result ((path : List ℕ) → Contains set.new path ↔ (Contains set.old path
+        ⊎ Contains paths.now path)) }
     ensures err { IfErr result (λ fault. fault ≡ no_memory) }
 {
     for path in paths {

@@ -1,13 +1,14 @@
 //! The files that includes can reach from a source.
 
-ghost use Rattle.std.specs.Prelude.{◌≡◌, ◌≤◌, ◌+◌, ℕ, List, [], Contains, IfErr, IfOk, OnOk, length};
+ghost use Rattle.std.specs.Prelude.{◌≡◌, ◌≤◌, ◌+◌, ℕ, List, [], Contains, IfErr, IfOk, IfSome, OnOk, length};
 ghost use Rattle.rx_base.specs.SortedPaths.{AreSorted};
-ghost use Rattle.rx_reach.specs.Explored.{Advances, Explored, GoesOn, HaveDigests, IsExplored};
+ghost use Rattle.rx_reach.specs.Explored.{Advances, AreSeen, Explored, GoesOn, HaveDigests, IsExplored};
 ghost use Rattle.rx_reach.specs.FileTables.{paths_of};
 ghost use Rattle.rx_reach.specs.Opened.{IsOpened};
 ghost use Rattle.rx_reach.specs.Progress.{AreApart};
 ghost use Rattle.rx_reach.specs.Reach.{IsLeastPath, IsReach, most_tree_files};
 ghost use Rattle.rx_reach.specs.Scans.{Ends, Scans};
+ghost use Rattle.rx_reach.specs.Sights.{AreKnownAt, IsKnownAt};
 ghost use Rattle.rx_reach.specs.Visits.{Begins};
 
 use crate::faults::SightFault;
@@ -20,7 +21,7 @@ use crate::sights::Sights;
 use crate::visits::visit;
 use rx_base::{Items, NoMemory, RelPath};
 use rx_digest_cache::DigestCache;
-use rx_world::{InputFile, Look, Sources, World};
+use rx_world::{InputFile, Sources, World};
 use std::alloc::Global;
 use std::sync::Wait;
 
@@ -38,20 +39,6 @@ pub struct Reached {
     pub left: Items<RelPath>,
 }
 
-/// What stands at the source.
-fn look_at_source<W: World, S: Sources<W>>(
-    alloc: Global,
-    sources: &mut S,
-    sights: &mut Sights,
-    source: &RelPath,
-) -> Result<Look, SightFault>
-    ensures ok { IfOk result (λ look. Scans S.listed S.keeps S.given W.content W.stamps_honest sources.old sources.new sights.old sights.new (λ scene. look ≡ scene.look source.now)) }
-    ensures err { IfErr result (Ends S.listed S.keeps S.given W.content W.stamps_honest sources.old sources.new sights.old (S.faults sources.old) (S.faults sources.new)) }
-    ensures later { S.faults sources.old ≤ S.faults sources.new }
-{
-    sights.look::<W, S>(alloc, sources, source)
-}
-
 /// Begins at the source and the forced files.
 fn begin<W: World, S: Sources<W>>(
     alloc: Global,
@@ -59,10 +46,11 @@ fn begin<W: World, S: Sources<W>>(
     sights: &mut Sights,
     search: &Search,
 ) -> Result<Progress, SightFault>
-    ensures ok { IfOk result (λ progress. Scans S.listed S.keeps S.given W.content W.stamps_honest sources.old sources.new sights.old sights.new (λ scene. Begins scene search.now progress)) }
+    ensures ok { IfOk result (λ progress. Scans W.World S.Sources
+        sources.old sources.new sights.old sights.new (λ scene. Begins scene search.now progress)) }
     ensures empty { IfOk result (λ progress. progress.read ≡ []) }
-    ensures err { IfErr result (Ends S.listed S.keeps S.given W.content W.stamps_honest sources.old sources.new sights.old (S.faults sources.old) (S.faults sources.new)) }
-    ensures later { S.faults sources.old ≤ S.faults sources.new }
+    ensures known { IfOk result (λ progress. AreKnownAt sights.new progress.hard) }
+    ensures err { IfErr result (Ends W.World S.Sources sources.old sources.new sights.old) }
 {
     let mut progress = Progress {
         waiting: PathSet::new(alloc),
@@ -70,7 +58,7 @@ fn begin<W: World, S: Sources<W>>(
         hard: PathSet::new(alloc),
         left: PathSet::new(alloc),
     };
-    let look = look_at_source::<W, S>(alloc, sources, sights, &search.source)?;
+    let look = sights.look::<W, S>(alloc, sources, &search.source)?;
     progress.take_source(alloc, look, &search.source)?;
     seek_forced::<W, S>(alloc, sources, sights, &mut progress, search)?;
     Ok(progress)
@@ -87,12 +75,19 @@ fn visit_next<W: World, S: Sources<W>>(
     search: &Search,
 ) -> Result<bool, SightFault>
     requires { AreApart progress.old }
-    ensures ok { IfOk result (λ more. Scans S.listed S.keeps S.given W.content W.stamps_honest sources.old sources.new sights.old sights.new (λ scene. Explored scene search.now progress.old → GoesOn scene search.now more progress.old progress.new)) }
+    ensures ok { IfOk result (λ more. Scans W.World S.Sources
+        sources.old sources.new sights.old sights.new
+        (λ scene. Explored scene search.now progress.old →
+        GoesOn scene search.now more progress.old progress.new)) }
     ensures apart { OnOk result (AreApart progress.new) }
     ensures count { OnOk result (length progress.new.read ≤ length progress.old.read + 1) }
-    ensures honest { OnOk result (W.stamps_honest → HaveDigests W.content progress.old.read → HaveDigests W.content progress.new.read) }
-    ensures err { IfErr result (Ends S.listed S.keeps S.given W.content W.stamps_honest sources.old sources.new sights.old (S.faults sources.old) (S.faults sources.new)) }
-    ensures later { S.faults sources.old ≤ S.faults sources.new }
+    ensures seen { OnOk result (AreSeen sights.old progress.old.read →
+        AreSeen sights.new progress.new.read) }
+    ensures honest { OnOk result (W.stamps_honest → HaveDigests W.content progress.old.read →
+        HaveDigests W.content progress.new.read) }
+    ensures known { OnOk result (AreKnownAt sights.old progress.old.hard →
+        AreKnownAt sights.new progress.new.hard) }
+    ensures err { IfErr result (Ends W.World S.Sources sources.old sources.new sights.old) }
 {
     match progress.waiting.pop_first() {
         Some(path) => {
@@ -114,11 +109,19 @@ fn visit_all<W: World, S: Sources<W>>(
     search: &Search,
 ) -> Result<(), SightFault>
     requires { AreApart progress.old }
-    ensures ok { OnOk result (Scans S.listed S.keeps S.given W.content W.stamps_honest sources.old sources.new sights.old sights.new (λ scene. Explored scene search.now progress.old → Advances scene search.now (most_tree_files + 1) progress.old progress.new)) }
-    ensures count { OnOk result (length progress.new.read ≤ length progress.old.read + (most_tree_files + 1)) }
-    ensures honest { OnOk result (W.stamps_honest → HaveDigests W.content progress.old.read → HaveDigests W.content progress.new.read) }
-    ensures err { IfErr result (Ends S.listed S.keeps S.given W.content W.stamps_honest sources.old sources.new sights.old (S.faults sources.old) (S.faults sources.new)) }
-    ensures later { S.faults sources.old ≤ S.faults sources.new }
+    ensures ok { OnOk result (Scans W.World S.Sources
+        sources.old sources.new sights.old sights.new
+        (λ scene. Explored scene search.now progress.old →
+        Advances scene search.now (most_tree_files + 1) progress.old progress.new)) }
+    ensures count { OnOk result (length progress.new.read ≤ length progress.old.read +
+        (most_tree_files + 1)) }
+    ensures seen { OnOk result (AreSeen sights.old progress.old.read →
+        AreSeen sights.new progress.new.read) }
+    ensures honest { OnOk result (W.stamps_honest → HaveDigests W.content progress.old.read →
+        HaveDigests W.content progress.new.read) }
+    ensures known { OnOk result (AreKnownAt sights.old progress.old.hard →
+        AreKnownAt sights.new progress.new.hard) }
+    ensures err { IfErr result (Ends W.World S.Sources sources.old sources.new sights.old) }
 {
     for _ in 0..MOST_READS {
         let more = visit_next(rt, alloc, sources, sights, cache, progress, search)?;
@@ -138,11 +141,15 @@ fn find_all<W: World, S: Sources<W>>(
     cache: &DigestCache<W>,
     search: &Search,
 ) -> Result<Progress, SightFault>
-    ensures ok { IfOk result (λ progress. Scans S.listed S.keeps S.given W.content W.stamps_honest sources.old sources.new sights.old sights.new (λ scene. IsExplored scene search.now (most_tree_files + 1) progress)) }
+    ensures ok { IfOk result (λ progress. Scans W.World S.Sources
+        sources.old sources.new sights.old sights.new
+        (λ scene. IsExplored scene search.now (most_tree_files + 1) progress)) }
     ensures count { IfOk result (λ progress. length progress.read ≤ most_tree_files + 1) }
-    ensures honest { IfOk result (λ progress. W.stamps_honest → HaveDigests W.content progress.read) }
-    ensures err { IfErr result (Ends S.listed S.keeps S.given W.content W.stamps_honest sources.old sources.new sights.old (S.faults sources.old) (S.faults sources.new)) }
-    ensures later { S.faults sources.old ≤ S.faults sources.new }
+    ensures seen { IfOk result (λ progress. AreSeen sights.new progress.read) }
+    ensures honest { IfOk result (λ progress. W.stamps_honest →
+        HaveDigests W.content progress.read) }
+    ensures known { IfOk result (λ progress. AreKnownAt sights.new progress.hard) }
+    ensures err { IfErr result (Ends W.World S.Sources sources.old sources.new sights.old) }
 {
     let mut progress = begin::<W, S>(alloc, sources, sights, search)?;
     visit_all(rt, alloc, sources, sights, cache, &mut progress, search)?;
@@ -154,7 +161,8 @@ fn reached_of(alloc: Global, progress: Progress) -> Result<Reached, NoMemory>
     ensures files { IfOk result (λ reached. reached.files ≡ progress.read) }
     ensures hard { IfOk result (λ reached. IsLeastPath (Contains progress.hard) reached.hard) }
     ensures left { IfOk result (λ reached. reached.left ≡ progress.left) }
-    ensures sorted { IfOk result (λ reached. AreSorted (paths_of reached.files) × AreSorted reached.left) }
+    ensures sorted { IfOk result (λ reached. AreSorted (paths_of reached.files)
+        × AreSorted reached.left) }
 {
     let Progress {
         waiting: _,
@@ -182,12 +190,20 @@ pub fn reach_files<W: World, S: Sources<W>>(
     cache: &DigestCache<W>,
     search: &Search,
 ) -> Result<Reached, SightFault>
-    ensures scanned { IfOk result (λ reached. Scans S.listed S.keeps S.given W.content W.stamps_honest sources.old sources.new sights.old sights.new (λ scene. IsReach most_tree_files scene search.now reached)) }
-    ensures opened { IfOk result (λ reached. Scans S.listed S.keeps S.given W.content W.stamps_honest sources.old sources.new sights.old sights.new (λ scene. length reached.files ≤ most_tree_files → (path : List ℕ) → IsOpened scene search.now path → Contains (paths_of reached.files) path)) }
-    ensures sorted { IfOk result (λ reached. AreSorted (paths_of reached.files) × AreSorted reached.left × length reached.files ≤ most_tree_files + 1) }
-    ensures digests { IfOk result (λ reached. W.stamps_honest → HaveDigests W.content reached.files) }
-    ensures err { IfErr result (Ends S.listed S.keeps S.given W.content W.stamps_honest sources.old sources.new sights.old (S.faults sources.old) (S.faults sources.new)) }
-    ensures later { S.faults sources.old ≤ S.faults sources.new }
+    ensures scanned { IfOk result (λ reached. Scans W.World S.Sources
+        sources.old sources.new sights.old sights.new
+        (λ scene. IsReach most_tree_files scene search.now reached)) }
+    ensures opened { IfOk result (λ reached. Scans W.World S.Sources
+        sources.old sources.new sights.old sights.new
+        (λ scene. length reached.files ≤ most_tree_files → (path : List ℕ) →
+        IsOpened scene search.now path → Contains (paths_of reached.files) path)) }
+    ensures sorted { IfOk result (λ reached. AreSorted (paths_of reached.files)
+        × AreSorted reached.left × length reached.files ≤ most_tree_files + 1) }
+    ensures seen { IfOk result (λ reached. AreSeen sights.new reached.files) }
+    ensures digests { IfOk result (λ reached. W.stamps_honest →
+        HaveDigests W.content reached.files) }
+    ensures known { IfOk result (λ reached. IfSome reached.hard (IsKnownAt sights.new)) }
+    ensures err { IfErr result (Ends W.World S.Sources sources.old sources.new sights.old) }
 {
     let progress = find_all(rt, alloc, sources, sights, cache, search)?;
     let reached = reached_of(alloc, progress)?;

@@ -4,9 +4,10 @@ ghost use Rattle.std.specs.Prelude.{◌≡◌, ◌≤◌, ◌++◌, ◌∷◌, [
 ghost use Rattle.std.specs.Option.{option_copied, option_to_list};
 ghost use Rattle.rx_base.specs.Paths.{parent_of};
 ghost use Rattle.rx_lex.specs.Found.{name_view};
-ghost use Rattle.rx_reach.specs.Progress.{Seeks, Stays};
+ghost use Rattle.rx_reach.specs.Candidates.{try_in};
+ghost use Rattle.rx_reach.specs.Progress.{KeepsKnown, Seeks, Stays};
 ghost use Rattle.rx_reach.specs.Scans.{Ends, Scans};
-ghost use Rattle.rx_reach.specs.Searches.{all_forced, tries_of, tries_under};
+ghost use Rattle.rx_reach.specs.Searches.{all_forced, quoted_dirs, tries_of, tries_under};
 
 use crate::candidates::seek;
 use crate::faults::SightFault;
@@ -28,10 +29,14 @@ fn seek_one<W: World, S: Sources<W>>(
     dir: &RelPath,
     name: &[u8],
 ) -> Result<(), SightFault>
-    ensures ok { OnOk result (Scans S.listed S.keeps S.given W.content W.stamps_honest sources.old sources.new sights.old sights.new (λ scene. Seeks scene blamed.now (record { dir = dir.now; name = name.now } ∷ []) progress.old progress.new)) }
+    ensures ok { OnOk result (Scans W.World S.Sources
+        sources.old sources.new sights.old sights.new
+        (λ scene. Seeks scene blamed.now
+        (try_in dir.now name.now ∷ []) progress.old progress.new)) }
     ensures stays { OnOk result (Stays progress.old progress.new) }
-    ensures err { IfErr result (Ends S.listed S.keeps S.given W.content W.stamps_honest sources.old sources.new sights.old (S.faults sources.old) (S.faults sources.new)) }
-    ensures later { S.faults sources.old ≤ S.faults sources.new }
+    ensures known { OnOk result (KeepsKnown sights.old sights.new blamed.now
+        progress.old progress.new) }
+    ensures err { IfErr result (Ends W.World S.Sources sources.old sources.new sights.old) }
 {
     let Ok(text) = str::from_utf8(name) else {
         return Ok(());
@@ -56,10 +61,14 @@ fn seek_in<W: World, S: Sources<W>>(
     dirs: &[RelPath],
     name: &[u8],
 ) -> Result<(), SightFault>
-    ensures ok { OnOk result (Scans S.listed S.keeps S.given W.content W.stamps_honest sources.old sources.new sights.old sights.new (λ scene. Seeks scene blamed.now (tries_under dirs.now name.now) progress.old progress.new)) }
+    ensures ok { OnOk result (Scans W.World S.Sources
+        sources.old sources.new sights.old sights.new
+        (λ scene. Seeks scene blamed.now
+        (tries_under dirs.now name.now) progress.old progress.new)) }
     ensures stays { OnOk result (Stays progress.old progress.new) }
-    ensures err { IfErr result (Ends S.listed S.keeps S.given W.content W.stamps_honest sources.old sources.new sights.old (S.faults sources.old) (S.faults sources.new)) }
-    ensures later { S.faults sources.old ≤ S.faults sources.new }
+    ensures known { OnOk result (KeepsKnown sights.old sights.new blamed.now
+        progress.old progress.new) }
+    ensures err { IfErr result (Ends W.World S.Sources sources.old sources.new sights.old) }
 {
     for dir in dirs {
         seek_one::<W, S>(alloc, sources, sights, progress, blamed, dir, name)?;
@@ -77,10 +86,15 @@ fn seek_first<W: World, S: Sources<W>>(
     first: Option<&RelPath>,
     name: &[u8],
 ) -> Result<(), SightFault>
-    ensures ok { OnOk result (Scans S.listed S.keeps S.given W.content W.stamps_honest sources.old sources.new sights.old sights.new (λ scene. Seeks scene blamed.now (tries_under (option_to_list (option_copied first.entry)) name.now) progress.old progress.new)) }
+    ensures ok { OnOk result (Scans W.World S.Sources
+        sources.old sources.new sights.old sights.new
+        (λ scene. Seeks scene blamed.now
+        (tries_under (option_to_list (option_copied first.entry)) name.now)
+        progress.old progress.new)) }
     ensures stays { OnOk result (Stays progress.old progress.new) }
-    ensures err { IfErr result (Ends S.listed S.keeps S.given W.content W.stamps_honest sources.old sources.new sights.old (S.faults sources.old) (S.faults sources.new)) }
-    ensures later { S.faults sources.old ≤ S.faults sources.new }
+    ensures known { OnOk result (KeepsKnown sights.old sights.new blamed.now
+        progress.old progress.new) }
+    ensures err { IfErr result (Ends W.World S.Sources sources.old sources.new sights.old) }
 {
     match first {
         Some(dir) => seek_one::<W, S>(alloc, sources, sights, progress, blamed, dir, name),
@@ -99,10 +113,15 @@ fn seek_from<W: World, S: Sources<W>>(
     search: &Search,
     name: &[u8],
 ) -> Result<(), SightFault>
-    ensures ok { OnOk result (Scans S.listed S.keeps S.given W.content W.stamps_honest sources.old sources.new sights.old sights.new (λ scene. Seeks scene blamed.now (tries_under (option_to_list (option_copied first.entry) ++ search.now.quote_dirs ++ search.now.dirs) name.now) progress.old progress.new)) }
+    ensures ok { OnOk result (Scans W.World S.Sources
+        sources.old sources.new sights.old sights.new
+        (λ scene. Seeks scene blamed.now
+        (tries_under (quoted_dirs search.now (option_copied first.entry)) name.now)
+        progress.old progress.new)) }
     ensures stays { OnOk result (Stays progress.old progress.new) }
-    ensures err { IfErr result (Ends S.listed S.keeps S.given W.content W.stamps_honest sources.old sources.new sights.old (S.faults sources.old) (S.faults sources.new)) }
-    ensures later { S.faults sources.old ≤ S.faults sources.new }
+    ensures known { OnOk result (KeepsKnown sights.old sights.new blamed.now
+        progress.old progress.new) }
+    ensures err { IfErr result (Ends W.World S.Sources sources.old sources.new sights.old) }
 {
     let quoted = search.quote_dirs.as_slice();
     let both = search.dirs.as_slice();
@@ -124,10 +143,14 @@ fn seek_include<W: World, S: Sources<W>>(
     include: &Include,
 ) -> Result<(), SightFault>
     requires { option_copied beside ≡ parent_of file.now }
-    ensures ok { OnOk result (Scans S.listed S.keeps S.given W.content W.stamps_honest sources.old sources.new sights.old sights.new (λ scene. Seeks scene file.now (tries_of search.now file.now (name_view include.now)) progress.old progress.new)) }
+    ensures ok { OnOk result (Scans W.World S.Sources
+        sources.old sources.new sights.old sights.new
+        (λ scene. Seeks scene file.now (tries_of search.now file.now
+        (name_view include.now)) progress.old progress.new)) }
     ensures stays { OnOk result (Stays progress.old progress.new) }
-    ensures err { IfErr result (Ends S.listed S.keeps S.given W.content W.stamps_honest sources.old sources.new sights.old (S.faults sources.old) (S.faults sources.new)) }
-    ensures later { S.faults sources.old ≤ S.faults sources.new }
+    ensures known { OnOk result (KeepsKnown sights.old sights.new file.now
+        progress.old progress.new) }
+    ensures err { IfErr result (Ends W.World S.Sources sources.old sources.new sights.old) }
 {
     let both = search.dirs.as_slice();
     match include {
@@ -158,10 +181,14 @@ pub(crate) fn seek_includes<W: World, S: Sources<W>>(
     list: &[Include],
 ) -> Result<(), SightFault>
     requires { option_copied beside ≡ parent_of file.now }
-    ensures ok { OnOk result (Scans S.listed S.keeps S.given W.content W.stamps_honest sources.old sources.new sights.old sights.new (λ scene. Seeks scene file.now (flat_map (tries_of search.now file.now) (map name_view list.now)) progress.old progress.new)) }
+    ensures ok { OnOk result (Scans W.World S.Sources
+        sources.old sources.new sights.old sights.new
+        (λ scene. Seeks scene file.now (flat_map (tries_of search.now file.now)
+        (map name_view list.now)) progress.old progress.new)) }
     ensures stays { OnOk result (Stays progress.old progress.new) }
-    ensures err { IfErr result (Ends S.listed S.keeps S.given W.content W.stamps_honest sources.old sources.new sights.old (S.faults sources.old) (S.faults sources.new)) }
-    ensures later { S.faults sources.old ≤ S.faults sources.new }
+    ensures known { OnOk result (KeepsKnown sights.old sights.new file.now
+        progress.old progress.new) }
+    ensures err { IfErr result (Ends W.World S.Sources sources.old sources.new sights.old) }
 {
     for include in list {
         seek_include::<W, S>(
@@ -179,10 +206,14 @@ pub(crate) fn seek_forced<W: World, S: Sources<W>>(
     progress: &mut Progress,
     search: &Search,
 ) -> Result<(), SightFault>
-    ensures ok { OnOk result (Scans S.listed S.keeps S.given W.content W.stamps_honest sources.old sources.new sights.old sights.new (λ scene. Seeks scene search.now.source (all_forced search.now) progress.old progress.new)) }
+    ensures ok { OnOk result (Scans W.World S.Sources
+        sources.old sources.new sights.old sights.new
+        (λ scene. Seeks scene search.now.source
+        (all_forced search.now) progress.old progress.new)) }
     ensures stays { OnOk result (Stays progress.old progress.new) }
-    ensures err { IfErr result (Ends S.listed S.keeps S.given W.content W.stamps_honest sources.old sources.new sights.old (S.faults sources.old) (S.faults sources.new)) }
-    ensures later { S.faults sources.old ≤ S.faults sources.new }
+    ensures known { OnOk result (KeepsKnown sights.old sights.new search.now.source
+        progress.old progress.new) }
+    ensures err { IfErr result (Ends W.World S.Sources sources.old sources.new sights.old) }
 {
     let names = search.forced.as_slice();
     for name in names {

@@ -4,14 +4,15 @@ ghost use Rattle.std.specs.Prelude.{◌≡◌, ◌≤◌, ◌↔◌, ℕ, [], �
 ghost use Rattle.rx_world.specs.Answers.{Gives};
 ghost use Rattle.rx_world.specs.declared.sources.Given.{Given};
 ghost use Rattle.rx_base.specs.SortedPaths.{AreSorted};
-ghost use Rattle.rx_reach.specs.Candidates.{IsTried};
+ghost use Rattle.rx_reach.specs.Candidates.{IsTried, try_in};
+ghost use Rattle.rx_reach.specs.Scans.{Ends, Scans};
 ghost use Rattle.rx_reach.specs.Scenes.{Sees};
 ghost use Rattle.rx_reach.specs.Sights.{Blames, Notes, answer_of, found_of, seen_at, sights_of};
 
 use crate::faults::SightFault;
 use crate::tries::{Tried, Tries};
 use rx_base::{Items, NoMemory, RelPath, TryClone};
-use rx_world::{Found, Look, Seen, Sources, World};
+use rx_world::{ChangedInput, Found, Look, Seen, Sources, World};
 use std::alloc::Global;
 use std::collections::BTreeMap;
 use std::marker::Model;
@@ -35,7 +36,8 @@ impl Model for Sights {
 
     ghost view = { λ s. s.looks.entries };
 
-    ghost invariant = { λ s. AreSorted (map (λ entry. entry.0) s.looks.entries) × AreKept s.looks.entries s.tries.by_dir };
+    ghost invariant = { λ s. AreSorted (map (λ entry. entry.0) s.looks.entries)
+        × AreKept s.looks.entries s.tries.by_dir };
 }
 
 /// Whether two looks are one.
@@ -59,7 +61,8 @@ impl Sights {
     /// Adds the first look at a path.
     fn add(&mut self, alloc: Global, path: &RelPath, look: Look) -> Result<(), NoMemory>
         requires { seen_at self.old path.now ≡ None }
-        ensures added { OnOk result ((bytes : Option (List ℕ)) → Notes self.old self.new (answer_of path.now look bytes ∷ [])) }
+        ensures added { OnOk result ((bytes : Option (List ℕ)) →
+            Notes self.old self.new (answer_of path.now look bytes ∷ [])) }
         ensures seen { OnOk result (seen_at self.new path.now ≡ Some look) }
     {
         self.looks.insert(path.try_clone(alloc)?, look)?;
@@ -73,10 +76,10 @@ impl Sights {
         sources: &mut S,
         path: &RelPath,
     ) -> Result<Look, SightFault>
-        ensures looked { (answers : List Given) × Gives S.listed S.keeps S.given W.content W.stamps_honest sources.old sources.new answers
-            × MatchResult result (λ look. Notes self.old self.new answers × (seen_at self.new path.now ≡ Some look))
-            (Blames self.old answers (S.faults sources.old) (S.faults sources.new)) }
-        ensures later { S.faults sources.old ≤ S.faults sources.new }
+        ensures ok { IfOk result (λ look. Scans W.World S.Sources
+            sources.old sources.new self.old self.new (λ scene. look ≡ scene.look path.now)) }
+        ensures seen { IfOk result (λ look. seen_at self.new path.now ≡ Some look) }
+        ensures err { IfErr result (Ends W.World S.Sources sources.old sources.new self.old) }
     {
         if let Some(look) = self.looks.get(path) {
             return Ok(*look);
@@ -95,16 +98,18 @@ impl Sights {
     /// One more look at a path, which the source tree told by a read or a list: the first one, or
     /// the same again.
     pub fn note(&mut self, alloc: Global, path: &RelPath, look: Look) -> Result<(), SightFault>
-        ensures noted { OnOk result ((bytes : Option (List ℕ)) → Notes self.old self.new (answer_of path.now look bytes ∷ [])) }
-        ensures changed { IfErr result (λ fault. (bytes : Option (List ℕ)) (before now : ℕ) → Blames self.old (answer_of path.now look bytes ∷ []) before now fault) }
+        ensures noted { OnOk result ((bytes : Option (List ℕ)) →
+            Notes self.old self.new (answer_of path.now look bytes ∷ [])) }
+        ensures changed { IfErr result (λ fault. (bytes : Option (List ℕ)) (before now : ℕ) →
+            Blames self.old (answer_of path.now look bytes ∷ []) before now fault) }
     {
         if let Some(first) = self.looks.get(path) {
             if !is_same(*first, look) {
-                return Err(SightFault::InputChanged {
+                return Err(SightFault::InputChanged(ChangedInput {
                     path: path.try_clone(alloc)?,
                     first: Seen::from(*first),
                     second: Seen::from(look),
-                });
+                }));
             }
             return Ok(());
         }
@@ -114,7 +119,8 @@ impl Sights {
 
     /// What a name gave in a directory, where that is kept. It takes no memory.
     pub(crate) fn find_try(&self, dir: &RelPath, name: &str) -> Option<&Tried>
-        ensures { IfSome result (λ tried. Sees self.now (λ scene. IsTried scene (record { dir = dir.now; name = name.now }) tried.now)) }
+        ensures { IfSome result (λ tried. Sees self.now (λ scene.
+            IsTried scene (try_in dir.now name.now) tried.now)) }
     {
         self.tries.find(dir, name)
     }
@@ -127,7 +133,7 @@ impl Sights {
         name: &str,
         tried: Tried,
     ) -> Result<(), NoMemory>
-        requires { Sees self.old (λ scene. IsTried scene (record { dir = dir.now; name = name.now }) tried) }
+        requires { Sees self.old (λ scene. IsTried scene (try_in dir.now name.now) tried) }
         ensures { self.new ≡ self.old }
     {
         self.tries.keep(alloc, dir, name, tried)?;

@@ -4,7 +4,7 @@ ghost use Rattle.std.specs.Prelude.{◌≡◌, ℕ, List, None, OnErr, OnOk, if�
 ghost use Rattle.std.specs.BTreeMap.{get_by_text};
 ghost use Rattle.std.specs.Option.{option_copied};
 ghost use Rattle.std.specs.Str.{bytes_eq};
-ghost use Rattle.rx_reach.specs.Candidates.{Try};
+ghost use Rattle.rx_reach.specs.Candidates.{Try, try_in};
 ghost use Rattle.rx_reach.specs.Tries.{NamesPut, Puts, try_at};
 
 use rx_base::{Items, NoMemory, RelPath, TryClone};
@@ -46,7 +46,8 @@ fn put_name(
     tried: Tried,
 ) -> Result<(), NoMemory>
     ensures put { OnOk result (NamesPut names.old names.new name.now tried) }
-    ensures same { OnErr result ((other : List ℕ) → get_by_text names.new other ≡ get_by_text names.old other) }
+    ensures same { OnErr result ((other : List ℕ) →
+        get_by_text names.new other ≡ get_by_text names.old other) }
 {
     let name = String::from_str(alloc, name)?;
     names.insert(name, tried)?;
@@ -65,7 +66,7 @@ impl Tries {
 
     /// What a name gave in a directory, where that is kept. It takes no memory.
     pub(crate) fn find(&self, dir: &RelPath, name: &str) -> Option<&Tried>
-        ensures { option_copied result ≡ try_at self.now.by_dir (record { dir = dir.now; name = name.now }) }
+        ensures { option_copied result ≡ try_at self.now.by_dir (try_in dir.now name.now) }
     {
         self.by_dir.get(dir)?.get(name)
     }
@@ -78,8 +79,10 @@ impl Tries {
         name: &str,
         tried: Tried,
     ) -> Result<(), NoMemory>
-        ensures put { OnOk result (Puts self.old.by_dir self.new.by_dir (record { dir = dir.now; name = name.now }) tried) }
-        ensures same { OnErr result ((t : Try) → try_at self.new.by_dir t ≡ try_at self.old.by_dir t) }
+        ensures put { OnOk result (Puts self.old.by_dir self.new.by_dir
+            (try_in dir.now name.now) tried) }
+        ensures same { OnErr result ((t : Try) →
+            try_at self.new.by_dir t ≡ try_at self.old.by_dir t) }
     {
         if let Some(names) = self.by_dir.get_mut(dir) {
             put_name(alloc, names, name, tried)?;

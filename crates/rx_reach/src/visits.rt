@@ -5,13 +5,13 @@ ghost use Rattle.rx_base.specs.Digests.{digest_of};
 ghost use Rattle.rx_lex.specs.Found.{found_view};
 ghost use Rattle.rx_world.specs.declared.looks.Look.TheVariants.{File as a_file};
 ghost use Rattle.rx_world.specs.Sources.{GivesContent, is_file};
-ghost use Rattle.rx_reach.specs.Explored.{HaveDigests};
+ghost use Rattle.rx_reach.specs.Explored.{AreSeen, HaveDigests};
 ghost use Rattle.rx_reach.specs.FileTables.{paths_of};
 ghost use Rattle.rx_reach.specs.declared.faults.SightFault.TheVariants.{NoMemory as no_memory};
-ghost use Rattle.rx_reach.specs.Progress.{AreApart, Explores, Judges, Stays};
+ghost use Rattle.rx_reach.specs.Progress.{AreApart, Explores, KeepsKnown, Marks, Stays};
 ghost use Rattle.rx_reach.specs.Scans.{Ends, Scans};
 ghost use Rattle.rx_reach.specs.Searches.{includes_in};
-ghost use Rattle.rx_reach.specs.Sights.{seen_at};
+ghost use Rattle.rx_reach.specs.Sights.{AreKnownAt, seen_at};
 ghost use Rattle.rx_reach.specs.Visits.{VisitsAt};
 
 use crate::faults::SightFault;
@@ -37,11 +37,13 @@ pub fn read_file<W: World, S: Sources<W>>(
     sights: &mut Sights,
     path: &RelPath,
 ) -> Result<(Look, Bytes), SightFault>
-    ensures ok { IfOk result (λ read. Scans S.listed S.keeps S.given W.content W.stamps_honest sources.old sources.new sights.old sights.new (λ scene. (read.0 ≡ scene.look path.now) × (read.1 ≡ scene.text path.now))) }
+    ensures ok { IfOk result (λ read. Scans W.World S.Sources
+        sources.old sources.new sights.old sights.new
+        (λ scene. (read.0 ≡ scene.look path.now) × (read.1 ≡ scene.text path.now))) }
     ensures seen { IfOk result (λ read. seen_at sights.new path.now ≡ Some read.0) }
-    ensures honest { IfOk result (λ read. W.stamps_honest → GivesContent W.content path.now read.0 read.1) }
-    ensures err { IfErr result (Ends S.listed S.keeps S.given W.content W.stamps_honest sources.old sources.new sights.old (S.faults sources.old) (S.faults sources.new)) }
-    ensures later { S.faults sources.old ≤ S.faults sources.new }
+    ensures honest { IfOk result (λ read. W.stamps_honest →
+        GivesContent W.content path.now read.0 read.1) }
+    ensures err { IfErr result (Ends W.World S.Sources sources.old sources.new sights.old) }
 {
     match sources.read(path) {
         Ok((look, bytes)) => {
@@ -77,13 +79,13 @@ fn is_hidden(found: &Directives, search: &Search) -> bool
 }
 
 /// Makes a file hard that may hide includes.
-fn judge(
+fn mark_hidden(
     alloc: Global,
     progress: &mut Progress,
     path: &RelPath,
     hidden: bool,
 ) -> Result<(), SightFault>
-    ensures ok { OnOk result (Judges path.now hidden progress.old progress.new) }
+    ensures ok { OnOk result (Marks path.now hidden progress.old progress.new) }
     ensures err { IfErr result (λ fault. fault ≡ no_memory) }
 {
     if hidden {
@@ -93,7 +95,7 @@ fn judge(
     Ok(())
 }
 
-/// Judges a file with this text, and seeks what it includes.
+/// Marks a file with this text, and seeks what it includes.
 fn explore<W: World, S: Sources<W>>(
     alloc: Global,
     sources: &mut S,
@@ -103,13 +105,17 @@ fn explore<W: World, S: Sources<W>>(
     path: &RelPath,
     text: &[u8],
 ) -> Result<(), SightFault>
-    ensures ok { OnOk result (Scans S.listed S.keeps S.given W.content W.stamps_honest sources.old sources.new sights.old sights.new (λ scene. scene.text path.now ≡ text.now → Explores scene search.now path.now progress.old progress.new)) }
+    ensures ok { OnOk result (Scans W.World S.Sources
+        sources.old sources.new sights.old sights.new
+        (λ scene. scene.text path.now ≡ text.now →
+        Explores scene search.now path.now progress.old progress.new)) }
     ensures stays { OnOk result (Stays progress.old progress.new) }
-    ensures err { IfErr result (Ends S.listed S.keeps S.given W.content W.stamps_honest sources.old sources.new sights.old (S.faults sources.old) (S.faults sources.new)) }
-    ensures later { S.faults sources.old ≤ S.faults sources.new }
+    ensures known { OnOk result (KeepsKnown sights.old sights.new path.now
+        progress.old progress.new) }
+    ensures err { IfErr result (Ends W.World S.Sources sources.old sources.new sights.old) }
 {
     let found = includes_in(alloc, text)?;
-    judge(alloc, progress, path, is_hidden(&found, search))?;
+    mark_hidden(alloc, progress, path, is_hidden(&found, search))?;
     let above = path.parent(alloc)?;
     let list = found.list.as_slice();
     seek_includes::<W, S>(
@@ -158,8 +164,10 @@ fn file_from<W: World>(
     bytes: &[u8],
 ) -> Option<ReadFile>
     requires { W.stamps_honest → GivesContent W.content path.now look bytes.now }
-    ensures look { MatchOption result (is_file look ≡ false) (λ file. look ≡ a_file file.stamp file.executable) }
-    ensures honest { IfSome result (λ file. W.stamps_honest → file.digest ≡ digest_of (W.content path.now file.stamp)) }
+    ensures look { MatchOption result (is_file look ≡ false)
+        (λ file. look ≡ a_file file.stamp file.executable) }
+    ensures honest { IfSome result (λ file. W.stamps_honest →
+        file.digest ≡ digest_of (W.content path.now file.stamp)) }
 {
     match look {
         Look::File { stamp, executable } => Some(ReadFile {
@@ -184,12 +192,20 @@ pub(crate) fn visit<W: World, S: Sources<W>>(
     path: &RelPath,
 ) -> Result<(), SightFault>
     requires { Contains (paths_of progress.old.read) path.now → ⊥ }
-    ensures ok { OnOk result (Scans S.listed S.keeps S.given W.content W.stamps_honest sources.old sources.new sights.old sights.new (λ scene. is_file (scene.look path.now) ≡ true → VisitsAt scene search.now path.now progress.old progress.new)) }
-    ensures apart { OnOk result (AreApart progress.old → (Contains progress.old.waiting path.now → ⊥) → AreApart progress.new) }
+    ensures ok { OnOk result (Scans W.World S.Sources
+        sources.old sources.new sights.old sights.new
+        (λ scene. is_file (scene.look path.now) ≡ true →
+        VisitsAt scene search.now path.now progress.old progress.new)) }
+    ensures apart { OnOk result (AreApart progress.old → (Contains progress.old.waiting path.now →
+        ⊥) → AreApart progress.new) }
     ensures count { OnOk result (length progress.new.read ≤ length progress.old.read + 1) }
-    ensures honest { OnOk result (W.stamps_honest → HaveDigests W.content progress.old.read → HaveDigests W.content progress.new.read) }
-    ensures err { IfErr result (Ends S.listed S.keeps S.given W.content W.stamps_honest sources.old sources.new sights.old (S.faults sources.old) (S.faults sources.new)) }
-    ensures later { S.faults sources.old ≤ S.faults sources.new }
+    ensures seen { OnOk result (AreSeen sights.old progress.old.read →
+        AreSeen sights.new progress.new.read) }
+    ensures honest { OnOk result (W.stamps_honest → HaveDigests W.content progress.old.read →
+        HaveDigests W.content progress.new.read) }
+    ensures known { OnOk result (AreKnownAt sights.old progress.old.hard →
+        AreKnownAt sights.new progress.new.hard) }
+    ensures err { IfErr result (Ends W.World S.Sources sources.old sources.new sights.old) }
 {
     let found = read_file::<W, S>(alloc, sources, sights, path)?;
     let text = found.1.as_slice();

@@ -5,7 +5,7 @@ use Rattle.std.proofs.lemmas.Iterator.Splits.{YieldsList-from_str_split}
 use Rattle.rx_base.specs.Paths.{parts, with_parts, with_text}
 use Rattle.rx_reach.specs.declared.candidates.Step.{Step}
 use Rattle.rx_reach.specs.Candidates.{names_of, steps}
-use Rattle.rx_reach.proofs.PassLemmas.{lacks-at, short-more, turn-leads, turn-long, turn-names, turn-steps}
+use Rattle.rx_reach.proofs.PassLemmas.{lacks-at, short-more, part-leads, part-long, part-names, part-steps}
 use Rattle.rx_reach.proofs.WayLemmas.{parts-lack, parts-no_slash}
 use Rattle.rx_reach.proofs.candidates.pass.Goals as goal
 
@@ -26,13 +26,13 @@ pass_part-requires-clause-no_zero c =
 pub pass_part-requires-clause-leads : goal.pass_part-requires-clause-leads
 pass_part-requires-clause-leads c =
     let t = YieldsList-turn (YieldsList-from_str_split 47 c.args.text.now (lit< tt) (cc) (cc) (cc)) c.loop-part.yielded _ c.loop-part.yielded_by _ _ c.in-Some.part c.in-Some.is c.next.ensures.steps in
-    turn-leads (parts c.args.text.now) (names_of c.loop-part.walk.at) c.requires.leads.0 (length c.loop-part.yielded) c.in-Some.part.now t (c.loop-part.invariant.names_are ∙ c.requires.leads.1)
+    part-leads (parts c.args.text.now) (names_of c.loop-part.walk.at) c.requires.leads.0 (length c.loop-part.yielded) c.in-Some.part.now t (c.loop-part.invariant.names_are ∙ c.requires.leads.1)
 
 pub returns-in-None-2-clause-long : goal.returns-in-None-2-clause-long
 returns-in-None-2-clause-long c = λ _ h.
     let t = YieldsList-turn (YieldsList-from_str_split 47 c.args.text.now (lit< tt) (cc) (cc) (cc)) c.loop-part.yielded _ c.loop-part.yielded_by _ _ c.in-Some.part c.in-Some.is c.next.ensures.steps in
     let long = c.in_ok-next.ensures.long c.in-None-2.is in
-    turn-long (parts c.args.text.now) (names_of c.loop-part.walk.at) c.requires.leads.0 (names_of c.args.walk.at) c.loop-part.walk.steps.items c.args.walk.steps.items (length c.loop-part.yielded) c.in-Some.part.now t
+    part-long (parts c.args.text.now) (names_of c.loop-part.walk.at) c.requires.leads.0 (names_of c.args.walk.at) c.loop-part.walk.steps.items c.args.walk.steps.items (length c.loop-part.yielded) c.in-Some.part.now t
     (c.loop-part.invariant.names_are ∙ c.requires.leads.1) c.requires.leads.2 long.0 long.1 c.loop-part.invariant.steps_are c.requires.short h
 
 pub loop-part-preserved : goal.loop-part-preserved
@@ -50,8 +50,8 @@ loop-part-preserved c =
       short = short-more front c.in-Some-2.next.steps.items c.loop-part.walk.at c.in-Some.part.now c.loop-part.invariant.path c.loop-part.invariant.short s;
       steps_are = rw length_push (
           ap (λ (more : List Step). more ++ steps there (drop (i + 1) all)) s ∙ append_assoc front (steps here (c.in-Some.part.now ∷ [])) (steps there (drop (i + 1) all))
-          ∙ ap (λ (more : List Step). front ++ more) (sym (turn-steps all here there i c.in-Some.part.now t n.1)) ∙ c.loop-part.invariant.steps_are);
-      names_are = rw length_push (turn-names all here there i c.in-Some.part.now t n.1 ∙ c.loop-part.invariant.names_are);
+          ∙ ap (λ (more : List Step). front ++ more) (sym (part-steps all here there i c.in-Some.part.now t n.1)) ∙ c.loop-part.invariant.steps_are);
+      names_are = rw length_push (part-names all here there i c.in-Some.part.now t n.1 ∙ c.loop-part.invariant.names_are);
     }
 
 pub returns-clause-steps : goal.returns-clause-steps

@@ -3,7 +3,7 @@ use Rattle.std.proofs.lemmas.Result.{err_from_is_err_and}
 use Rattle.rx_world.specs.declared.input_files.InputFile.{InputFile}
 use Rattle.rx_reach.specs.Explored.{Advances, Explored, IsExplored}
 use Rattle.rx_reach.specs.Visits.{Begins}
-use Rattle.rx_reach.proofs.NextLemmas.{empty-digests, explored-all}
+use Rattle.rx_reach.proofs.NextLemmas.{empty-digests, empty-seen, explored-all}
 use Rattle.rx_reach.proofs.ScanLemmas.{ends-join, scans-join}
 use Rattle.rx_reach.proofs.StartLemmas.{empty-apart}
 use Rattle.rx_reach.proofs.reach.find_all.Goals as goal
@@ -14,13 +14,13 @@ visit_all-requires g c = empty-apart c.in_ok-progress.progress c.in_ok-progress.
 pub returns-in_err-visit_all-clause-err : goal.returns-in_err-visit_all-clause-err
 returns-in_err-visit_all-clause-err g c =
     let p = err_from_is_err_and c.from_residual-in_err-visit_all.result c.from_residual-in_err-visit_all.ensures.1 in
-    rw (p.1, p.2) (ends-join _ _ _ _ _ _ _ _ _ _ _ _ _ _ _ c.in_ok-progress.ensures.ok c.in_ok-progress.ensures.later c.in_err-visit_all.ensures.err)
+    rw (p.1, p.2) (ends-join _ _ _ _ _ _ _ _ _ c.in_ok-progress.ensures.ok c.in_err-visit_all.ensures.err)
 
 pub returns-clause-ok : goal.returns-clause-ok
 returns-clause-ok g c =
     let start = c.in_ok-progress.progress in
     let end = c.visit_all.new.progress in
-    scans-join _ _ _ _ _ _ _ _ _ _ _
+    scans-join _ _ _ _ _ _ _ _
     (λ scene. Begins scene c.args.search.now start)
     (λ scene. Explored scene c.args.search.now start → Advances scene c.args.search.now 20001 start end)
     (λ scene. IsExplored scene c.args.search.now 20001 end)
@@ -34,3 +34,9 @@ returns-clause-count g c =
 
 pub returns-clause-honest : goal.returns-clause-honest
 returns-clause-honest g c = λ honest. c.in_ok-visit_all.ensures.honest honest (empty-digests g.W.World.content c.in_ok-progress.progress.read c.in_ok-progress.ensures.empty)
+
+pub returns-clause-seen : goal.returns-clause-seen
+returns-clause-seen g c = c.in_ok-visit_all.ensures.seen (empty-seen c.begin.new.sights c.in_ok-progress.progress.read c.in_ok-progress.ensures.empty)
+
+pub returns-clause-known : goal.returns-clause-known
+returns-clause-known g c = c.in_ok-visit_all.ensures.known c.in_ok-progress.ensures.known

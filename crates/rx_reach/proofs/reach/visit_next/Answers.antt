@@ -13,7 +13,7 @@ returns-in_ok-visit-in-Some-clause-ok g c =
     let mid : Progress = record { waiting = c.pop_first.new.self; read = p.read; hard = p.hard; left = p.left } in
     let path = c.in-Some.path in
     let after = c.visit.new.progress in
-    scans-say _ _ _ _ _ _ _ _ _
+    scans-say _ _ _ _ _ _
     (λ scene. is_file (scene.look path) ≡ true → VisitsAt scene c.args.search.now path mid after)
     (λ scene. Explored scene c.args.search.now p → GoesOn scene c.args.search.now true p after)
     c.in_ok-visit-in-Some.ensures.ok
@@ -32,7 +32,7 @@ pub returns-in-None-clause-ok : goal.returns-in-None-clause-ok
 returns-in-None-clause-ok g c =
     let p = c.args.progress.now in
     let mid : Progress = record { waiting = c.pop_first.new.self; read = p.read; hard = p.hard; left = p.left } in
-    scans-none _ _ _ _ _ _ _ (λ scene. Explored scene c.args.search.now p → GoesOn scene c.args.search.now false p mid) (λ scene _. none-next scene c.args.search.now p c.pop_first.new.self c.in-None.ensures.taken.0 c.in-None.ensures.taken.1)
+    scans-none _ _ _ _ (λ scene. Explored scene c.args.search.now p → GoesOn scene c.args.search.now false p mid) (λ scene _. none-next scene c.args.search.now p c.pop_first.new.self c.in-None.ensures.taken.0 c.in-None.ensures.taken.1)
 
 pub returns-in-None-clause-apart : goal.returns-in-None-clause-apart
 returns-in-None-clause-apart g c = none-apart c.args.progress.now c.pop_first.new.self c.in-None.ensures.taken.1

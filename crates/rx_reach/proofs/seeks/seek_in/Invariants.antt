@@ -1,12 +1,12 @@
-use Rattle.std.proofs.Common.{◌≤◌, take}
-use Rattle.rx_reach.specs.Progress.{Seeks, Stays}
+use Rattle.std.proofs.Common.{take}
+use Rattle.rx_reach.specs.Progress.{KeepsKnown, Seeks, Stays}
 use Rattle.rx_reach.specs.Scans.{Scans}
 use Rattle.rx_reach.specs.Searches.{tries_under}
 use Rattle.rx_reach.proofs.seeks.seek_in.Given as goal
 
 abbrev pub invariant-loop-dir : goal.invariant-loop-dir
 invariant-loop-dir g l = record {
-  scans : Scans g.S.Sources.listed g.S.Sources.keeps g.S.Sources.given g.W.World.content g.W.World.stamps_honest l.fn.sources l.sources l.fn.sights l.sights (λ scene. Seeks scene l.blamed (tries_under (take l.dir-index l.dirs) l.name) l.fn.progress l.progress);
+  scans : Scans g.W.World g.S.Sources l.fn.sources l.sources l.fn.sights l.sights (λ scene. Seeks scene l.blamed (tries_under (take l.dir-index l.dirs) l.name) l.fn.progress l.progress);
   stays : Stays l.fn.progress l.progress;
-  later : g.S.Sources.faults l.fn.sources ≤ g.S.Sources.faults l.sources;
+  known : KeepsKnown l.fn.sights l.sights l.blamed l.fn.progress l.progress;
 }

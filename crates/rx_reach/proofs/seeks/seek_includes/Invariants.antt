@@ -1,5 +1,5 @@
-use Rattle.std.proofs.Common.{◌≤◌, take}
-use Rattle.rx_reach.specs.Progress.{Seeks, Stays}
+use Rattle.std.proofs.Common.{take}
+use Rattle.rx_reach.specs.Progress.{KeepsKnown, Seeks, Stays}
 use Rattle.rx_reach.specs.Scans.{Scans}
 use Rattle.std.specs.Prelude.{flat_map}
 use Rattle.rx_lex.specs.declared.found.Include.{Include}
@@ -9,7 +9,7 @@ use Rattle.rx_reach.proofs.seeks.seek_includes.Given as goal
 
 abbrev pub invariant-loop-include : goal.invariant-loop-include
 invariant-loop-include g l = record {
-  scans : Scans g.S.Sources.listed g.S.Sources.keeps g.S.Sources.given g.W.World.content g.W.World.stamps_honest l.fn.sources l.sources l.fn.sights l.sights (λ scene. Seeks scene l.file (flat_map (λ (include : Include). tries_of l.search l.file (name_view include)) (take l.include-index l.list)) l.fn.progress l.progress);
+  scans : Scans g.W.World g.S.Sources l.fn.sources l.sources l.fn.sights l.sights (λ scene. Seeks scene l.file (flat_map (λ (include : Include). tries_of l.search l.file (name_view include)) (take l.include-index l.list)) l.fn.progress l.progress);
   stays : Stays l.fn.progress l.progress;
-  later : g.S.Sources.faults l.fn.sources ≤ g.S.Sources.faults l.sources;
+  known : KeepsKnown l.fn.sights l.sights l.file l.fn.progress l.progress;
 }

@@ -12,14 +12,14 @@ returns-in_err-note-in-Ok-clause-err g c =
     let p = err_from_is_err_and c.from_residual.result c.from_residual.ensures.1 in
     rw (p.1, p.2) (record {
       answers = given_bytes c.args.path.now c.in-Ok.look c.in-Ok.bytes ∷ [];
-      gives = record { told = search rules; kept = search rules; by_list = search rules; contents = search rules };
+      gives = record { told = search rules; kept = search rules; by_list = search rules; contents = search rules; holds = search rules; later = search rules };
       blames = c.in_err-note-in-Ok.ensures.changed (Some c.in-Ok.bytes) _ _;
     })
 
 pub returns-in_ok-note-in-Ok-clause-ok : goal.returns-in_ok-note-in-Ok-clause-ok
 returns-in_ok-note-in-Ok-clause-ok g c = record {
   answers = given_bytes c.args.path.now c.in-Ok.look c.in-Ok.bytes ∷ [];
-  gives = record { told = search rules; kept = search rules; by_list = search rules; contents = search rules };
+  gives = record { told = search rules; kept = search rules; by_list = search rules; contents = search rules; holds = search rules; later = search rules };
   notes = c.in_ok-note-in-Ok.ensures.noted (Some c.in-Ok.bytes);
   known = λ scene _ all. let right = All-head (IsRight scene) (given_bytes c.args.path.now c.in-Ok.look c.in-Ok.bytes) [] all in (right.look_is, right.bytes_are);
 }

@@ -3,27 +3,29 @@ use Rattle.std.proofs.lemmas.Result.{err_from_is_err_and}
 use Rattle.rx_world.specs.Sources.{is_file}
 use Rattle.rx_world.specs.declared.input_files.InputFile.{InputFile}
 use Rattle.rx_reach.specs.declared.progress.Progress.{Progress}
-use Rattle.rx_reach.specs.Explored.{HaveDigests}
+use Rattle.rx_reach.specs.Explored.{AreSeen, HaveDigests}
 use Rattle.rx_reach.specs.Progress.{Explores}
 use Rattle.rx_reach.specs.Visits.{VisitsAt}
+use Rattle.rx_reach.proofs.KnownLemmas.{all-kept}
 use Rattle.rx_reach.proofs.ScanLemmas.{ends-join, ends-memory, scans-join}
-use Rattle.rx_reach.proofs.VisitedLemmas.{copied-digest, file-is, visited, visited-apart, visited-digests}
+use Rattle.rx_reach.proofs.SightLemmas.{notes-keep}
+use Rattle.rx_reach.proofs.VisitedLemmas.{copied-digest, file-is, seen-file, seen-kept, visited, visited-apart, visited-digests, visited-seen}
 use Rattle.rx_reach.proofs.visits.visit.Goals as goal
 
 pub returns-in_err-try_clone-in-Some-clause-err : goal.returns-in_err-try_clone-in-Some-clause-err
 returns-in_err-try_clone-in-Some-clause-err g c =
     let p = err_from_is_err_and c.from_residual-in_err-try_clone-in-Some.result c.from_residual-in_err-try_clone-in-Some.ensures.1 in
-    rw (p.1, p.2) (ends-memory _ _ _ _ _ _ _ _ _ _ _ _ c.in_ok-found.ensures.ok)
+    rw (p.1, p.2) (ends-memory _ _ _ _ _ _ _ c.in_ok-found.ensures.ok)
 
 pub returns-in_err-insert-in-Some-clause-err : goal.returns-in_err-insert-in-Some-clause-err
 returns-in_err-insert-in-Some-clause-err g c =
     let p = err_from_is_err_and c.from_residual-in_err-insert-in-Some.result c.from_residual-in_err-insert-in-Some.ensures.1 in
-    rw (p.1, p.2) (ends-memory _ _ _ _ _ _ _ _ _ _ _ _ c.in_ok-found.ensures.ok)
+    rw (p.1, p.2) (ends-memory _ _ _ _ _ _ _ c.in_ok-found.ensures.ok)
 
 pub returns-in_err-explore-in-Some-clause-err : goal.returns-in_err-explore-in-Some-clause-err
 returns-in_err-explore-in-Some-clause-err g c =
     let p = err_from_is_err_and c.from_residual-in_err-explore-in-Some.result c.from_residual-in_err-explore-in-Some.ensures.1 in
-    rw (p.1, p.2) (ends-join _ _ _ _ _ _ _ _ _ _ _ _ _ _ _ c.in_ok-found.ensures.ok c.in_ok-found.ensures.later c.in_err-explore-in-Some.ensures.err)
+    rw (p.1, p.2) (ends-join _ _ _ _ _ _ _ _ _ c.in_ok-found.ensures.ok c.in_err-explore-in-Some.ensures.err)
 
 pub returns-in-Some-clause-ok : goal.returns-in-Some-clause-ok
 returns-in-Some-clause-ok g c =
@@ -33,7 +35,7 @@ returns-in-Some-clause-ok g c =
     let found = c.in_ok-found.found in
     let kept = c.in-Some.file in
     let file : InputFile = record { path = copy; digest = kept.digest; stamp = kept.stamp; executable = kept.executable } in
-    scans-join _ _ _ _ _ _ _ _ _ _ _
+    scans-join _ _ _ _ _ _ _ _
     (λ scene. (found.0 ≡ scene.look c.args.path.now) × (found.1 ≡ scene.text c.args.path.now))
     (λ scene. scene.text c.args.path.now ≡ c.as_slice-text.result.now → Explores scene c.args.search.now c.args.path.now mid c.explore.new.progress)
     (λ scene. is_file (scene.look c.args.path.now) ≡ true → VisitsAt scene c.args.search.now c.args.path.now p c.explore.new.progress)
@@ -70,3 +72,27 @@ returns-in-Some-clause-honest g c =
 
 pub file_from-requires : goal.file_from-requires
 file_from-requires g c = λ honest. rw c.as_slice-text.ensures (c.in_ok-found.ensures.honest honest)
+
+pub returns-in-Some-clause-seen : goal.returns-in-Some-clause-seen
+returns-in-Some-clause-seen g c =
+    let copy = c.in_ok-try_clone-in-Some.field-0 in
+    let kept = c.in-Some.file in
+    let file : InputFile = record { path = copy; digest = kept.digest; stamp = kept.stamp; executable = kept.executable } in
+    let first = c.in_ok-found.ensures.ok in
+    let more = c.in_ok-explore-in-Some.ensures.ok in
+    λ all.
+    subst (AreSeen c.explore.new.sights) (sym c.in_ok-explore-in-Some.ensures.stays.read_is)
+    (visited-seen c.explore.new.sights file c.args.progress.now.read c.insert.new.self c.in_ok-insert-in-Some.ensures.added
+    (notes-keep _ _ more.answers copy _ more.notes (seen-file c.read_file.new.sights c.in_ok-found.found.0 kept.stamp kept.executable c.args.path.now copy c.in_ok-try_clone-in-Some.ensures c.in-Some.ensures.look c.in_ok-found.ensures.seen))
+    (seen-kept _ _ more.answers _ more.notes (seen-kept _ _ first.answers _ first.notes all)))
+
+pub returns-clause-seen : goal.returns-clause-seen
+returns-clause-seen g c = λ all. seen-kept _ _ c.in_ok-found.ensures.ok.answers _ c.in_ok-found.ensures.ok.notes all
+
+pub returns-in-Some-clause-known : goal.returns-in-Some-clause-known
+returns-in-Some-clause-known g c =
+    let first = c.in_ok-found.ensures.ok in
+    λ all. c.in_ok-explore-in-Some.ensures.known (c.in_ok-found.found.0, c.in_ok-found.ensures.seen) (all-kept c.args.sights.now c.read_file.new.sights first.answers c.args.progress.now.hard first.notes all)
+
+pub returns-clause-known : goal.returns-clause-known
+returns-clause-known g c = λ all. all-kept c.args.sights.now c.read_file.new.sights c.in_ok-found.ensures.ok.answers c.args.progress.now.hard c.in_ok-found.ensures.ok.notes all
