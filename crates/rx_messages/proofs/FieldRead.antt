@@ -5,6 +5,7 @@ use Rattle.std.proofs.lemmas.Bool.{ne_eqb}
 use Rattle.std.proofs.lemmas.List.{append-nil, length-drop}
 use Rattle.std.proofs.lemmas.Grind.{flat_map-append}
 use Rattle.std.specs.List.{AllByRecursion}
+use Rattle.rx_base.proofs.Lists.{All-append}
 use Rattle.rx_wire.specs.Values.{Field}
 use Rattle.rx_wire.specs.Fields.{SpellsFields}
 use Rattle.rx_wire.specs.Out.{AddsField}
@@ -37,10 +38,6 @@ pub fields_in-spelled : (fs : List Field) (text : List ℕ) → SpellsFields fs 
 unfolding fields_in
 fields_in-spelled fs text s = fields_from-spelled text fs (length text) 0 (omega arith) (omega arith) s
 
-pub AllByRecursion-append : {X : Type 0} (P : X → Type 0) (xs ys : List X) → AllByRecursion P xs → AllByRecursion P ys → AllByRecursion P (xs ++ ys)
-AllByRecursion-append P [] ys a b = b
-AllByRecursion-append P (x ∷ xs) ys a b = (a.0, AllByRecursion-append P xs ys a.1 b)
-
 pub fields_bytes-push : (fs : List Field) (f : Field) → fields_bytes (fs ++ f ∷ []) ≡ fields_bytes fs ++ field_bytes f
 unfolding fields_bytes
 fields_bytes-push fs f = flat_map-append field_bytes fs (f ∷ []) ∙ ap (λ (text : List ℕ). fields_bytes fs ++ text) (append-nil (field_bytes f))
@@ -58,7 +55,7 @@ IsMore-from parts old new f w adds e part =
       written = record {
         same = e ∙ ap (λ (text : List ℕ). text ++ field_bytes f) w.same ∙ sym (fields_bytes-push (fields_in old) f) ∙ ap fields_bytes (sym fields);
         spelled = subst (λ (gs : List Field). SpellsFields gs new) (sym fields) spelled;
-        each = subst (λ (gs : List Field). HasParts parts gs) (sym fields) (AllByRecursion-append (λ (g : Field). IsPart (parts g.number) g.content) (fields_in old) (f ∷ []) w.each (part, tt));
+        each = subst (λ (gs : List Field). HasParts parts gs) (sym fields) (All-append (λ (g : Field). IsPart (parts g.number) g.content) (fields_in old) (f ∷ []) w.each (part, tt));
       };
       fields = fields;
     }

@@ -5,6 +5,7 @@ use Rattle.std.proofs.lemmas.List.{drop_all, drop-take, length-drop, length-take
 use Rattle.std.specs.List.{AllByRecursion, concat}
 use Rattle.std.specs.Str.{IsUtf8, is_utf8}
 use Rattle.std.proofs.lemmas.Str.{IsUtf8-from_is_utf8, is_utf8-from_IsUtf8}
+use Rattle.rx_base.proofs.Lists.{All-append}
 use Rattle.rx_wire.specs.declared.faults.WireFault.TheVariants.{BadUtf8}
 use Rattle.rx_base.proofs.ResultLemmas.{bind_ok}
 use Rattle.rx_base.specs.Results.{◌>>=◌}
@@ -13,7 +14,7 @@ use Rattle.rx_wire.specs.Values.{Content, varint, fixed64, bytes, fixed32, Field
 use Rattle.rx_wire.specs.Fields.{Placed, Reads, SpellsContent, SpellsFields, content_at, field_at}
 use Rattle.rx_wire.proofs.Grammar.{IsBytes, ok_is}
 use Rattle.rx_wire.proofs.FieldLaws.{SpellsField-some, after, field_again, field_stands, place_of}
-use Rattle.rx_messages.proofs.FieldRead.{AllByRecursion-append, fields_in-spelled}
+use Rattle.rx_messages.proofs.FieldRead.{fields_in-spelled}
 use Rattle.rx_messages.specs.FieldBytes.{fields_in}
 use Rattle.rx_messages.specs.Parts.{Part, anything, text, message, HasParts, IsPart, IsMessage, SpellsEach, field_checked, fields_checked, part_checked, parts_checked, text_checked}
 
@@ -188,7 +189,7 @@ IsMessage-append : (parts : ℕ → Part) (a b : List ℕ) → IsMessage parts a
 IsMessage-append parts a b m n = record {
   fields = m.fields ++ n.fields;
   spelled = SpellsFields-append m.fields n.fields a b m.spelled n.spelled;
-  each = AllByRecursion-append (λ (f : Field). IsPart (parts f.number) f.content) m.fields n.fields m.each n.each;
+  each = All-append (λ (f : Field). IsPart (parts f.number) f.content) m.fields n.fields m.each n.each;
 }
 
 -- messages one after the other are one message
