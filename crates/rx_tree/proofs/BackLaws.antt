@@ -9,6 +9,7 @@ use Rattle.rx_base.specs.Digests.{digest_of}
 use Rattle.rx_base.specs.Paths.{IsName, joined, longest}
 use Rattle.rx_base.specs.SortedPaths.{HasSameMembers}
 use Rattle.rx_base.specs.declared.digests.Digest.{Digest}
+use Rattle.rx_base.proofs.Members.{All-member, All-members, Contains-from_map, Contains-map}
 use Rattle.rx_tree.specs.declared.blobs.Blob.{Blob}
 use Rattle.rx_tree.specs.declared.listings.Listed.{Listed}
 use Rattle.rx_tree.specs.declared.listings.TreeFile.{TreeFile}
@@ -27,13 +28,11 @@ use Rattle.rx_tree.proofs.CanonicalLaws.{IsSmall, in_order}
 use Rattle.rx_tree.proofs.CountLaws.{passes, rests_passing, seen_at_most, tally}
 use Rattle.rx_tree.proofs.FoundLaws.{FitsOn, finds_all, has_paths, names_are}
 use Rattle.rx_tree.proofs.ListingLaws.{goes_on, rest_at, under_all}
-use Rattle.rx_tree.proofs.Members.{All-member, All-members}
 use Rattle.rx_tree.proofs.NamesLemmas.{below-from_names, below-names, joined-names_of, joined_parts, some_part}
 use Rattle.rx_tree.proofs.Neighbours.{counted}
 use Rattle.rx_tree.proofs.OnceLaws.{IsOnce, dirs_once, once-permutation, strictly_sorted}
 use Rattle.rx_tree.proofs.SeenLaws.{dirs-from, dirs-to, files-from, files-to, files_seen}
-use Rattle.rx_tree.proofs.ShelfLemmas.{map-to}
-use Rattle.rx_tree.proofs.StartLemmas.{map-from, one_file, rest_of}
+use Rattle.rx_tree.proofs.StartLemmas.{one_file, rest_of}
 use Rattle.rx_tree.proofs.TreeHolds.{HoldsEach, HoldsOf, tree_holds}
 use Rattle.rx_tree.proofs.TreeWalks.{FindsBelow, HasPaths, IsFound, Sees, bare_in, below, count_below, length-all_bytes, more, sees_below, sees_directory}
 
@@ -56,7 +55,7 @@ file_at path file = bytes_eq file.path path
 module _ (es : List Entry) (e : HasTree es) where
   entry_names_are : (q : Rest) → Contains (rests 0 es) q → FitsOn [] q
   entry_names_are q c =
-      let x = map-from rest_of es q c in
+      let x = Contains-from_map rest_of es q c in
       let entry = All-member IsEntry es x.0 e.each x.1 in
       subst (λ (r : Rest). FitsOn [] r) x.2 (record { names = names_are x.0.path entry.path; short = subst (λ (p : List ℕ). length p ≤ longest) (sym (joined-names_of x.0.path)) entry.path.short })
 
@@ -68,7 +67,7 @@ module _ (es : List Entry) (e : HasTree es) where
   holds small =
       tree_holds IsName IsSmall (rests 0 es)
       (All-members (HoldsOf IsName IsSmall) (rests 0 es) (λ q c.
-      let x = map-from rest_of es q c in
+      let x = Contains-from_map rest_of es q c in
       let entry = All-member IsEntry es x.0 e.each x.1 in
       subst (λ (r : Rest). HoldsOf IsName IsSmall r) x.2 (record {
         names = names_are x.0.path entry.path;
@@ -92,7 +91,7 @@ module _ (es : List Entry) (e : HasTree es) where
   -- the entry of some names, by its path
   entry_of : (path : List ℕ) (names : List (List ℕ)) (file : Option Content) → path ≡ joined names → Contains (rests 0 es) (record { names = names; file = file }) → Contains es (record { path = path; file = file })
   entry_of path names file is c =
-      let x = map-from rest_of es (record { names = names; file = file }) c in
+      let x = Contains-from_map rest_of es (record { names = names; file = file }) c in
       let same : x.0.path ≡ path = sym (joined-names_of x.0.path) ∙ ap (λ (r : Rest). joined r.names) x.2 ∙ sym is in
       let held : x.0.file ≡ file = ap (λ (r : Rest). r.file) x.2 in
       subst (λ (y : Entry). Contains es y) (ap (λ (p : List ℕ). let y : Entry = record { path = p; file = x.0.file } in y) same ∙ ap (λ (f : Option Content). let y : Entry = record { path = path; file = f } in y) held) x.1
@@ -118,7 +117,7 @@ module _ (es : List Entry) (e : HasTree es) where
       let path : joined (part.0 ∷ part.1) ≡ b ∷ bs = ap joined (sym part.2) ∙ joined_parts (b ∷ bs) in
       let here : Contains (rests 0 es) (record { names = part.0 ∷ part.1; file = None }) = subst (λ (ns : List (List ℕ)). Contains (rests 0 es) (record { names = ns; file = None })) part.2 (rest_at es (b ∷ bs) None h.listed) in
       let last : goes_on (rests 0 es) (part.0 ∷ part.1) = λ q c x xs is.
-      let y = map-from rest_of es q c in
+      let y = Contains-from_map rest_of es q c in
       h.bare y.0 y.1 (below-from_names y.0.path (b ∷ bs) x xs (ap (λ (r : Rest). r.names) y.2 ∙ is ∙ ap (λ (ns : List (List ℕ)). ns ++ x ∷ xs) (sym part.2))) in
       let seen = dirs-to part.1 part.0 (rests 0 es) [] (under_all es e.apart) here last (λ none. h.below_root (sym path ∙ none)) in
       subst (λ (p : List ℕ). Contains (below bare_in [] (tree es)) p) path seen
@@ -132,7 +131,7 @@ module _ (es : List Entry) (e : HasTree es) where
   dir-from path h =
       let d = dirs-from (levels (rests 0 es)) (rests 0 es) [] path (omega arith) h in
       let listed : Contains es (record { path = path; file = None }) = entry_of path (d.first ∷ d.others) None d.is d.listed in
-      let x = map-from rest_of es (record { names = d.first ∷ d.others; file = None }) d.listed in
+      let x = Contains-from_map rest_of es (record { names = d.first ∷ d.others; file = None }) d.listed in
       let same : x.0.path ≡ path = sym (joined-names_of x.0.path) ∙ ap (λ (r : Rest). joined r.names) x.2 ∙ sym d.is in
       let names : names_of path ≡ d.first ∷ d.others = ap names_of (sym same) ∙ ap (λ (r : Rest). r.names) x.2 in
       record {
@@ -140,7 +139,7 @@ module _ (es : List Entry) (e : HasTree es) where
         below_root = no_root_names path d.first d.others names;
         bare = λ y c under.
             let on = below-names y.path path under in
-            d.last (rest_of y) (map-to rest_of es y c) on.0 on.1 (on.2 ∙ ap (λ (ns : List (List ℕ)). ns ++ on.0 ∷ on.1) names);
+            d.last (rest_of y) (Contains-map rest_of es y c) on.0 on.1 (on.2 ∙ ap (λ (ns : List (List ℕ)). ns ++ on.0 ∷ on.1) names);
       }
 
   -- ---- each once

@@ -14,34 +14,25 @@ use Rattle.std.proofs.lemmas.List.Kept.{AllPairs-cons, Contains-dedup, Contains-
 use Rattle.std.proofs.lemmas.List.Sorted.{Contains-permutation, IsPermutation-sym}
 use Rattle.rx_base.specs.SortedPaths.{HasSameMembers}
 use Rattle.rx_base.specs.declared.digests.Digest.{Digest}
+use Rattle.rx_base.proofs.DigestOrder.{by_digest-same}
+use Rattle.rx_base.proofs.Lists.{All-weaken}
+use Rattle.rx_base.proofs.Orderings.{Equal-from_is_eq, then-Equal}
+use Rattle.rx_base.specs.Digests.{by_digest}
 use Rattle.rx_tree.specs.declared.blobs.Blob.{Blob}
-use Rattle.rx_tree.specs.Blobs.{HasNoRepeats, by_blob, by_blob_total, by_digest}
-use Rattle.rx_tree.proofs.Members.{All-weaken}
-use Rattle.rx_tree.proofs.NameOrder.{equal_then, is_equal}
-
--- what ties is one
-pub digest_is : (x y : Digest) → by_digest x y ≡ Equal → x ≡ y
-digest_is x y e =
-    let parts = equal_then (slice_cmp nat_cmp x.hash y.hash) (nat_cmp x.size y.size) e in
-    ap (λ (hash : List ℕ). let d : Digest = record { hash = hash; size = x.size } in d) (is_equal x.hash y.hash parts.0)
-    ∙ ap (λ (size : ℕ). let d : Digest = record { hash = y.hash; size = size } in d) (nat_cmp-IsAntisymmetric x.size y.size parts.1)
+use Rattle.rx_tree.specs.Blobs.{HasNoRepeats, by_blob, by_blob_total}
+use Rattle.rx_tree.proofs.NameOrder.{is_equal}
 
 tied_is : (x y : Blob) → by_blob x y ≡ Equal → x ≡ y
 tied_is x y e =
-    let parts = equal_then (by_digest x.digest y.digest) (slice_cmp nat_cmp x.bytes y.bytes) e in
-    ap (λ (digest : Digest). let b : Blob = record { digest = digest; bytes = x.bytes } in b) (digest_is x.digest y.digest parts.0)
+    let parts = then-Equal (by_digest x.digest y.digest) (slice_cmp nat_cmp x.bytes y.bytes) e in
+    ap (λ (digest : Digest). let b : Blob = record { digest = digest; bytes = x.bytes } in b) (by_digest-same x.digest y.digest parts.0)
     ∙ ap (λ (bytes : List ℕ). let b : Blob = record { digest = y.digest; bytes = bytes } in b) (is_equal x.bytes y.bytes parts.1)
-
-pub equal_from : (o : Ordering) → is_eq o ≡ true → o ≡ Equal
-equal_from Less e = absurd (cc e)
-equal_from Equal e = refl
-equal_from Greater e = absurd (cc e)
 
 pub members : (blobs sorted once : List Blob) → IsPermutation blobs sorted → IsFiltered (DiffersFromLast (eq_by_cmp by_blob)) [] sorted once → HasSameMembers blobs once
 members blobs sorted once p kept =
     subst (λ (found : List Blob). HasSameMembers blobs found) (sym (dedup_is (eq_by_cmp by_blob) sorted once kept))
     (λ blob. (
-      λ c. Contains-dedup (eq_by_cmp_equiv by_blob_total) (λ x y e. tied_is x y (equal_from (by_blob x y) e)) sorted blob (Contains-permutation blobs sorted blob p c),
+      λ c. Contains-dedup (eq_by_cmp_equiv by_blob_total) (λ x y e. tied_is x y (Equal-from_is_eq (by_blob x y) e)) sorted blob (Contains-permutation blobs sorted blob p c),
       λ c. Contains-permutation sorted blobs blob (IsPermutation-sym blobs sorted p) (Contains-from_dedup (eq_by_cmp by_blob) sorted blob c),
     ))
 

@@ -21,10 +21,10 @@ use Rattle.rx_messages.specs.declared.nodes.DirectoryNode.{DirectoryNode}
 use Rattle.rx_messages.specs.declared.directories.Directory.{Directory}
 use Rattle.rx_messages.proofs.ContentLaws.{contents-append, contents-numbered, number_again, text_again, truth_again}
 use Rattle.rx_messages.proofs.FieldRead.{fields_in-spelled}
+use Rattle.rx_base.proofs.Lists.{All-append, All-weaken}
 use Rattle.rx_tree.specs.Entries.{Content}
 use Rattle.rx_tree.specs.Listings.{IsDigest}
 use Rattle.rx_tree.specs.Trees.{bytes_with, directory_node, file_node}
-use Rattle.rx_tree.proofs.Members.{All-on, All-weaken}
 
 -- ---- fields that are read again
 
@@ -84,7 +84,7 @@ fields_bytes-append fs gs = flat_map-append field_bytes fs gs
 
 AreShort-append : (fs gs : List Field) (m n : ℕ) → AreShort fs m → AreShort gs n → AreShort (fs ++ gs) (m + n)
 AreShort-append fs gs m n h k = record {
-  each = All-on IsWritable fs gs h.each k.each;
+  each = All-append IsWritable fs gs h.each k.each;
   short = let both = ap (λ (t : List ℕ). length t) (fields_bytes-append fs gs) in let size = length-append (fields_bytes fs) (fields_bytes gs) in let a = h.short in let b = k.short in omega arith;
 }
 
@@ -307,8 +307,8 @@ directory_with fs ds = record { files = fs; directories = ds; symlinks = [] }
 writable : (fs : List FileNode) (ds : List DirectoryNode) → AllByRecursion IsFileNode fs → AllByRecursion IsDirNode ds → AllByRecursion IsWritable (directory_fields (directory_with fs ds))
 unfolding directory_fields
 writable fs ds g h =
-    All-on IsWritable (numbered 1 (each_put file_node_fields fs) ++ numbered 2 (each_put directory_node_fields ds)) (numbered 3 (each_put symlink_node_fields []))
-    (All-on IsWritable (numbered 1 (each_put file_node_fields fs)) (numbered 2 (each_put directory_node_fields ds))
+    All-append IsWritable (numbered 1 (each_put file_node_fields fs) ++ numbered 2 (each_put directory_node_fields ds)) (numbered 3 (each_put symlink_node_fields []))
+    (All-append IsWritable (numbered 1 (each_put file_node_fields fs)) (numbered 2 (each_put directory_node_fields ds))
     (each_writable 1 file_node_fields fs (omega arith) (omega arith) (All-weaken IsFileNode (λ x. length (fields_bytes (file_node_fields x)) < 2 ^ 64) fs file_fits g))
     (each_writable 2 directory_node_fields ds (omega arith) (omega arith) (All-weaken IsDirNode (λ x. length (fields_bytes (directory_node_fields x)) < 2 ^ 64) ds dir_fits h)))
     (each_writable 3 symlink_node_fields [] (omega arith) (omega arith) tt)

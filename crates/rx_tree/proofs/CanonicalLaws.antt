@@ -7,7 +7,7 @@ use Rattle.std.specs.Cmp.Lexicographic.{slice_cmp}
 use Rattle.std.specs.FinMap.{nat_cmp-IsAntisymmetric, slice_cmp-IsAntisymmetric}
 use Rattle.std.specs.List.{AllByRecursion, Contains, list_all, list_any}
 use Rattle.std.specs.List.Sorted.{IsStrictlySortedBy}
-use Rattle.std.proofs.lemmas.Bool.{eqb-true}
+use Rattle.std.proofs.lemmas.Bool.{eqb-true, ne_eqb}
 use Rattle.std.proofs.lemmas.Cmp.{nat_list_cmp_total}
 use Rattle.std.proofs.lemmas.List.Elements.{Contains-append_cases, Contains-append_left, Contains-append_right}
 use Rattle.rx_base.specs.Paths.{IsName, Lacks}
@@ -20,27 +20,24 @@ use Rattle.rx_messages.specs.Nodes.{directory_node_is_readable, file_node_is_rea
 use Rattle.rx_messages.specs.declared.nodes.FileNode.{FileNode}
 use Rattle.rx_messages.specs.declared.nodes.DirectoryNode.{DirectoryNode}
 use Rattle.rx_messages.specs.declared.nodes.SymlinkNode.{SymlinkNode}
+use Rattle.rx_base.proofs.ByteLists.{bytes_eq-other, some_bytes}
+use Rattle.rx_base.proofs.Members.{Contains-cons_cases, Contains-head, Contains-later}
 use Rattle.rx_tree.specs.Entries.{Content}
 use Rattle.rx_tree.specs.Planting.{directory_of}
 use Rattle.rx_tree.specs.Trees.{Tree, End, File, Dir, Rest, bytes_below, directory_nodes, file_here, file_nodes, forest, names_in, planted, tree_at, tree_bytes, within}
-use Rattle.rx_tree.proofs.Members.{Contains-cons_cases, Contains-head, Contains-later}
-use Rattle.rx_tree.proofs.NamesLemmas.{some_bytes}
 use Rattle.rx_tree.proofs.TreeHolds.{HoldsEach}
-use Rattle.rx_tree.proofs.TreeRuns.{firsts, other_name}
+use Rattle.rx_tree.proofs.TreeRuns.{firsts}
 
 -- ---- names
 
-is_not : (b c : ℕ) → b ≢ c → (b == c) ≡ false
-is_not b c ne = not_true (b == c) (λ e. ne (eqb-true b c e))
-
 any_none : (c : ℕ) (text : List ℕ) → Lacks c text → list_any (λ b. b == c) text ≡ false
 any_none c [] h = refl
-any_none c (x ∷ xs) h = rw (is_not x c h.0, any_none c xs h.1) refl
+any_none c (x ∷ xs) h = rw (ne_eqb x c h.0, any_none c xs h.1) refl
 
 name_passes : (name : List ℕ) → IsName name → is_name name ≡ true
 unfolding is_name
 name_passes name one =
-    rw (some_bytes name one.some, other_name name (codes ".") one.not_here, other_name name (codes "..") one.not_up, any_none 47 name one.no_slash, any_none 0 name one.no_zero) refl
+    rw (some_bytes name one.some, bytes_eq-other name (codes ".") one.not_here, bytes_eq-other name (codes "..") one.not_up, any_none 47 name one.no_slash, any_none 0 name one.no_zero) refl
 
 sorted_passes : (names : List (List ℕ)) → IsStrictlySortedBy (slice_cmp nat_cmp) names → are_sorted names ≡ true
 unfolding are_sorted IsStrictlySortedBy

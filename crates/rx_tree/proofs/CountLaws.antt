@@ -9,14 +9,16 @@ use Rattle.std.specs.Str.{bytes_eq}
 use Rattle.std.proofs.lemmas.Cmp.{nat_list_cmp_total}
 use Rattle.std.proofs.lemmas.Slice.Eq.{bytes_eq-Decides}
 use Rattle.rx_base.proofs.Orders.{IsStrictlySortedBy-sorted_once}
+use Rattle.rx_base.proofs.ByteLists.{bytes_eq-other}
+use Rattle.rx_base.proofs.Lists.{All-weaken}
+use Rattle.rx_base.proofs.Members.{All-members, Contains-cons_cases, not_in_nothing}
 use Rattle.rx_tree.specs.declared.listings.TreeFile.{TreeFile}
 use Rattle.rx_tree.specs.Entries.{Content}
 use Rattle.rx_tree.specs.Trees.{Tree, Rest, after, file_here, forest, names_in, planted, tree_at, within}
 use Rattle.rx_tree.proofs.CanonicalLaws.{IsLower}
-use Rattle.rx_tree.proofs.Members.{All-members, All-weaken, Contains-cons_cases, not_in_nothing}
 use Rattle.rx_tree.proofs.SeenLaws.{files_seen}
 use Rattle.rx_tree.proofs.TreeMembers.{file_alone, file_here-from}
-use Rattle.rx_tree.proofs.TreeRuns.{firsts, later_differs, other_name}
+use Rattle.rx_tree.proofs.TreeRuns.{firsts, later_differs}
 use Rattle.rx_tree.proofs.TreeWalks.{below, file_in, files_in}
 
 -- ---- how many pass a test
@@ -76,7 +78,7 @@ module _ (test : TreeFile → Bool) where
       rw (yes, down) count
 
   no_name : (at : List (List ℕ)) (file : Option Content) (m : List ℕ) (ms : List (List ℕ)) (n : List ℕ) → m ≢ n → within_one at file (m ∷ ms) n ≡ 0
-  no_name at file m ms n ne = rw (other_name m n ne) refl
+  no_name at file m ms n ne = rw (bytes_eq-other m n ne) refl
 
   total_within : (at : List (List ℕ)) (file : Option Content) (entry names : List (List ℕ)) → IsStrictlySortedBy (slice_cmp nat_cmp) names → total (within_one at file entry) names ≤ cond (passes at file entry) 1 0
   unfolding IsStrictlySortedBy

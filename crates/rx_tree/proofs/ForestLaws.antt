@@ -8,10 +8,10 @@ use Rattle.std.proofs.lemmas.Cmp.{nat_list_cmp_total}
 use Rattle.std.proofs.lemmas.Slice.Eq.{bytes_eq-Decides}
 use Rattle.rx_base.proofs.Orders.{HasSameMembers-sorted_once}
 use Rattle.rx_messages.specs.declared.nodes.FileNode.{FileNode}
+use Rattle.rx_base.proofs.Members.{Contains-cons_cases, Contains-head, Contains-later, not_in_nothing}
 use Rattle.rx_tree.specs.Entries.{Content}
 use Rattle.rx_tree.specs.Listings.{dir_at}
 use Rattle.rx_tree.specs.Trees.{Tree, End, Rest, directory_nodes, file_here, file_node, file_nodes, forest, names_in, planted, tree_of, within}
-use Rattle.rx_tree.proofs.Members.{Contains-cons_cases, Contains-head, Contains-later, not_in_nothing}
 use Rattle.rx_tree.proofs.TreeLemmas.{tree_of-names}
 use Rattle.rx_tree.proofs.TreeMembers.{HasOneFile, file_alone, file_here-from, file_here-none, firsts-from, firsts-to, on_from, within-from, within-to}
 use Rattle.rx_tree.proofs.TreeRuns.{firsts}

@@ -4,26 +4,26 @@ use Rattle.std.specs.Ordering.{is_eq, is_lt}
 use Rattle.std.specs.List.{AllByRecursion, Contains}
 use Rattle.std.proofs.lemmas.Cmp.{nat_list_cmp_total, tied_itself}
 use Rattle.std.proofs.lemmas.List.Elements.{Contains-append_left, Contains-append_right}
-use Rattle.rx_base.specs.Digests.{digest_of}
+use Rattle.rx_base.specs.Digests.{digest_of, by_digest, by_digest_total}
 use Rattle.rx_base.specs.Paths.{IsName, IsPath, joined, longest, parts}
 use Rattle.rx_base.specs.SortedPaths.{HasSameMembers}
 use Rattle.rx_base.proofs.PathAgain.{parts-joined}
+use Rattle.rx_base.proofs.DigestOrder.{by_digest-same}
+use Rattle.rx_base.proofs.Members.{All-members, Contains-head, Contains-later, Contains-from_map, Contains-map}
+use Rattle.rx_base.proofs.Orderings.{Equal-from_is_eq}
 use Rattle.rx_tree.specs.declared.blobs.Blob.{Blob}
-use Rattle.rx_tree.specs.Blobs.{blob_at, blob_of, by_digest, by_digest_total}
+use Rattle.rx_tree.specs.Blobs.{blob_at, blob_of}
 use Rattle.rx_tree.specs.Entries.{Content, names_of}
 use Rattle.rx_tree.specs.Listings.{HasOwnDigests}
 use Rattle.rx_tree.specs.Planting.{ReadsAgain, ReadsAgainBelow, directory_of}
 use Rattle.rx_tree.specs.Refusals.{by_bytes}
 use Rattle.rx_tree.specs.Trees.{Tree, End, File, Dir, Rest, all_bytes, bytes_below, file_here, forest, names_in, planted, tree_at, tree_bytes, within}
 use Rattle.rx_tree.specs.Walks.{read_directory}
-use Rattle.rx_tree.proofs.BlobLemmas.{digest_is, equal_from}
 use Rattle.rx_tree.proofs.CanonicalLaws.{IsInNameOrder, IsSmall, readable}
 use Rattle.rx_tree.proofs.ForestLaws.{names_in-from}
 use Rattle.rx_tree.proofs.LeastLemmas.{not_below_itself}
-use Rattle.rx_tree.proofs.Members.{All-members, Contains-head, Contains-later}
 use Rattle.rx_tree.proofs.NamesLemmas.{joined-append}
-use Rattle.rx_tree.proofs.ShelfLemmas.{least_first, map-to, named-from, named-to}
-use Rattle.rx_tree.proofs.StartLemmas.{map-from}
+use Rattle.rx_tree.proofs.ShelfLemmas.{least_first, named-from, named-to}
 use Rattle.rx_tree.proofs.TreeHolds.{HoldsEach}
 use Rattle.rx_tree.proofs.TreeMembers.{on_from, within-from}
 use Rattle.rx_tree.proofs.TreeWalks.{FindsBelow, HasPaths, IsFound}
@@ -34,15 +34,15 @@ module _ (t : Tree) (blobs : List Blob) (own : HasOwnDigests t) (same : HasSameM
   -- what has the digest of some bytes is these bytes
   one_has : (bytes y : List ℕ) → Contains (all_bytes t) bytes → (b : Blob) → Contains blobs b → is_eq (by_digest b.digest (digest_of bytes)) ≡ true → b.bytes ≡ y → y ≡ bytes
   one_has bytes y here b c tie is =
-      let from = map-from blob_of (all_bytes t) b ((same b).1 c) in
-      let digest : digest_of from.0 ≡ digest_of bytes = ap (λ (x : Blob). x.digest) from.2 ∙ digest_is b.digest (digest_of bytes) (equal_from (by_digest b.digest (digest_of bytes)) tie) in
+      let from = Contains-from_map blob_of (all_bytes t) b ((same b).1 c) in
+      let digest : digest_of from.0 ≡ digest_of bytes = ap (λ (x : Blob). x.digest) from.2 ∙ by_digest-same b.digest (digest_of bytes) (Equal-from_is_eq (by_digest b.digest (digest_of bytes)) tie) in
       sym is ∙ sym (ap (λ (x : Blob). x.bytes) from.2) ∙ own from.0 bytes from.1 here digest
 
   pub found_bytes : (bytes : List ℕ) → Contains (all_bytes t) bytes → blob_at (digest_of bytes) blobs ≡ Some bytes
   found_bytes bytes here =
       let digest = digest_of bytes in
       let tie : is_eq (by_digest digest digest) ≡ true = ap is_eq (tied_itself by_digest_total digest) in
-      least_first _ bytes (named-to digest blobs (blob_of bytes) ((same (blob_of bytes)).0 (map-to blob_of (all_bytes t) bytes here)) tie)
+      least_first _ bytes (named-to digest blobs (blob_of bytes) ((same (blob_of bytes)).0 (Contains-map blob_of (all_bytes t) bytes here)) tie)
       (λ y c.
       let b = named-from digest blobs y c in
       subst (λ (z : List ℕ). is_lt (by_bytes z bytes) ≡ false) (sym (one_has bytes y here b.0 b.1 b.2 b.3)) (not_below_itself nat_list_cmp_total bytes))

@@ -1,39 +1,24 @@
 -- A name on from a path.
 use Rattle.std.proofs.Common.{◌≡◌, ◌∙◌, ℕ, ◌≤◌, false, List, [], ◌∷◌, ◌++◌, length, nat_lt, Ok, append-nil, append_assoc, length-append, refl, ap, arith}
 use Rattle.std.specs.List.{AllByRecursion}
-use Rattle.std.proofs.lemmas.Bool.Decides.{nat_tests}
+use Rattle.std.proofs.lemmas.Bool.{le-ltb}
 use Rattle.rx_base.specs.Results.{◌>>=◌}
 use Rattle.rx_base.specs.Paths.{IsName, checked, join_of, joined, longest, path_of, read_of, with_part, with_parts, with_text}
 use Rattle.rx_base.specs.declared.digests.Digest.{Digest}
-use Rattle.rx_base.proofs.PathAgain.{parts-joined, read_of-path}
+use Rattle.rx_base.proofs.PathAgain.{parts-joined, read_of-path, with_parts-on, with_text-joined}
 use Rattle.rx_base.proofs.PathLemmas.{joined_push, with_part_name}
 use Rattle.rx_base.proofs.ResultLemmas.{bind_ok}
+use Rattle.rx_base.proofs.ByteLists.{some_bytes}
 use Rattle.rx_tree.specs.Walks.{child_of}
-use Rattle.rx_tree.proofs.NamesLemmas.{some_bytes}
-
-not_longer : (n : ℕ) → n ≤ longest → nat_lt longest n ≡ false
-not_longer n le = grind (arith, nat_tests)
 
 -- a name is refused by no test
 name_checked : (n : List ℕ) → IsName n → length n ≤ longest → checked n ≡ Ok tt
 unfolding read_of path_of
 name_checked n one le =
     let again = read_of-path n (record { names = n ∷ []; each = (one, tt); spelled = refl; short = le }) one.some in
-    let passed = rw (some_bytes n one.some, not_longer (length n) le) at again in
+    let passed = rw (some_bytes n one.some, le-ltb longest (length n) le) at again in
     let first = bind_ok (checked n) (λ _. with_text [] n >>= λ names. Ok (joined names)) n passed in
     first.1
-
-with_parts-on : (front names : List (List ℕ)) → AllByRecursion IsName names → with_parts front names ≡ Ok (front ++ names)
-unfolding with_parts
-with_parts-on front [] h = rw (append-nil front) refl
-with_parts-on front (x ∷ xs) h =
-    rw (with_part_name front x h.0.some h.0.not_here h.0.not_up) (with_parts-on (front ++ x ∷ []) xs h.1 ∙ rw (append_assoc front (x ∷ []) xs) refl)
-
--- the names of a path
-base_names : (names : List (List ℕ)) → AllByRecursion IsName names → with_text [] (joined names) ≡ Ok names
-unfolding with_text with_parts with_part
-base_names [] each = refl
-base_names (x ∷ xs) each = rw (parts-joined (x ∷ xs) (omega arith) each) (with_parts-on [] (x ∷ xs) each)
 
 -- and one more
 name_on : (names : List (List ℕ)) (n : List ℕ) → IsName n → with_text names n ≡ Ok (names ++ n ∷ [])
@@ -51,7 +36,7 @@ pub join_again : (names : List (List ℕ)) (n : List ℕ) → AllByRecursion IsN
 unfolding join_of
 join_again names n each one le =
     let last = length-last names n in
-    rw (some_bytes n one.some, name_checked n one (omega arith), base_names names each, name_on names n one, not_longer (length (joined (names ++ n ∷ []))) le) refl
+    rw (some_bytes n one.some, name_checked n one (omega arith), with_text-joined names each, name_on names n one, le-ltb longest (length (joined (names ++ n ∷ []))) le) refl
 
 pub child_again : (digest : Digest) (names : List (List ℕ)) (n : List ℕ) → AllByRecursion IsName names → IsName n → length (joined (names ++ n ∷ [])) ≤ longest → child_of digest (joined names) n ≡ Ok (joined (names ++ n ∷ []))
 unfolding child_of

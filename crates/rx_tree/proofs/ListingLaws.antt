@@ -8,6 +8,7 @@ use Rattle.rx_base.specs.Digests.{digest_of}
 use Rattle.rx_base.specs.Paths.{joined}
 use Rattle.rx_messages.specs.declared.nodes.FileNode.{FileNode}
 use Rattle.rx_messages.specs.declared.nodes.DirectoryNode.{DirectoryNode}
+use Rattle.rx_base.proofs.Members.{Contains-from_map, Contains-map}
 use Rattle.rx_tree.specs.Entries.{Content, Entry, names_of}
 use Rattle.rx_tree.specs.Listings.{HasNoRootFile, HasSameBytes, HasTree, IsDigest, IsEntry, IsToldByBytes, ListsDir, ListsFile, dir_at}
 use Rattle.rx_tree.specs.Refusals.{IsApart}
@@ -16,8 +17,7 @@ use Rattle.rx_tree.proofs.BytesLaws.{IsDirNode, IsFileNode, bytes_same, names_of
 use Rattle.rx_tree.proofs.ForestLaws.{HasNoneUnder, IsBare, bare-from, bare-to, dir-from, dir-to, file_node-from, file_node-to, none_under-within}
 use Rattle.rx_tree.proofs.NamesLemmas.{below-from_names, below-names, joined-names_of, names_of-same, some_part}
 use Rattle.rx_tree.proofs.Neighbours.{same_file-parts, same_or_under}
-use Rattle.rx_tree.proofs.ShelfLemmas.{map-to}
-use Rattle.rx_tree.proofs.StartLemmas.{map-from, one_file, rest_of}
+use Rattle.rx_tree.proofs.StartLemmas.{one_file, rest_of}
 use Rattle.rx_tree.proofs.TreeHolds.{HoldsEach, HoldsOf, dir_holds, tree_holds}
 use Rattle.rx_tree.proofs.TreeMembers.{HasOneFile, file_here-none, on_from, one_file-within, within-from, within-to}
 
@@ -62,8 +62,8 @@ good_entries (e ∷ es) g =
 
 pub under_all : (es : List Entry) → IsApart es → HasNoneUnder (rests 0 es)
 under_all es h a b c d some more e =
-    let x = map-from rest_of es a c in
-    let y = map-from rest_of es b d in
+    let x = Contains-from_map rest_of es a c in
+    let y = Contains-from_map rest_of es b d in
     let names : names_of y.0.path ≡ names_of x.0.path ++ more = ap (λ (r : Rest). r.names) y.2 ∙ e ∙ ap (λ (ns : List (List ℕ)). ns ++ more) (sym (ap (λ (r : Rest). r.names) x.2)) in
     let x_some : is_some x.0.file ≡ true = ap (λ (r : Rest). is_some r.file) x.2 ∙ some in
     elim (same_or_under x.0 y.0 x_some more names) [
@@ -197,13 +197,13 @@ dir_over (n ∷ ns) t u same g h f =
 -- an entry is its path and its file
 pub entry_at : (es : List Entry) (path : List ℕ) (file : Option Content) → Contains (rests 0 es) (record { names = names_of path; file = file }) → Contains es (record { path = path; file = file })
 entry_at es path file c =
-    let x = map-from rest_of es (record { names = names_of path; file = file }) c in
+    let x = Contains-from_map rest_of es (record { names = names_of path; file = file }) c in
     let same : x.0.path ≡ path = names_of-same x.0.path path (ap (λ (r : Rest). r.names) x.2) in
     let content : x.0.file ≡ file = ap (λ (r : Rest). r.file) x.2 in
     subst (λ (e : Entry). Contains es e) (ap (λ (p : List ℕ). let e : Entry = record { path = p; file = x.0.file } in e) same ∙ ap (λ (f : Option Content). let e : Entry = record { path = path; file = f } in e) content) x.1
 
 pub rest_at : (es : List Entry) (path : List ℕ) (file : Option Content) → Contains es (record { path = path; file = file }) → Contains (rests 0 es) (record { names = names_of path; file = file })
-rest_at es path file c = map-to rest_of es (record { path = path; file = file }) c
+rest_at es path file c = Contains-map rest_of es (record { path = path; file = file }) c
 
 module _ (es fs : List Entry) (e : HasTree es) (f : HasTree fs) (no_root : HasNoRootFile es) (same : HasSameBytes (tree es) (tree fs)) where
   good : IsGood (tree es)
@@ -226,7 +226,7 @@ module _ (es fs : List Entry) (e : HasTree es) (f : HasTree fs) (no_root : HasNo
       let part = some_part (b ∷ bs) in
       let here : Contains (rests 0 es) (record { names = part.0 ∷ part.1; file = None }) = subst (λ (ns : List (List ℕ)). Contains (rests 0 es) (record { names = ns; file = None })) part.2 (rest_at es (b ∷ bs) None h.listed) in
       let last : goes_on (rests 0 es) (part.0 ∷ part.1) = λ q c x xs is.
-      let y = map-from rest_of es q c in
+      let y = Contains-from_map rest_of es q c in
       h.bare y.0 y.1 (below-from_names y.0.path (b ∷ bs) x xs (ap (λ (r : Rest). r.names) y.2 ∙ is ∙ ap (λ (ns : List (List ℕ)). ns ++ x ∷ xs) (sym part.2))) in
       let there = dir_from part.0 part.1 (rests 0 fs) (dir_over (part.0 ∷ part.1) (tree es) (tree fs) same good fine (dir_to (part.0 ∷ part.1) (rests 0 es) (under_all es e.apart) here last)) in
       record {
@@ -234,7 +234,7 @@ module _ (es fs : List Entry) (e : HasTree es) (f : HasTree fs) (no_root : HasNo
         below_root = h.below_root;
         bare = λ x c below.
             let more = below-names x.path (b ∷ bs) below in
-            there.1 (rest_of x) (map-to rest_of fs x c) more.0 more.1 (more.2 ∙ ap (λ (ns : List (List ℕ)). ns ++ more.0 ∷ more.1) part.2);
+            there.1 (rest_of x) (Contains-map rest_of fs x c) more.0 more.1 (more.2 ∙ ap (λ (ns : List (List ℕ)). ns ++ more.0 ∷ more.1) part.2);
       }
 
   pub dirs_over : (path : List ℕ) → ListsDir es path → ListsDir fs path

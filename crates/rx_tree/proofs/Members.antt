@@ -10,49 +10,12 @@ use Rattle.std.specs.List.Sorted.{IsSorted, IsStrictlySortedBy}
 use Rattle.std.proofs.lemmas.List.Elements.{All-contains, All-from_recursion, Contains-append_cases, Contains-append_left, Contains-append_right, Contains-get_or, recursion_from_All}
 use Rattle.rx_base.specs.SortedPaths.{HasSameMembers, sorted_once}
 use Rattle.rx_base.proofs.Orders.{HasSameMembers-sorted_once, IsStrictlySortedBy-sorted_once, is_sorted_once}
-
-pub Contains-head : {A : Type 0} (x : A) (xs : List A) → Contains (x ∷ xs) x
-Contains-head x xs = (zero, omega arith, refl)
-
-pub Contains-later : {A : Type 0} (x : A) (xs : List A) (q : A) → Contains xs q → Contains (x ∷ xs) q
-Contains-later x xs q c = (suc c.0, omega (arith, c.1), c.2)
-
-from_cons : {A : Type 0} (x : A) (xs : List A) (q : A) (k : ℕ) → k < length (x ∷ xs) → get_or (x ∷ xs) k q ≡ q → (x ≡ q) ⊎ Contains xs q
-from_cons x xs q zero lt e = inl e
-from_cons x xs q (suc k) lt e = inr (k, omega arith, e)
-
-pub Contains-cons_cases : {A : Type 0} (x : A) (xs : List A) (q : A) → Contains (x ∷ xs) q → (x ≡ q) ⊎ Contains xs q
-Contains-cons_cases x xs q c = from_cons x xs q c.0 c.1 c.2
-
-pub not_in_nothing : {A : Type 0} (q : A) → Contains [] q → ⊥
-not_in_nothing q c = let lt = c.1 in omega arith
+use Rattle.rx_base.proofs.Members.{All-member, All-members, Contains-cons_cases, Contains-head, Contains-later}
 
 -- ---- facts of each member
 
-pub All-member : {A : Type 0} (P : A → Type 0) (xs : List A) (q : A) → AllByRecursion P xs → Contains xs q → P q
-All-member P xs q all c = All-contains P xs q (All-from_recursion P xs all) c
-
-pub All-members : {A : Type 0} (P : A → Type 0) (xs : List A) → ((q : A) → Contains xs q → P q) → AllByRecursion P xs
-All-members P xs h = recursion_from_All P xs (λ k d lt. h (get_or xs k d) (Contains-get_or xs k d lt))
-
 pub All-both_members : {A : Type 0} (P Q : A → Type 0) (xs ys : List A) → HasSameMembers xs ys → ((q : A) → P q → Q q) → AllByRecursion P xs → AllByRecursion Q ys
 All-both_members P Q xs ys same h all = All-members Q ys (λ q c. h q (All-member P xs q all ((same q).1 c)))
-
-pub All-on : {A : Type 0} (P : A → Type 0) (xs ys : List A) → AllByRecursion P xs → AllByRecursion P ys → AllByRecursion P (xs ++ ys)
-All-on P [] ys h k = k
-All-on P (x ∷ xs) ys h k = (h.0, All-on P xs ys h.1 k)
-
-pub All-front : {A : Type 0} (P : A → Type 0) (xs ys : List A) → AllByRecursion P (xs ++ ys) → AllByRecursion P xs
-All-front P [] ys h = tt
-All-front P (x ∷ xs) ys h = (h.0, All-front P xs ys h.1)
-
-pub All-back : {A : Type 0} (P : A → Type 0) (xs ys : List A) → AllByRecursion P (xs ++ ys) → AllByRecursion P ys
-All-back P [] ys h = h
-All-back P (x ∷ xs) ys h = All-back P xs ys h.1
-
-pub All-weaken : {A : Type 0} (P Q : A → Type 0) (xs : List A) → ((x : A) → P x → Q x) → AllByRecursion P xs → AllByRecursion Q xs
-All-weaken P Q [] f h = tt
-All-weaken P Q (x ∷ xs) f h = (f x h.0, All-weaken P Q xs f h.1)
 
 -- ---- sorted lists
 

@@ -10,6 +10,7 @@ use Rattle.std.specs.Cmp.Lexicographic.{slice_cmp}
 use Rattle.std.specs.FinMap.{nat_cmp-IsAntisymmetric, slice_cmp-IsAntisymmetric}
 use Rattle.rx_base.specs.Texts.{texts}
 use Rattle.rx_world.specs.declared.input_files.InputFile.{InputFile}
+use Rattle.rx_base.proofs.Orderings.{Equal-from_neither, then-Equal}
 use Rattle.rx_tree.specs.Entries.{Entry, content_of, names_of}
 use Rattle.rx_tree.specs.Places.{by_names, by_place, by_place_total}
 
@@ -59,21 +60,6 @@ names_equal = tied_itself (lists_total nat_list_cmp_total)
 
 -- ---- entries
 
-pub not_less_then : (o p : Ordering) → is_lt (ordering_then o p) ≡ false → is_lt o ≡ false
-not_less_then Less p e = e
-not_less_then Equal p e = refl
-not_less_then Greater p e = refl
-
-pub equal_then : (o p : Ordering) → ordering_then o p ≡ Equal → (o ≡ Equal) × (p ≡ Equal)
-equal_then Less p e = absurd (cc e)
-equal_then Equal p e = (refl, e)
-equal_then Greater p e = absurd (cc e)
-
-pub neither_less : (o : Ordering) → is_lt o ≡ false → is_lt (ordering_reverse o) ≡ false → o ≡ Equal
-neither_less Less e f = absurd (cc e)
-neither_less Equal e f = refl
-neither_less Greater e f = absurd (cc f)
-
 same_bool : (a b : Bool) → bool_cmp a b ≡ Equal → a ≡ b
 same_bool false false e = refl
 same_bool false true e = absurd (cc e)
@@ -83,6 +69,6 @@ same_bool true true e = refl
 -- entries of which neither comes first have one path, and are both files or none
 pub not_less_both : (x y : Entry) → is_lt (by_place y x) ≡ false → is_lt (by_place x y) ≡ false → (names_of x.path ≡ names_of y.path) × (is_none x.file ≡ is_none y.file)
 not_less_both x y low high =
-    let equal = neither_less (by_place x y) high (ap is_lt (sym (by_place_total.antisymm y x)) ∙ low) in
-    let parts = equal_then (by_names (names_of x.path) (names_of y.path)) (bool_cmp (is_none x.file) (is_none y.file)) equal in
+    let equal = Equal-from_neither (by_place x y) high (ap is_lt (sym (by_place_total.antisymm y x)) ∙ low) in
+    let parts = then-Equal (by_names (names_of x.path) (names_of y.path)) (bool_cmp (is_none x.file) (is_none y.file)) equal in
     (slice_cmp-IsAntisymmetric is_equal (names_of x.path) (names_of y.path) parts.0, same_bool (is_none x.file) (is_none y.file) parts.1)

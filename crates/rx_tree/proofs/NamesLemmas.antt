@@ -7,11 +7,6 @@ use Rattle.std.proofs.lemmas.List.Splits.{join_with_byte-slice_split}
 use Rattle.rx_base.specs.Paths.{is_below, joined, parts}
 use Rattle.rx_tree.specs.Entries.{names_of}
 
--- a text that isn't empty has a byte
-pub some_bytes : (text : List ℕ) → text ≢ [] → (length text == 0) ≡ false
-some_bytes [] ne = absurd (ne refl)
-some_bytes (b ∷ bs) ne = grind (arith, nat_tests)
-
 -- ---- a path is its names
 
 pub joined_parts : (text : List ℕ) → joined (parts text) ≡ text

@@ -6,17 +6,18 @@ use Rattle.std.specs.Ordering.{bool_cmp, is_lt}
 use Rattle.std.specs.List.{count_by}
 use Rattle.std.specs.List.Sorted.{IsSorted}
 use Rattle.std.specs.Str.{bytes_eq}
-use Rattle.std.proofs.lemmas.Bool.{and_parts, cases_lt, false≢true}
+use Rattle.std.proofs.lemmas.Bool.{and_parts, cases_lt, false≢true, or_right}
 use Rattle.std.proofs.lemmas.List.{get_or_default}
 use Rattle.std.proofs.lemmas.List.Sums.{sum_by-cons}
 use Rattle.std.proofs.lemmas.List.Sorted.{ranks_by, sorted_far}
 use Rattle.std.proofs.lemmas.Slice.Eq.{bytes_eq-Decides}
 use Rattle.rx_base.specs.Paths.{is_below}
+use Rattle.rx_base.proofs.Orderings.{then-not_less}
 use Rattle.rx_tree.specs.Entries.{Entry, names_of}
 use Rattle.rx_tree.specs.Places.{by_names, by_place, by_place_total}
 use Rattle.rx_tree.specs.Refusals.{IsTwice, IsClash, is_file_at, is_same_file, is_under, stands_under}
 use Rattle.rx_tree.specs.Search.{HasNeighbours, HasBelow}
-use Rattle.rx_tree.proofs.NameOrder.{between, by_names-on, names_equal, not_less_then, not_less_both}
+use Rattle.rx_tree.proofs.NameOrder.{between, by_names-on, names_equal, not_less_both}
 use Rattle.rx_tree.proofs.NamesLemmas.{below-names, below-from_names, names_of-same}
 
 -- ---- tests
@@ -36,10 +37,6 @@ either false b e = inr e
 
 left_or : (a b : Bool) → a ≡ true → (a || b) ≡ true
 left_or a b e = rw e refl
-
-right_or : (a b : Bool) → b ≡ true → (a || b) ≡ true
-right_or true b e = refl
-right_or false b e = e
 
 some_or_none : {A : Type 0} (o : Option A) → (is_some o ≡ true) ⊎ (is_none o ≡ true)
 some_or_none None = inr refl
@@ -69,7 +66,7 @@ same_or_under x w file [] e =
     let path : w.path ≡ x.path = names_of-same w.path x.path (e ∙ append-nil (names_of x.path)) in
     elim (some_or_none w.file) [
       | inl some ↦ inl (same_file-from x w file some (sym path))
-      | inr none ↦ inr (both _ _ file (right_or (is_below w.path x.path) (is_none w.file && bytes_eq w.path x.path) (both _ _ none (is_path w.path x.path path))))
+      | inr none ↦ inr (both _ _ file (or_right (is_below w.path x.path) (is_none w.file && bytes_eq w.path x.path) (both _ _ none (is_path w.path x.path path))))
     ]
 same_or_under x w file (n ∷ ns) e =
     inr (both _ _ file (left_or (is_below w.path x.path) (is_none w.file && bytes_eq w.path x.path) (below-from_names w.path x.path n ns e)))
@@ -185,8 +182,8 @@ module _ (xs : List Entry) (up : IsSorted by_place xs) where
   next_under : (x w y : Entry) → is_under x y ≡ true → is_lt (by_place w x) ≡ false → is_lt (by_place y w) ≡ false → (is_same_file x w ≡ true) ⊎ (is_under x w ≡ true)
   next_under x w y under low high =
       let names = under-names x y under in
-      let low_names : is_lt (by_names (names_of w.path) (names_of x.path)) ≡ false = not_less_then (by_names (names_of w.path) (names_of x.path)) (bool_cmp (is_none w.file) (is_none x.file)) low in
-      let high_names : is_lt (by_names (names_of y.path) (names_of w.path)) ≡ false = not_less_then (by_names (names_of y.path) (names_of w.path)) (bool_cmp (is_none y.file) (is_none w.file)) high in
+      let low_names : is_lt (by_names (names_of w.path) (names_of x.path)) ≡ false = then-not_less (by_names (names_of w.path) (names_of x.path)) (bool_cmp (is_none w.file) (is_none x.file)) low in
+      let high_names : is_lt (by_names (names_of y.path) (names_of w.path)) ≡ false = then-not_less (by_names (names_of y.path) (names_of w.path)) (bool_cmp (is_none y.file) (is_none w.file)) high in
       let on = between (names_of x.path) (names_of w.path) names.1 low_names (subst (λ (ns : List (List ℕ)). is_lt (by_names ns (names_of w.path)) ≡ false) names.2 high_names) in
       same_or_under x w names.0 on.0 on.1
 

@@ -18,6 +18,8 @@ use Rattle.std.proofs.lemmas.Slice.Eq.{bytes_eq-Decides}
 use Rattle.rx_base.specs.Paths.{IsName, joined, parts}
 use Rattle.rx_base.proofs.Orders.{IsStrictlySortedBy-sorted_once}
 use Rattle.rx_base.proofs.PathAgain.{parts-joined}
+use Rattle.rx_base.proofs.Lists.{All-append}
+use Rattle.rx_base.proofs.Members.{All-member, All-members, Contains-head, Contains-later}
 use Rattle.rx_tree.specs.Entries.{Content}
 use Rattle.rx_tree.specs.Planting.{directory_of}
 use Rattle.rx_tree.specs.Refusals.{by_bytes}
@@ -26,7 +28,7 @@ use Rattle.rx_tree.specs.Walks.{is_bare}
 use Rattle.rx_tree.proofs.CanonicalLaws.{IsLower}
 use Rattle.rx_tree.proofs.CountLaws.{tally, tally-append, tally-some}
 use Rattle.rx_tree.proofs.ForestLaws.{IsBare, file_of, names_in-from, sub_of}
-use Rattle.rx_tree.proofs.Members.{All-member, All-members, All-on, Contains-head, Contains-later, sorted_tail}
+use Rattle.rx_tree.proofs.Members.{sorted_tail}
 use Rattle.rx_tree.proofs.NameOrder.{is_equal}
 use Rattle.rx_tree.proofs.SeenLaws.{bare_path-from, dirs-from, forest_told-from, is_bare-from, path_on}
 use Rattle.rx_tree.proofs.TreeLemmas.{levels-within, tree_of-at, tree_of-names}
@@ -106,8 +108,8 @@ on_not_empty (x ∷ xs) n ns = omega arith
 -- a path has one first name on from a directory's
 one_first : (at : List (List ℕ)) (n m : List ℕ) (ns ms : List (List ℕ)) → AllByRecursion IsName at → AllByRecursion IsName (n ∷ ns) → AllByRecursion IsName (m ∷ ms) → joined (at ++ n ∷ ns) ≡ joined (at ++ m ∷ ms) → n ≡ m
 one_first at n m ns ms each g h e =
-    let first = parts-joined (at ++ n ∷ ns) (on_not_empty at n ns) (All-on IsName at (n ∷ ns) each g) in
-    let second = parts-joined (at ++ m ∷ ms) (on_not_empty at m ms) (All-on IsName at (m ∷ ms) each h) in
+    let first = parts-joined (at ++ n ∷ ns) (on_not_empty at n ns) (All-append IsName at (n ∷ ns) each g) in
+    let second = parts-joined (at ++ m ∷ ms) (on_not_empty at m ms) (All-append IsName at (m ∷ ms) each h) in
     let rest : n ∷ ns ≡ m ∷ ms = append_cancel_left at (n ∷ ns) (m ∷ ms) (sym first ∙ ap parts e ∙ second) in
     cc rest
 
@@ -191,7 +193,7 @@ module _ (path : List ℕ) where
       let few = levels-within n rs in
       let down : (r : Rest) → Contains (within n rs) r → AllByRecursion IsName r.names = λ r d. (names (on_from n r) (within-from n rs r d)).1 in
       record {
-        once = bare_once on s (dirs_once most (within n rs) on (omega arith) (All-on IsName at (n ∷ []) each (one, tt)) down);
+        once = bare_once on s (dirs_once most (within n rs) on (omega arith) (All-append IsName at (n ∷ []) each (one, tt)) down);
         leads = λ t. elim (Contains-append_cases (bare_in on s) (below bare_in on s) path t) [
           | inl bare ↦ record { others = []; each = (one, tt); is = sym (bare_path-from (joined on) s path bare).1 }
           | inr under ↦

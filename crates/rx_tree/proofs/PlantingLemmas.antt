@@ -7,6 +7,7 @@ use Rattle.rx_messages.specs.Directories.{directory_is_readable}
 use Rattle.rx_messages.specs.declared.directories.Directory.{Directory}
 use Rattle.rx_messages.specs.declared.nodes.FileNode.{FileNode}
 use Rattle.rx_messages.specs.declared.nodes.DirectoryNode.{DirectoryNode}
+use Rattle.rx_base.proofs.ByteLists.{bytes_eq-itself}
 use Rattle.rx_tree.specs.declared.blobs.Blob.{Blob}
 use Rattle.rx_tree.specs.Blobs.{blob_of}
 use Rattle.rx_tree.specs.Entries.{Content, Entry, names_of}
@@ -15,7 +16,7 @@ use Rattle.rx_tree.specs.Trees.{Tree, End, File, Dir, Rest, all_bytes, bytes_bel
 use Rattle.rx_tree.specs.Walks.{read_directory}
 use Rattle.rx_tree.proofs.ReadyLemmas.{dir_run, file_run, others_begin, ready-back, ready-front, ready-within, run_begins, some_names}
 use Rattle.rx_tree.proofs.TreeLemmas.{levels-append, levels-within, tree_of-at}
-use Rattle.rx_tree.proofs.TreeRuns.{BeginsWith, same_name, tree_of-here, tree_of-run}
+use Rattle.rx_tree.proofs.TreeRuns.{BeginsWith, tree_of-here, tree_of-run}
 
 -- what of all entries is done, and what is left
 pub record IsPlanted (all left : List Rest) (files : List FileNode) (directories : List DirectoryNode) (start blobs : List Blob) : Type 0 where
@@ -36,7 +37,7 @@ alike depth x y = goes_alike (drop depth (names_of x.path)) (drop depth (names_o
 
 goes_alike-itself : (names : List (List ℕ)) → goes_alike names names ≡ true
 goes_alike-itself [] = refl
-goes_alike-itself (n ∷ ns) = same_name n
+goes_alike-itself (n ∷ ns) = bytes_eq-itself n
 
 front_passes : (test : Entry → Bool) (xs : List Entry) → AllByRecursion (λ x. test x ≡ true) (take (prefix_len test xs) xs)
 front_passes test [] = tt
@@ -152,7 +153,7 @@ rests_down depth name [] h = refl
 rests_down depth name (e ∷ es) h =
     let names = some_names (drop depth (names_of e.path)) name h.0 in
     let down : drop (depth + 1) (names_of e.path) ≡ names.0 = sym (drop-drop 1 depth (names_of e.path)) ∙ ap (λ (ns : List (List ℕ)). drop 1 ns) names.1 in
-    rw (names.1, same_name name, down, rests_down depth name es h.1) refl
+    rw (names.1, bytes_eq-itself name, down, rests_down depth name es h.1) refl
 
 pub run_within : (depth : ℕ) (x : Entry) (rest : List Entry) → run_length depth x rest ≤ length rest
 run_within depth x rest = prefix-within (alike depth x) rest

@@ -9,14 +9,16 @@ use Rattle.std.specs.Str.{bytes_eq}
 use Rattle.std.proofs.lemmas.Bool.{false≢true}
 use Rattle.std.proofs.lemmas.Cmp.{nat_list_cmp_total, tied_itself}
 use Rattle.std.proofs.lemmas.Slice.Eq.{bytes_eq-Decides}
+use Rattle.rx_base.proofs.ByteLists.{bytes_eq-itself}
+use Rattle.rx_base.proofs.Lists.{All-back, All-front, All-weaken}
+use Rattle.rx_base.proofs.Members.{All-member, All-members, Contains-cons_cases}
 use Rattle.rx_tree.specs.Entries.{Content}
 use Rattle.rx_tree.specs.Places.{by_names}
 use Rattle.rx_tree.specs.Planting.{Follows, IsReady, goes_alike}
 use Rattle.rx_tree.specs.Trees.{Rest, after, file_at_end, file_here, first_name, within}
-use Rattle.rx_tree.proofs.Members.{All-back, All-front, All-members, All-weaken, All-member, Contains-cons_cases}
 use Rattle.rx_tree.proofs.NameOrder.{by_names-on, is_equal}
 use Rattle.rx_tree.proofs.TreeMembers.{file_alone, file_here-from, on_from, within-from}
-use Rattle.rx_tree.proofs.TreeRuns.{BeginsLater, BeginsWith, same_name}
+use Rattle.rx_tree.proofs.TreeRuns.{BeginsLater, BeginsWith}
 
 -- ---- parts of a list that is ready
 
@@ -143,7 +145,7 @@ not_behind name (n ∷ ns) r x e f some follows =
 
 -- a run whose head is a file at the name has that file
 pub file_run : (name : List ℕ) (ns : List (List ℕ)) (content : Content) (r : Rest) (run : List Rest) → r.names ≡ name ∷ ns → file_at_end ns r.file ≡ Some content → file_here (within name (r ∷ run)) ≡ Some content
-file_run name ns content r run e f = rw (e, same_name name, f) refl
+file_run name ns content r run e f = rw (e, bytes_eq-itself name, f) refl
 
 -- a run with another head has none
 pub dir_run : (name : List ℕ) (ns : List (List ℕ)) (r : Rest) (run : List Rest) → r.names ≡ name ∷ ns → file_at_end ns r.file ≡ None → AllByRecursion (Follows r) run → file_here (within name (r ∷ run)) ≡ None

@@ -4,6 +4,8 @@ use Rattle.std.specs.List.{Contains}
 use Rattle.std.proofs.lemmas.Bool.{and_parts, eqb-true}
 use Rattle.std.proofs.lemmas.List.Elements.{Contains-append_cases, Contains-append_left, Contains-append_right}
 use Rattle.rx_base.specs.Paths.{joined}
+use Rattle.rx_base.proofs.ByteLists.{some_bytes}
+use Rattle.rx_base.proofs.Members.{Contains-cons_cases, Contains-head, Contains-later, not_in_nothing}
 use Rattle.rx_tree.specs.declared.listings.TreeFile.{TreeFile}
 use Rattle.rx_tree.specs.Entries.{Content}
 use Rattle.rx_tree.specs.Planting.{directory_of}
@@ -11,8 +13,6 @@ use Rattle.rx_tree.specs.Trees.{Tree, Rest, directory_nodes, file_nodes, forest,
 use Rattle.rx_tree.specs.Walks.{is_bare, with_bare}
 use Rattle.rx_tree.proofs.ForestLaws.{HasNoneUnder, IsBare, bare-from, bare-to, file_here_is, file_of, names_in-from, names_in-to, no_file_here, none_under-within, sub_of}
 use Rattle.rx_tree.proofs.ListingLaws.{bare_entry, goes_on, no_names_of, within_more}
-use Rattle.rx_tree.proofs.Members.{Contains-cons_cases, Contains-head, Contains-later, not_in_nothing}
-use Rattle.rx_tree.proofs.NamesLemmas.{some_bytes}
 use Rattle.rx_tree.proofs.TreeLemmas.{levels-within, tree_of-at, tree_of-names}
 use Rattle.rx_tree.proofs.TreeMembers.{HasOneFile, file_alone, file_here-from, on_from, one_file-within, within-from, within-to}
 use Rattle.rx_tree.proofs.TreeWalks.{bare_in, below, file_in, files_in}

@@ -17,21 +17,16 @@ use Rattle.std.proofs.lemmas.List.Sorted.{Contains-permutation, IsPermutation-sy
 use Rattle.rx_base.specs.SortedPaths.{sorted_paths}
 use Rattle.rx_base.specs.declared.digests.Digest.{Digest}
 use Rattle.rx_base.proofs.Orders.{HasSameMembers-sorted_once, IsStrictlySortedBy-sorted_once}
+use Rattle.rx_base.proofs.DigestOrder.{by_digest-same}
+use Rattle.rx_base.proofs.Members.{All-member, Contains-cons_cases, Contains-head, Contains-later, not_in_nothing, Contains-filter, Contains-from_filter, Contains-from_map, Contains-map}
+use Rattle.rx_base.proofs.Orderings.{Equal-from_is_eq, Equal-from_neither, Less-from_is_lt, then-not_less}
+use Rattle.rx_base.specs.Digests.{by_digest, by_digest_total}
 use Rattle.rx_tree.specs.declared.blobs.Blob.{Blob}
-use Rattle.rx_tree.specs.Blobs.{blob_at, by_blob, by_blob_total, by_digest, by_digest_total}
+use Rattle.rx_tree.specs.Blobs.{blob_at, by_blob, by_blob_total}
 use Rattle.rx_tree.specs.Refusals.{by_bytes}
 use Rattle.rx_tree.specs.Shelves.{IsOrdered, IsShelf, blobs_of}
-use Rattle.rx_tree.proofs.BlobLemmas.{digest_is, equal_from}
-use Rattle.rx_tree.proofs.Members.{All-member, Contains-cons_cases, Contains-head, Contains-later, not_in_nothing}
-use Rattle.rx_tree.proofs.NameOrder.{neither_less, not_less_then}
-use Rattle.rx_tree.proofs.StartLemmas.{map-from}
 
 -- ---- orders
-
-less_is : (o : Ordering) → is_lt o ≡ true → o ≡ Less
-less_is Less e = refl
-less_is Equal e = absurd (cc e)
-less_is Greater e = absurd (cc e)
 
 less_not_equal : (o : Ordering) → is_lt o ≡ true → is_eq o ≡ true → ⊥
 less_not_equal Less e f = cc f
@@ -41,7 +36,7 @@ less_not_equal Greater e f = cc e
 below_too : {K : Type 0} {R : K → K → Ordering} (o : IsTotalOrder R) (x y z : K) → is_lt (R y x) ≡ false → is_lt (R y z) ≡ true → is_lt (R x z) ≡ true
 below_too {K} {R} o x y z low less =
     elim (R x y) as (λ r. R x y ≡ r → is_lt (R x z) ≡ true) [
-      | Less ↦ λ e. ap is_lt (o.trans x y z e (less_is (R y z) less))
+      | Less ↦ λ e. ap is_lt (o.trans x y z e (Less-from_is_lt (R y z) less))
       | Equal ↦ λ e. ap is_lt (o.congr x y z e) ∙ less
       | Greater ↦ λ e. absurd (false≢true (sym low ∙ ap is_lt (o.antisymm y x ∙ ap ordering_reverse e)))
     ] refl
@@ -53,7 +48,7 @@ partitioned refs digest up = λ i j d le lt less.
     let far = sorted_far (λ (x y : Bor Blob). is_lt (by_blob x.now y.now)) (ranks_by by_blob_total (λ (x : Bor Blob). x.now)) refs up i j d le lt in
     let x = (get_or refs i d).now in
     let y = (get_or refs j d).now in
-    below_too by_digest_total x.digest y.digest digest (not_less_then (by_digest y.digest x.digest) (slice_cmp nat_cmp y.bytes x.bytes) far) less
+    below_too by_digest_total x.digest y.digest digest (then-not_less (by_digest y.digest x.digest) (slice_cmp nat_cmp y.bytes x.bytes) far) less
 
 at_mapped : (P : Blob → Type 0) (refs : List (Bor Blob)) (k : ℕ) (d : Blob) → k < length (blobs_of refs) → ((e : Bor Blob) → P (get_or refs k e).now) → P (get_or (blobs_of refs) k d)
 at_mapped P [] k d lt h = absurd (omega arith)
@@ -90,54 +85,18 @@ least_none xs h =
 
 -- ---- the blobs with a digest
 
-pub filter-from : {A : Type 0} (test : A → Bool) (xs : List A) (q : A) → Contains (filter test xs) q → Contains xs q × (test q ≡ true)
-filter-from test [] q c = absurd (not_in_nothing q c)
-filter-from test (x ∷ xs) q c =
-    elim (test x) as (λ b. test x ≡ b → Contains (cond b (x ∷ filter test xs) (filter test xs)) q → Contains (x ∷ xs) q × (test q ≡ true)) [
-      | true ↦ λ e c.
-          elim (Contains-cons_cases x (filter test xs) q c) [
-            | inl is ↦ (subst (λ y. Contains (x ∷ xs) y) is (Contains-head x xs), ap test (sym is) ∙ e)
-            | inr later ↦ let rest = filter-from test xs q later in (Contains-later x xs q rest.0, rest.1)
-          ]
-      | false ↦ λ e c. let rest = filter-from test xs q c in (Contains-later x xs q rest.0, rest.1)
-    ] refl c
-
-pub filter-to : {A : Type 0} (test : A → Bool) (xs : List A) (q : A) → Contains xs q → test q ≡ true → Contains (filter test xs) q
-filter-to test [] q c e = absurd (not_in_nothing q c)
-filter-to test (x ∷ xs) q c e =
-    elim (test x) as (λ b. test x ≡ b → Contains (cond b (x ∷ filter test xs) (filter test xs)) q) [
-      | true ↦ λ f.
-          elim (Contains-cons_cases x xs q c) [
-            | inl is ↦ subst (λ y. Contains (x ∷ filter test xs) y) is (Contains-head x (filter test xs))
-            | inr later ↦ Contains-later x (filter test xs) q (filter-to test xs q later e)
-          ]
-      | false ↦ λ f.
-          elim (Contains-cons_cases x xs q c) [
-            | inl is ↦ absurd (false≢true (sym f ∙ ap test is ∙ e))
-            | inr later ↦ filter-to test xs q later e
-          ]
-    ] refl
-
-pub map-to : {A B : Type 0} (f : A → B) (xs : List A) (x : A) → Contains xs x → Contains (map f xs) (f x)
-map-to f [] x c = absurd (not_in_nothing x c)
-map-to f (y ∷ ys) x c =
-    elim (Contains-cons_cases y ys x c) [
-      | inl is ↦ subst (λ z. Contains (f y ∷ map f ys) (f z)) is (Contains-head (f y) (map f ys))
-      | inr later ↦ Contains-later (f y) (map f ys) (f x) (map-to f ys x later)
-    ]
-
 abbrev has_digest : Digest → Blob → Bool
 has_digest digest b = is_eq (by_digest b.digest digest)
 
 pub named-from : (digest : Digest) (blobs : List Blob) (bytes : List ℕ) → Contains (map (λ (b : Blob). b.bytes) (filter (has_digest digest) blobs)) bytes
     → (b : Blob) × Contains blobs b × (is_eq (by_digest b.digest digest) ≡ true) × (b.bytes ≡ bytes)
 named-from digest blobs bytes c =
-    let m = map-from (λ (b : Blob). b.bytes) (filter (has_digest digest) blobs) bytes c in
-    let f = filter-from (has_digest digest) blobs m.0 m.1 in
+    let m = Contains-from_map (λ (b : Blob). b.bytes) (filter (has_digest digest) blobs) bytes c in
+    let f = Contains-from_filter (has_digest digest) blobs m.0 m.1 in
     (m.0, f.0, f.1, m.2)
 
 pub named-to : (digest : Digest) (blobs : List Blob) (b : Blob) → Contains blobs b → is_eq (by_digest b.digest digest) ≡ true → Contains (map (λ (b : Blob). b.bytes) (filter (has_digest digest) blobs)) b.bytes
-named-to digest blobs b c e = map-to (λ (b : Blob). b.bytes) (filter (has_digest digest) blobs) b (filter-to (has_digest digest) blobs b c e)
+named-to digest blobs b c e = Contains-map (λ (b : Blob). b.bytes) (filter (has_digest digest) blobs) b (Contains-filter (has_digest digest) blobs b c e)
 
 -- ---- at the place where a search ends
 
@@ -190,22 +149,22 @@ module _ (blobs : List Blob) (refs : List (Bor Blob)) (shelf : IsShelf blobs ref
     at_other differs =
         sym (least_none _ (λ y c.
         let b = named-from digest blobs y c in
-        let low : is_lt (by_digest b.0.digest x.now.digest) ≡ false = not_less_then (by_digest b.0.digest x.now.digest) (slice_cmp nat_cmp b.0.bytes x.now.bytes) (behind b.0 b.1 b.2) in
-        let is : b.0.digest ≡ digest = digest_is b.0.digest digest (equal_from (by_digest b.0.digest digest) b.2) in
+        let low : is_lt (by_digest b.0.digest x.now.digest) ≡ false = then-not_less (by_digest b.0.digest x.now.digest) (slice_cmp nat_cmp b.0.bytes x.now.bytes) (behind b.0 b.1 b.2) in
+        let is : b.0.digest ≡ digest = by_digest-same b.0.digest digest (Equal-from_is_eq (by_digest b.0.digest digest) b.2) in
         let back : is_lt (by_digest digest x.now.digest) ≡ false = subst (λ (d : Digest). is_lt (by_digest d x.now.digest) ≡ false) is low in
         let here : is_lt (by_digest x.now.digest digest) ≡ false = subst (λ (b : Blob). is_lt (by_digest b.digest digest) ≡ false) (x_at x) (point.1 at x (omega arith) within) in
-        false≢true (sym differs ∙ ap is_eq (neither_less (by_digest x.now.digest digest) here (ap is_lt (sym (by_digest_total.antisymm digest x.now.digest)) ∙ back)))))
+        false≢true (sym differs ∙ ap is_eq (Equal-from_neither (by_digest x.now.digest digest) here (ap is_lt (sym (by_digest_total.antisymm digest x.now.digest)) ∙ back)))))
 
     pub at_found : is_eq (by_digest x.now.digest digest) ≡ true → Some x.now.bytes ≡ blob_at digest blobs
     at_found tie =
-        let is : x.now.digest ≡ digest = digest_is x.now.digest digest (equal_from (by_digest x.now.digest digest) tie) in
+        let is : x.now.digest ≡ digest = by_digest-same x.now.digest digest (Equal-from_is_eq (by_digest x.now.digest digest) tie) in
         let size = size_is in
         let lt : at < length (blobs_of refs) = omega arith in
         let here : Contains (blobs_of refs) x.now = (at, lt, at_mapped (λ b. b ≡ x.now) refs at x.now lt x_at) in
         let in_blobs = Contains-permutation (blobs_of refs) blobs x.now (IsPermutation-sym blobs (blobs_of refs) shelf.all) here in
         sym (least_first _ x.now.bytes (named-to digest blobs x.now in_blobs tie) (λ y c.
         let b = named-from digest blobs y c in
-        let b_is : b.0.digest ≡ digest = digest_is b.0.digest digest (equal_from (by_digest b.0.digest digest) b.2) in
+        let b_is : b.0.digest ≡ digest = by_digest-same b.0.digest digest (Equal-from_is_eq (by_digest b.0.digest digest) b.2) in
         let same : by_digest b.0.digest x.now.digest ≡ Equal = rw (b_is, is) (tied_itself by_digest_total digest) in
         let low : is_lt (by_bytes b.0.bytes x.now.bytes) ≡ false = rw same at (behind b.0 b.1 b.2) in
         subst (λ (z : List ℕ). is_lt (by_bytes z x.now.bytes) ≡ false) b.3 low))

@@ -8,13 +8,14 @@ use Rattle.std.specs.Str.{bytes_eq}
 use Rattle.std.proofs.lemmas.Bool.{cases_lt}
 use Rattle.std.proofs.lemmas.List.{get_or_default}
 use Rattle.std.proofs.lemmas.List.Sorted.{Contains-permutation, IsPermutation-map, IsPermutation-sym, ranks_by, sorted_far}
+use Rattle.rx_base.proofs.Members.{All-members, Contains-cons_cases, Contains-head, Contains-later, not_in_nothing, Contains-from_map}
+use Rattle.rx_base.proofs.Orderings.{then-not_less}
 use Rattle.rx_tree.specs.Entries.{Entry, names_of}
 use Rattle.rx_tree.specs.Places.{by_names, by_place, by_place_total}
 use Rattle.rx_tree.specs.Planting.{Follows, IsReady}
 use Rattle.rx_tree.specs.Refusals.{IsApart, IsTwice, is_file_at, is_same_file}
 use Rattle.rx_tree.specs.Trees.{Rest, rests, tree, tree_of}
-use Rattle.rx_tree.proofs.Members.{All-members, Contains-cons_cases, Contains-head, Contains-later, not_in_nothing, sorted_tail}
-use Rattle.rx_tree.proofs.NameOrder.{not_less_then}
+use Rattle.rx_tree.proofs.Members.{sorted_tail}
 use Rattle.rx_tree.proofs.NamesLemmas.{names_of-same}
 use Rattle.rx_tree.proofs.Neighbours.{both, counted, is_path, same_file-parts, same_or_under, some_count}
 use Rattle.rx_tree.proofs.RefusalLemmas.{clash-entries, twice-entries}
@@ -24,14 +25,6 @@ abbrev pub rest_of : Entry → Rest
 rest_of entry = record { names = names_of entry.path; file = entry.file }
 
 -- ---- members
-
-pub map-from : {A B : Type 0} (f : A → B) (xs : List A) (q : B) → Contains (map f xs) q → (x : A) × Contains xs x × (f x ≡ q)
-map-from f [] q c = absurd (not_in_nothing q c)
-map-from f (x ∷ xs) q c =
-    elim (Contains-cons_cases (f x) (map f xs) q c) [
-      | inl is ↦ (x, Contains-head x xs, is)
-      | inr later ↦ let rest = map-from f xs q later in (rest.0, Contains-later x xs rest.0 rest.1, rest.2)
-    ]
 
 -- ---- the entries behind the first
 
@@ -66,7 +59,7 @@ follows x xs y up h c = record {
   later =
       let far : is_lt (by_place (get_or xs c.0 x) x) ≡ false = sorted_far (λ a b. is_lt (by_place a b)) (ranks_by by_place_total (λ (e : Entry). e)) (x ∷ xs) up zero (suc c.0) x (omega arith) (omega (arith, c.1)) in
       let at : get_or xs c.0 x ≡ y = get_or_default xs c.0 x y c.1 ∙ c.2 in
-      not_less_then (by_names (names_of y.path) (names_of x.path)) (bool_cmp (is_none y.file) (is_none x.file)) (subst (λ (e : Entry). is_lt (by_place e x) ≡ false) at far);
+      then-not_less (by_names (names_of y.path) (names_of x.path)) (bool_cmp (is_none y.file) (is_none x.file)) (subst (λ (e : Entry). is_lt (by_place e x) ≡ false) at far);
   not_below = λ some more e.
       elim (same_or_under x y some more e) [
         | inl same ↦ let two = same_twice x y same in h.once x.path (two_here x.path x xs y c two.0 two.1)
@@ -99,7 +92,7 @@ ready_of : (xs : List Entry) → IsSorted by_place xs → IsApart xs → IsReady
 ready_of [] up h = tt
 ready_of (x ∷ xs) up h = (
   All-members (Follows (rest_of x)) (rests 0 xs)
-      (λ q c. let from = map-from rest_of xs q c in subst (λ (r : Rest). Follows (rest_of x) r) from.2 (follows x xs from.0 up h from.1)),
+      (λ q c. let from = Contains-from_map rest_of xs q c in subst (λ (r : Rest). Follows (rest_of x) r) from.2 (follows x xs from.0 up h from.1)),
   ready_of xs (sorted_tail by_place x xs up) (apart_tail x xs h),
 )
 
@@ -131,8 +124,8 @@ same_entry xs p once x y c d e f =
 
 pub one_file : (xs : List Entry) → IsApart xs → HasOneFile (rests 0 xs)
 one_file xs h a b c d e f g =
-    let x = map-from rest_of xs a c in
-    let y = map-from rest_of xs b d in
+    let x = Contains-from_map rest_of xs a c in
+    let y = Contains-from_map rest_of xs b d in
     let names : names_of x.0.path ≡ names_of y.0.path = ap (λ (r : Rest). r.names) x.2 ∙ e ∙ sym (ap (λ (r : Rest). r.names) y.2) in
     let path : x.0.path ≡ y.0.path = names_of-same x.0.path y.0.path names in
     let x_some : is_some x.0.file ≡ true = ap (λ (r : Rest). is_some r.file) x.2 ∙ f in

@@ -3,11 +3,11 @@ use Rattle.std.proofs.Common.{◌≡◌, ℕ, zero, suc, true, false, List, [], 
 use Rattle.std.specs.Prelude.{IfSome}
 use Rattle.std.specs.List.{AllByRecursion}
 use Rattle.std.specs.Str.{bytes_eq}
+use Rattle.rx_base.proofs.Members.{All-member, All-members}
 use Rattle.rx_tree.specs.Entries.{Content}
 use Rattle.rx_tree.specs.Listings.{dir_at}
 use Rattle.rx_tree.specs.Trees.{Tree, End, File, Dir, Rest, file_here, forest, names_in, planted, tree_at, tree_of, within}
 use Rattle.rx_tree.proofs.ForestLaws.{names_in-from}
-use Rattle.rx_tree.proofs.Members.{All-member, All-members}
 use Rattle.rx_tree.proofs.TreeMembers.{file_alone, file_here-from, on_from, within-from}
 
 module _ (Name : List ℕ → Type 0) (Holds : Content → Type 0) where

@@ -8,11 +8,13 @@ use Rattle.std.proofs.lemmas.Cmp.{nat_list_cmp_total}
 use Rattle.std.proofs.lemmas.List.Elements.{Contains-append_cases, Contains-append_left, Contains-append_right}
 use Rattle.std.proofs.lemmas.Slice.Eq.{bytes_eq-Decides}
 use Rattle.rx_base.specs.SortedPaths.{HasSameMembers}
+use Rattle.rx_base.proofs.ByteLists.{bytes_eq-itself}
+use Rattle.rx_base.proofs.Members.{All-members, Contains-cons_cases, Contains-head, Contains-later, not_in_nothing}
 use Rattle.rx_tree.specs.Entries.{Content}
 use Rattle.rx_tree.specs.Trees.{Rest, after, file_at_end, file_here, first_name, forest, levels, names_in, or_file, tree_at, tree_of, within}
-use Rattle.rx_tree.proofs.Members.{All-members, Contains-cons_cases, Contains-head, Contains-later, not_in_nothing, sorted_alike}
+use Rattle.rx_tree.proofs.Members.{sorted_alike}
 use Rattle.rx_tree.proofs.TreeLemmas.{tree_of-at}
-use Rattle.rx_tree.proofs.TreeRuns.{forest-agree, firsts, same_name}
+use Rattle.rx_tree.proofs.TreeRuns.{forest-agree, firsts}
 
 -- the entry with one more name before its own
 abbrev pub on_from : List ℕ → Rest → Rest
@@ -36,7 +38,7 @@ after-from name r q (first ∷ ns) e c =
     ] refl c
 
 after-to : (name : List ℕ) (q : Rest) → Contains (after name q.file (name ∷ q.names)) q
-after-to name q = rw (same_name name) (Contains-head q [])
+after-to name q = rw (bytes_eq-itself name) (Contains-head q [])
 
 pub within-from : (name : List ℕ) (rs : List Rest) (q : Rest) → Contains (within name rs) q → Contains rs (on_from name q)
 within-from name [] q c = absurd (not_in_nothing q c)

@@ -10,22 +10,15 @@ use Rattle.std.proofs.lemmas.Cmp.{nat_list_cmp_total, tied_itself}
 use Rattle.std.proofs.lemmas.Grind.{flat_map-append}
 use Rattle.std.proofs.lemmas.Slice.Eq.{bytes_eq-Decides}
 use Rattle.rx_base.proofs.Orders.{HasSameMembers-sorted_once}
+use Rattle.rx_base.proofs.ByteLists.{bytes_eq-other}
+use Rattle.rx_base.proofs.Lists.{All-weaken}
+use Rattle.rx_base.proofs.Members.{All-members, Contains-head}
 use Rattle.rx_tree.specs.Entries.{Content}
 use Rattle.rx_tree.specs.Trees.{Tree, Rest, after, file_here, first_name, forest, names_in, planted, tree_of, within}
-use Rattle.rx_tree.proofs.Members.{All-both_members, All-members, All-weaken, Contains-head, sorted_first}
+use Rattle.rx_tree.proofs.Members.{All-both_members, sorted_first}
 use Rattle.rx_tree.proofs.TreeLemmas.{tree_of-names}
 
 -- ---- names
-
-pub same_name : (name : List ℕ) → bytes_eq name name ≡ true
-same_name name = (bytes_eq-Decides name name).1 refl
-
-not_true : (b : Bool) → (b ≡ true → ⊥) → b ≡ false
-not_true true h = absurd (h refl)
-not_true false h = refl
-
-pub other_name : (name other : List ℕ) → name ≢ other → bytes_eq name other ≡ false
-other_name name other ne = not_true (bytes_eq name other) (λ e. ne ((bytes_eq-Decides name other).0 e))
 
 -- the entry's first name
 abbrev pub BeginsWith : List ℕ → Rest → Type 0
@@ -44,7 +37,7 @@ later_differs name other less e = cc (sym less ∙ ap (λ (n : List ℕ). slice_
 
 after-other : (name : List ℕ) (file : Option Content) (names : List (List ℕ)) (first : List ℕ) → first_name names ≡ first ∷ [] → first ≢ name → after name file names ≡ []
 after-other name file [] first e ne = refl
-after-other name file (n ∷ ns) first e ne = let same : n ≡ first = cc in rw (same, other_name first name ne) refl
+after-other name file (n ∷ ns) first e ne = let same : n ≡ first = cc in rw (same, bytes_eq-other first name ne) refl
 
 pub within-on : (name : List ℕ) (xs ys : List Rest) → within name (xs ++ ys) ≡ within name xs ++ within name ys
 within-on name xs ys = flat_map-append (λ (rest : Rest). after name rest.file rest.names) xs ys

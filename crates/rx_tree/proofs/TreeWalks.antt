@@ -8,6 +8,7 @@ use Rattle.rx_base.specs.Digests.{digest_of}
 use Rattle.rx_base.specs.Paths.{IsName, joined, longest}
 use Rattle.rx_base.specs.declared.digests.Digest.{Digest}
 use Rattle.rx_messages.specs.declared.directories.Directory.{Directory}
+use Rattle.rx_base.proofs.Lists.{All-push}
 use Rattle.rx_tree.specs.declared.blobs.Blob.{Blob}
 use Rattle.rx_tree.specs.declared.listings.TreeFile.{TreeFile}
 use Rattle.rx_tree.specs.declared.walks.Seen.{Seen}
@@ -20,7 +21,6 @@ use Rattle.rx_tree.specs.Refusals.{most_files}
 use Rattle.rx_tree.specs.Trees.{Tree, End, File, Dir, all_bytes, bytes_below, directory_nodes, file_nodes, tree_bytes}
 use Rattle.rx_tree.specs.Walks.{directory_at, each, entered, entered_with, is_bare, walked, with_bare, with_files, with_nodes, with_subs}
 use Rattle.rx_tree.proofs.JoinLaws.{child_again}
-use Rattle.rx_tree.proofs.Members.{All-on}
 use Rattle.rx_tree.proofs.WalkLemmas.{walked-entered}
 
 -- ---- what is seen, by the names from the root down
@@ -146,9 +146,6 @@ abbrev pub SeesBelow : List Blob → Tree → Type 0
 SeesBelow blobs t = (most : ℕ) (names : List (List ℕ)) (seen : Seen) → AllByRecursion IsName names → HasPaths names t → seen.entered ≤ most_files → most_files < most + seen.entered
     → length (seen.files ++ below files_in names t) ≤ most_files → Sees (more seen (count_below t) (below files_in names t) (below bare_in names t)) (each_of most blobs (subs_in names t) seen)
 
-push_name : (names : List (List ℕ)) (n : List ℕ) → AllByRecursion IsName names → IsName n → AllByRecursion IsName (names ++ n ∷ [])
-push_name names n each one = All-on IsName names (n ∷ []) each (one, tt)
-
 module _ (blobs : List Blob) (t : Tree) (found : IsFound blobs t) (down : SeesBelow blobs t) where
   -- a directory and all below it
   pub sees_directory : (most : ℕ) (names : List (List ℕ)) (seen : Seen) → AllByRecursion IsName names → HasPaths names t → seen.entered ≤ most_files → most_files < most + seen.entered
@@ -194,7 +191,7 @@ sees_below blobs (Dir n s t) found = λ most names seen each p le enough fits.
     let back = length-append files rest in
     let both = length-append seen.files (files ++ rest) in
     let whole = length-append (seen.files ++ files) rest in
-    elim (sees_directory blobs s found.0 (sees_below blobs s found.1) most on seen (push_name names n each p.0) p.2 le enough (omega arith)) [
+    elim (sees_directory blobs s found.0 (sees_below blobs s found.1) most on seen (All-push IsName names n each p.0) p.2 le enough (omega arith)) [
       | inl ok ↦
           let room : next.entered ≤ most_files = ok.0 in
           rw ok.1

@@ -3,9 +3,9 @@ use Rattle.std.specs.Prelude.{◌≢◌, ℕ, List, Option, map, slice_get}
 use Rattle.std.specs.declared.cmp.Ordering.{Ordering}
 use Rattle.std.specs.List.{AllPairs, filter}
 use Rattle.std.specs.Ordering.{is_eq, nat_cmp, on, then_cmp}
-use Rattle.std.specs.Cmp.{IsTotalOrder, nat_cmp_total, on_total, then_total}
+use Rattle.std.specs.Cmp.{IsTotalOrder, on_total, then_total}
 use Rattle.std.specs.Cmp.Lexicographic.{slice_cmp, nat_list_cmp_total}
-use Rattle.rx_base.specs.Digests.{digest_of}
+use Rattle.rx_base.specs.Digests.{digest_of, by_digest, by_digest_total}
 use Rattle.rx_base.specs.SortedPaths.{sorted_paths}
 use Rattle.rx_base.specs.declared.digests.Digest.{Digest}
 use Rattle.rx_tree.specs.declared.blobs.Blob.{Blob}
@@ -17,13 +17,6 @@ blob_of bytes = record { digest = digest_of bytes; bytes = bytes }
 -- no item comes twice
 abbrev pub HasNoRepeats : {K : Type 0} → List K → Type 0
 HasNoRepeats items = AllPairs (λ x y. x ≢ y) items
-
--- digests by hash, then size
-abbrev pub by_digest : Digest → Digest → Ordering
-by_digest x y = then_cmp (on (λ (d : Digest). d.hash) (slice_cmp nat_cmp)) (on (λ (d : Digest). d.size) nat_cmp) x y
-
-pub by_digest_total : IsTotalOrder by_digest
-by_digest_total = then_total (on_total (λ (d : Digest). d.hash) nat_list_cmp_total) (on_total (λ (d : Digest). d.size) nat_cmp_total)
 
 -- blobs by digest, then bytes
 abbrev pub by_blob : Blob → Blob → Ordering

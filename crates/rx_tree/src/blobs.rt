@@ -4,7 +4,7 @@ ghost use Rattle.std.specs.Prelude.{◌≡◌, IfOk, Some, refl};
 ghost use Rattle.std.specs.Cmp.{eq_by_cmp_equiv, partial_equiv_from_equiv, partial_order_from_total};
 ghost use Rattle.std.specs.Ordering.{eq_by_cmp};
 ghost use Rattle.rx_base.specs.SortedPaths.{HasSameMembers};
-ghost use Rattle.rx_tree.specs.Blobs.{HasNoRepeats, blob_of, by_blob, by_blob_total, by_digest};
+ghost use Rattle.rx_tree.specs.Blobs.{HasNoRepeats, blob_of, by_blob, by_blob_total};
 
 use rx_base::{Bytes, Digest, Items, NoMemory, digest_of};
 use std::cmp::Ordering;
@@ -63,18 +63,8 @@ impl Ord for Blob {
 
     fn cmp(&self, other: &Blob) -> Ordering {
         let bytes = self.bytes.as_slice().cmp(other.bytes.as_slice());
-        compare_digests(&self.digest, &other.digest).then(bytes)
+        self.digest.cmp(&other.digest).then(bytes)
     }
-}
-
-/// How two digests stand by their hashes, and then by their sizes.
-pub(crate) fn compare_digests(digest: &Digest, other: &Digest) -> Ordering
-    ensures { result ≡ by_digest digest.now other.now }
-{
-    digest
-        .hash
-        .cmp(&other.hash)
-        .then(digest.size.cmp(&other.size))
 }
 
 /// These blobs in their order, each once.

@@ -1,13 +1,11 @@
 //! Blobs that are looked up by their digests.
 
-ghost use Rattle.std.specs.Prelude.{◌≡◌, IfOk, false, true};
-ghost use Rattle.std.specs.Ordering.{is_lt};
-ghost use Rattle.rx_tree.specs.Blobs.{blob_at, by_digest};
-ghost use Rattle.std.specs.List.Sorted.{IsPartitionPoint};
-ghost use Rattle.rx_tree.specs.Shelves.{IsOrdered, IsShelf, blobs_of};
+ghost use Rattle.std.specs.Prelude.{◌≡◌, IfOk};
+ghost use Rattle.rx_tree.specs.Blobs.{blob_at};
+ghost use Rattle.rx_tree.specs.Shelves.{IsFirstOf, IsOrdered, IsShelf, blobs_of};
 ghost use Rattle.rx_tree.specs.Search.{place};
 
-use crate::blobs::{Blob, compare_digests};
+use crate::blobs::Blob;
 use rx_base::{Digest, NoMemory};
 use std::alloc::Global;
 use std::marker::Model;
@@ -49,7 +47,7 @@ impl<'a> Shelf<'a> {
             return None;
         }
         let blob = self.sorted[at];
-        if compare_digests(&blob.digest, digest).is_eq() {
+        if blob.digest.cmp(digest).is_eq() {
             Some(blob.bytes.as_slice())
         } else {
             None
@@ -80,7 +78,7 @@ fn refer_to(alloc: Global, blobs: &[Blob]) -> Result<Vec<&Blob>, NoMemory>
 /// How many blobs in front have lesser digests.
 fn first_at(sorted: &[&Blob], digest: &Digest) -> usize
     requires { IsOrdered sorted.now }
-    ensures { IsPartitionPoint (λ blob. is_lt (by_digest blob.now.digest digest.now) ≡ true) (λ blob. is_lt (by_digest blob.now.digest digest.now) ≡ false) sorted.now result }
+    ensures { IsFirstOf digest.now sorted.now result }
 {
-    sorted.partition_point(|blob| compare_digests(&blob.digest, digest).is_lt())
+    sorted.partition_point(|blob| blob.digest.cmp(digest).is_lt())
 }

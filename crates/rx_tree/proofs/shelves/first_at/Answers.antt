@@ -2,8 +2,8 @@ use Rattle.std.proofs.Common.{rules}
 use Rattle.std.specs.Borrow.{Bor}
 use Rattle.std.specs.Ordering.{is_lt}
 use Rattle.std.proofs.lemmas.List.Sorted.{IsPartitionPoint-from_clause}
+use Rattle.rx_base.specs.Digests.{by_digest}
 use Rattle.rx_tree.specs.declared.blobs.Blob.{Blob}
-use Rattle.rx_tree.specs.Blobs.{by_digest}
 use Rattle.rx_tree.proofs.ShelfLemmas.{partitioned}
 use Rattle.rx_tree.proofs.shelves.first_at.Goals as goal
 

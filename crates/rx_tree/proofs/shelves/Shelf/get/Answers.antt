@@ -14,7 +14,7 @@ returns-then-is_eq c =
     let lt : c.first_at-at.result < length c.self.inside.sorted.items = omega (arith, c.len.ensures, c.if-at-len.false, c.self.inside.sorted.ok.0) in
     rw (← c.self.view_is, c.as_slice.ensures)
     (at_found c.self.inside.blobs.now c.self.inside.sorted.items c.self.invariant c.args.digest.now c.first_at-at.result point c.index-blob.result.now lt c.index-blob.ensures
-    (ap is_eq (sym c.compare_digests.ensures) ∙ sym c.is_eq.ensures ∙ c.if-is_eq.true))
+    (ap is_eq (sym c.cmp.ensures) ∙ sym c.is_eq.ensures ∙ c.if-is_eq.true))
 
 pub returns-else-is_eq : goal.returns-else-is_eq
 returns-else-is_eq c =
@@ -22,4 +22,4 @@ returns-else-is_eq c =
     let lt : c.first_at-at.result < length c.self.inside.sorted.items = omega (arith, c.len.ensures, c.if-at-len.false, c.self.inside.sorted.ok.0) in
     rw (← c.self.view_is)
     (at_other c.self.inside.blobs.now c.self.inside.sorted.items c.self.invariant c.args.digest.now c.first_at-at.result point c.index-blob.result.now lt c.index-blob.ensures
-    (ap is_eq (sym c.compare_digests.ensures) ∙ sym c.is_eq.ensures ∙ c.if-is_eq.false))
+    (ap is_eq (sym c.cmp.ensures) ∙ sym c.is_eq.ensures ∙ c.if-is_eq.false))
