@@ -1,6 +1,6 @@
 -- Fields as they are written.
 use Rattle.std.specs.Prelude.{◌≡◌, ℕ, ◌+◌, ◌*◌, List, [], ◌∷◌, ◌++◌, length, take}
-use Rattle.rx_wire.specs.Values.{Field}
+use Rattle.rx_wire.specs.Values.{Field, bytes, varint}
 use Rattle.rx_wire.specs.Varints.{shortest}
 use Rattle.rx_wire.specs.Fields.{SpellsField, SpellsFields}
 
@@ -15,6 +15,14 @@ varint_field number value = shortest (number * 8) ++ shortest value
 -- the bytes of a field that is bytes
 unfoldable pub bytes_field : ℕ → List ℕ → List ℕ
 bytes_field number value = shortest (number * 8 + 2) ++ shortest (length value) ++ value
+
+-- a field that is a varint
+abbrev pub one_varint : ℕ → ℕ → Field
+one_varint number value = record { number = number; content = varint value }
+
+-- a field that is bytes
+abbrev pub one_bytes : ℕ → List ℕ → Field
+one_bytes number value = record { number = number; content = bytes value }
 
 -- the bytes of one more field stand at the end
 pub record Appends (old new : List ℕ) (f : Field) : Type 0 where

@@ -35,8 +35,10 @@ impl<'a> Fields<'a> {
     pub fn new(bytes: &'a [u8]) -> Fields<'a>
         ensures start { result ≡ before bytes.now 0 }
         // What all calls of `next` read up to the end is spelled so, and what is spelled so is read.
-        ensures spelled { (found : List Placed) → ReadsAll bytes.now 0 found None → SpellsFields (fields_of found) bytes.now }
-        ensures again { (fields : List Field) → SpellsFields fields bytes.now → (found : List Placed) × ReadsAll bytes.now 0 found None × (fields_of found ≡ fields) }
+        ensures spelled { (found : List Placed) → ReadsAll bytes.now 0 found None →
+            SpellsFields (fields_of found) bytes.now }
+        ensures again { (fields : List Field) → SpellsFields fields bytes.now →
+            (found : List Placed) × ReadsAll bytes.now 0 found None × (fields_of found ≡ fields) }
     {
         Fields {
             bytes,
@@ -52,11 +54,14 @@ impl<'a> Fields<'a> {
         // Which field it is and where, the end, or which fault.
         ensures exact { Next self.old result self.new }
         // What is read is spelled so.
-        ensures found { IfOk result (λ next. IfSome next (λ f. Reads self.old.bytes self.old.at self.new.at (field_of f.0 f.1))) }
+        ensures found { IfOk result (λ next. IfSome next (λ f.
+            Reads self.old.bytes self.old.at self.new.at (field_of f.0 f.1))) }
         // What is spelled so is read.
-        ensures only { (f : Field) (text rest : List ℕ) → SpellsField f text → drop self.old.at self.old.bytes ≡ text ++ rest
+        ensures only { (f : Field) (text rest : List ℕ) → SpellsField f text →
+            drop self.old.at self.old.bytes ≡ text ++ rest
             → IsField f result × (self.new.at ≡ self.old.at + length text) }
-        ensures inside { IfOk result (λ next. IfSome next (λ f. IsInside f.1 self.new.bytes self.new.content self.new.at)) }
+        ensures inside { IfOk result (λ next. IfSome next (λ f.
+            IsInside f.1 self.new.bytes self.new.content self.new.at)) }
     {
         if self.at == self.bytes.len() {
             return Ok(None);

@@ -16,19 +16,21 @@ const MAX_TAG: u64 = 0xffff_ffff;
 /// A field with its place: the offset behind its tag, that of its content, and the one behind it.
 #[derive(Clone, Copy)]
 pub(crate) struct Found<'a> {
-    pub number: u32,
-    pub value: Value<'a>,
-    pub behind_tag: usize,
-    pub content: usize,
-    pub end: usize,
+    pub(crate) number: u32,
+    pub(crate) value: Value<'a>,
+    pub(crate) behind_tag: usize,
+    pub(crate) content: usize,
+    pub(crate) end: usize,
 }
 
 /// The field at an offset: what is read is spelled so.
 pub(crate) fn read_field(bytes: &[u8], at: usize) -> Result<Found<'_>, WireFault>
     requires { at ≤ length bytes.now }
     ensures field { Equals placed_of result (field_at bytes.now at) }
-    ensures within { IfOk result (λ found. (found.end ≤ length bytes.now) × (found.content ≤ found.end)) }
-    ensures found { IfOk result (λ found. Reads bytes.now at found.end (field_of found.number found.value)) }
+    ensures within { IfOk result (λ found.
+        (found.end ≤ length bytes.now) × (found.content ≤ found.end)) }
+    ensures found { IfOk result (λ found.
+        Reads bytes.now at found.end (field_of found.number found.value)) }
     ensures inside { IfOk result (λ found. IsInside found.value bytes.now found.content found.end) }
 {
     field_at(bytes, at)
@@ -39,7 +41,8 @@ pub(crate) fn read_field(bytes: &[u8], at: usize) -> Result<Found<'_>, WireFault
 fn field_at(bytes: &[u8], at: usize) -> Result<Found<'_>, WireFault>
     requires { at ≤ length bytes.now }
     ensures field { Equals placed_of result (field_at bytes.now at) }
-    ensures within { IfOk result (λ found. (found.end ≤ length bytes.now) × (found.content ≤ found.end)) }
+    ensures within { IfOk result (λ found.
+        (found.end ≤ length bytes.now) × (found.content ≤ found.end)) }
 {
     let (tag, behind_tag) = varint_at(bytes, at)?;
     if tag > MAX_TAG {

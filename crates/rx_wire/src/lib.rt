@@ -18,6 +18,3 @@ pub use out::Out;
 pub use texts::text_of;
 pub use values::Value;
 pub use varints::push_varint;
-
-#[cfg(test)]
-mod tests;

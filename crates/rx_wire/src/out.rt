@@ -2,8 +2,7 @@
 //! numbers are from 1 to 2^29 - 1.
 
 ghost use Rattle.std.specs.Prelude.{◌≡◌, ◌≤◌, ◌<◌, ◌^◌, ◌++◌, [], length, OnOk, OnErr};
-ghost use Rattle.rx_wire.specs.Values.{varint, bytes};
-ghost use Rattle.rx_wire.specs.Out.{AddsField, Appends, IsFront, varint_field, bytes_field};
+ghost use Rattle.rx_wire.specs.Out.{AddsField, Appends, IsFront, bytes_field, one_bytes, one_varint, varint_field};
 ghost use Rattle.rx_wire.specs.Integers.{int32_of, sign_extended};
 
 use crate::integers::sign_extended;
@@ -48,8 +47,8 @@ impl Out {
         requires above { 0 < number }
         requires below { number < 2 ^ 29 }
         ensures ok { OnOk result (self.new ≡ self.old ++ varint_field number value) }
-        ensures spelled { OnOk result (Appends self.old self.new (record { number = number; content = varint value })) }
-        ensures fields { OnOk result (AddsField self.old self.new (record { number = number; content = varint value })) }
+        ensures spelled { OnOk result (Appends self.old self.new (one_varint number value)) }
+        ensures fields { OnOk result (AddsField self.old self.new (one_varint number value)) }
         ensures err { OnErr result (self.new ≡ self.old) }
     {
         let len = self.bytes.len();
@@ -64,8 +63,10 @@ impl Out {
     pub fn int32(&mut self, number: u32, value: i32) -> Result<(), NoMemory>
         requires above { 0 < number }
         requires below { number < 2 ^ 29 }
-        ensures ok { OnOk result (self.new ≡ self.old ++ varint_field number (sign_extended value)) }
-        ensures fields { OnOk result (AddsField self.old self.new (record { number = number; content = varint (sign_extended value) })) }
+        ensures ok { OnOk result
+            (self.new ≡ self.old ++ varint_field number (sign_extended value)) }
+        ensures fields { OnOk result
+            (AddsField self.old self.new (one_varint number (sign_extended value))) }
         ensures err { OnErr result (self.new ≡ self.old) }
         // What is read of it is the number again.
         ensures again { int32_of (sign_extended value) ≡ value }
@@ -78,8 +79,8 @@ impl Out {
         requires above { 0 < number }
         requires below { number < 2 ^ 29 }
         ensures ok { OnOk result (self.new ≡ self.old ++ bytes_field number value.now) }
-        ensures spelled { OnOk result (Appends self.old self.new (record { number = number; content = bytes value.now })) }
-        ensures fields { OnOk result (AddsField self.old self.new (record { number = number; content = bytes value.now })) }
+        ensures spelled { OnOk result (Appends self.old self.new (one_bytes number value.now)) }
+        ensures fields { OnOk result (AddsField self.old self.new (one_bytes number value.now)) }
         ensures err { OnErr result (self.new ≡ self.old) }
     {
         let len = self.bytes.len();
