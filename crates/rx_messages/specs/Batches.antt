@@ -9,13 +9,13 @@ use Rattle.rx_messages.specs.Parts.{Part, anything, message, text}
 use Rattle.rx_messages.specs.declared.faults.MessageFault.{MessageFault}
 use Rattle.rx_messages.specs.Digests.{digest_fields, digest_from, digest_is_readable, digest_parts}
 use Rattle.rx_messages.specs.Statuses.{status_fields, status_from, status_parts}
-use Rattle.rx_messages.specs.declared.batches.BlobUpdate.{BlobUpdate}
-use Rattle.rx_messages.specs.declared.batches.BatchUpdateBlobsRequest.{BatchUpdateBlobsRequest}
-use Rattle.rx_messages.specs.declared.batches.BlobUpdated.{BlobUpdated}
-use Rattle.rx_messages.specs.declared.batches.BatchUpdateBlobsResponse.{BatchUpdateBlobsResponse}
-use Rattle.rx_messages.specs.declared.batches.BatchReadBlobsRequest.{BatchReadBlobsRequest}
-use Rattle.rx_messages.specs.declared.batches.BlobRead.{BlobRead}
-use Rattle.rx_messages.specs.declared.batches.BatchReadBlobsResponse.{BatchReadBlobsResponse}
+use Rattle.rx_messages.specs.declared.batch_updates.BlobUpdate.{BlobUpdate}
+use Rattle.rx_messages.specs.declared.batch_updates.BatchUpdateBlobsRequest.{BatchUpdateBlobsRequest}
+use Rattle.rx_messages.specs.declared.batch_updates.BlobUpdated.{BlobUpdated}
+use Rattle.rx_messages.specs.declared.batch_updates.BatchUpdateBlobsResponse.{BatchUpdateBlobsResponse}
+use Rattle.rx_messages.specs.declared.batch_reads.BatchReadBlobsRequest.{BatchReadBlobsRequest}
+use Rattle.rx_messages.specs.declared.batch_reads.BlobRead.{BlobRead}
+use Rattle.rx_messages.specs.declared.batch_reads.BatchReadBlobsResponse.{BatchReadBlobsResponse}
 
 -- ---- BlobUpdate: digest 1, body 2
 

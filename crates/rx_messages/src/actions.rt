@@ -5,12 +5,13 @@ use crate::commands::Platform;
 use crate::faults::MessageFault;
 use crate::field_list::FieldList;
 use crate::message::{Message, Shape};
+use crate::numbers::{action, duration};
 use crate::writer::Writer;
 use rx_base::{Bytes, Digest, NoMemory};
 use rx_wire::{Fields, Value, WireFault};
 use std::alloc::Global;
 
-/// A span of time (`google/protobuf/duration.proto`): seconds 1.
+/// A span of time (`google/protobuf/duration.proto`), of which only the whole seconds are read and written.
 #[derive(Debug, Drop)]
 pub struct Duration {
     pub seconds: i64,
@@ -44,14 +45,14 @@ impl Message for Duration {
         alloc: Global,
         list: &FieldList<'_, Duration>,
     ) -> Result<Duration, MessageFault> {
-        let seconds = list.int64(1);
+        let seconds = list.int64(duration::SECONDS);
         Ok(Duration { seconds })
     }
 
     #[tactic(auto, unfolding(crate::specs::Actions::duration_fields))]
     fn write(&self, alloc: Global, out: &mut Writer<Duration>) -> Result<(), NoMemory> {
         let seconds = self.seconds;
-        out.int64(1, seconds)
+        out.int64(duration::SECONDS, seconds)
     }
 
     fn has_one_form(&self, alloc: Global, bytes: &[u8]) -> Result<bool, NoMemory> {
@@ -59,8 +60,7 @@ impl Message for Duration {
     }
 }
 
-/// What is run on which tree: command_digest 1, input_root_digest 2, timeout 6, do_not_cache 7, salt 9,
-/// platform 10.
+/// What is run on which tree.
 #[derive(Debug, Drop)]
 pub struct Action {
     pub command_digest: Option<Digest>,
@@ -92,21 +92,23 @@ impl Message for Action {
     #[tactic(auto, unfolding(crate::specs::Parts::part_checked))]
     fn check_field(number: u32, value: Value<'_>, read: &Fields<'_>) -> Result<(), WireFault> {
         match number {
-            1 | 2 => check_message::<Digest>(number, value, read),
-            6 => check_message::<Duration>(number, value, read),
-            10 => check_message::<Platform>(number, value, read),
+            action::COMMAND_DIGEST | action::INPUT_ROOT_DIGEST => check_message::<Digest>(
+                number, value, read,
+            ),
+            action::TIMEOUT => check_message::<Duration>(number, value, read),
+            action::PLATFORM => check_message::<Platform>(number, value, read),
             _ => Ok(()),
         }
     }
 
     #[tactic(auto, unfolding(crate::specs::Actions::action_from))]
     fn from_fields(alloc: Global, list: &FieldList<'_, Action>) -> Result<Action, MessageFault> {
-        let command_digest = list.message(alloc, 1)?;
-        let input_root_digest = list.message(alloc, 2)?;
-        let timeout = list.message(alloc, 6)?;
-        let do_not_cache = list.truth(7);
-        let salt = list.bytes(alloc, 9)?;
-        let platform = list.message(alloc, 10)?;
+        let command_digest = list.message(alloc, action::COMMAND_DIGEST)?;
+        let input_root_digest = list.message(alloc, action::INPUT_ROOT_DIGEST)?;
+        let timeout = list.message(alloc, action::TIMEOUT)?;
+        let do_not_cache = list.truth(action::DO_NOT_CACHE);
+        let salt = list.bytes(alloc, action::SALT)?;
+        let platform = list.message(alloc, action::PLATFORM)?;
         Ok(Action {
             command_digest,
             input_root_digest,
@@ -119,12 +121,12 @@ impl Message for Action {
 
     #[tactic(auto, unfolding(crate::specs::Actions::action_fields))]
     fn write(&self, alloc: Global, out: &mut Writer<Action>) -> Result<(), NoMemory> {
-        out.message(alloc, 1, &self.command_digest)?;
-        out.message(alloc, 2, &self.input_root_digest)?;
-        out.message(alloc, 6, &self.timeout)?;
-        out.truth(7, self.do_not_cache)?;
-        out.bytes(9, self.salt.as_slice())?;
-        out.message(alloc, 10, &self.platform)
+        out.message(alloc, action::COMMAND_DIGEST, &self.command_digest)?;
+        out.message(alloc, action::INPUT_ROOT_DIGEST, &self.input_root_digest)?;
+        out.message(alloc, action::TIMEOUT, &self.timeout)?;
+        out.truth(action::DO_NOT_CACHE, self.do_not_cache)?;
+        out.bytes(action::SALT, self.salt.as_slice())?;
+        out.message(alloc, action::PLATFORM, &self.platform)
     }
 
     fn has_one_form(&self, alloc: Global, bytes: &[u8]) -> Result<bool, NoMemory> {

@@ -4,12 +4,13 @@ use crate::checking::{check_message, check_text};
 use crate::faults::MessageFault;
 use crate::field_list::FieldList;
 use crate::message::{Message, Shape};
+use crate::numbers::{find_missing_blobs_request, find_missing_blobs_response};
 use crate::writer::Writer;
 use rx_base::{Digest, Items, NoMemory, Text};
 use rx_wire::{Fields, Value, WireFault};
 use std::alloc::Global;
 
-/// The blobs that are asked for: instance_name 1, blob_digests 2.
+/// The blobs that are asked for.
 #[derive(Debug, Drop)]
 pub struct FindMissingBlobsRequest {
     pub instance_name: Text,
@@ -37,8 +38,10 @@ impl Message for FindMissingBlobsRequest {
     #[tactic(auto, unfolding(crate::specs::Parts::part_checked))]
     fn check_field(number: u32, value: Value<'_>, read: &Fields<'_>) -> Result<(), WireFault> {
         match number {
-            1 => check_text(number, value, read),
-            2 => check_message::<Digest>(number, value, read),
+            find_missing_blobs_request::INSTANCE_NAME => check_text(number, value, read),
+            find_missing_blobs_request::BLOB_DIGESTS => check_message::<Digest>(
+                number, value, read,
+            ),
             _ => Ok(()),
         }
     }
@@ -48,8 +51,8 @@ impl Message for FindMissingBlobsRequest {
         alloc: Global,
         list: &FieldList<'_, FindMissingBlobsRequest>,
     ) -> Result<FindMissingBlobsRequest, MessageFault> {
-        let instance_name = list.text(alloc, 1)?;
-        let blob_digests = list.messages(alloc, 2)?;
+        let instance_name = list.text(alloc, find_missing_blobs_request::INSTANCE_NAME)?;
+        let blob_digests = list.messages(alloc, find_missing_blobs_request::BLOB_DIGESTS)?;
         Ok(FindMissingBlobsRequest {
             instance_name,
             blob_digests,
@@ -62,8 +65,15 @@ impl Message for FindMissingBlobsRequest {
         alloc: Global,
         out: &mut Writer<FindMissingBlobsRequest>,
     ) -> Result<(), NoMemory> {
-        out.text(1, self.instance_name.as_str())?;
-        out.messages(alloc, 2, &self.blob_digests)
+        out.text(
+            find_missing_blobs_request::INSTANCE_NAME,
+            self.instance_name.as_str(),
+        )?;
+        out.messages(
+            alloc,
+            find_missing_blobs_request::BLOB_DIGESTS,
+            &self.blob_digests,
+        )
     }
 
     fn has_one_form(&self, alloc: Global, bytes: &[u8]) -> Result<bool, NoMemory> {
@@ -71,7 +81,7 @@ impl Message for FindMissingBlobsRequest {
     }
 }
 
-/// The blobs that are lacking: missing_blob_digests 2.
+/// The blobs that are lacking.
 #[derive(Debug, Drop)]
 pub struct FindMissingBlobsResponse {
     pub missing_blob_digests: Items<Digest>,
@@ -98,7 +108,9 @@ impl Message for FindMissingBlobsResponse {
     #[tactic(auto, unfolding(crate::specs::Parts::part_checked))]
     fn check_field(number: u32, value: Value<'_>, read: &Fields<'_>) -> Result<(), WireFault> {
         match number {
-            2 => check_message::<Digest>(number, value, read),
+            find_missing_blobs_response::MISSING_BLOB_DIGESTS => check_message::<Digest>(
+                number, value, read,
+            ),
             _ => Ok(()),
         }
     }
@@ -108,7 +120,10 @@ impl Message for FindMissingBlobsResponse {
         alloc: Global,
         list: &FieldList<'_, FindMissingBlobsResponse>,
     ) -> Result<FindMissingBlobsResponse, MessageFault> {
-        let missing_blob_digests = list.messages(alloc, 2)?;
+        let missing_blob_digests = list.messages(
+            alloc,
+            find_missing_blobs_response::MISSING_BLOB_DIGESTS,
+        )?;
         Ok(FindMissingBlobsResponse {
             missing_blob_digests,
         })
@@ -120,7 +135,11 @@ impl Message for FindMissingBlobsResponse {
         alloc: Global,
         out: &mut Writer<FindMissingBlobsResponse>,
     ) -> Result<(), NoMemory> {
-        out.messages(alloc, 2, &self.missing_blob_digests)
+        out.messages(
+            alloc,
+            find_missing_blobs_response::MISSING_BLOB_DIGESTS,
+            &self.missing_blob_digests,
+        )
     }
 
     fn has_one_form(&self, alloc: Global, bytes: &[u8]) -> Result<bool, NoMemory> {

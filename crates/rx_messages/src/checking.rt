@@ -22,7 +22,8 @@ pub(crate) fn check_all<M: Message>(fields: Fields<'_>) -> Result<(), WireFault>
 /// Checks that the field that was read last is text, where it is bytes.
 #[tactic(auto, unfolding(crate::specs::Parts::part_checked, crate::specs::Parts::text_checked))]
 pub(crate) fn check_text(number: u32, value: Value<'_>, read: &Fields<'_>) -> Result<(), WireFault>
-    ensures { result ≡ part_checked text read.now.bytes (placed_before number value.entry read.now) (content_of value.entry) }
+    ensures { result ≡ part_checked text read.now.bytes
+        (placed_before number value.entry read.now) (content_of value.entry) }
 {
     match value {
         Value::Bytes(bytes) => check_utf8(bytes, read.behind_tag()),
@@ -47,7 +48,8 @@ pub(crate) fn check_message<N: Message>(
     value: Value<'_>,
     read: &Fields<'_>,
 ) -> Result<(), WireFault>
-    ensures { result ≡ part_checked (message N.parts) read.now.bytes (placed_before number value.entry read.now) (content_of value.entry) }
+    ensures { result ≡ part_checked (message N.parts) read.now.bytes
+        (placed_before number value.entry read.now) (content_of value.entry) }
 {
     match value {
         Value::Bytes(_) => check_all::<N>(read.message()),

@@ -32,8 +32,10 @@ pub(crate) fn read_fields<'a>(
 /// The next field, or none at the end and at a refusal.
 #[tactic(auto, using(crate::proofs::ReadLemmas::is_next, crate::proofs::ReadLemmas::is_over))]
 fn next_field<'a>(fields: &mut Fields<'a>) -> Option<(u32, Value<'a>)>
-    ensures next { MatchOption result (IsOver fields.old) (λ f. Next fields.old (Ok (Some f)) fields.new) }
-    ensures found { IfSome result (λ f. Reads fields.old.bytes fields.old.at fields.new.at (field_of f.0 f.1)) }
+    ensures next { MatchOption result (IsOver fields.old)
+        (λ f. Next fields.old (Ok (Some f)) fields.new) }
+    ensures found { IfSome result (λ f.
+        Reads fields.old.bytes fields.old.at fields.new.at (field_of f.0 f.1)) }
 {
     match fields.next() {
         Ok(next) => next,
@@ -47,7 +49,8 @@ pub(crate) fn chunks_of<'a>(
     fields: &[(u32, Value<'a>)],
     number: u32,
 ) -> Result<Vec<&'a [u8]>, NoMemory>
-    ensures { IfOk result (λ found. slices found.items ≡ chunks (contents number (seen fields.now))) }
+    ensures { IfOk result (λ found.
+        slices found.items ≡ chunks (contents number (seen fields.now))) }
 {
     let mut found = Vec::new(alloc);
     for field in fields {
@@ -60,7 +63,8 @@ pub(crate) fn chunks_of<'a>(
 
 /// The bytes of a field, where it has this number.
 fn chunk_in<'a>(field: &(u32, Value<'a>), number: u32) -> Option<&'a [u8]>
-    ensures { MatchOption result (chunk_in number (field_of field.now.0 field.now.1) ≡ None) (λ bytes. chunk_in number (field_of field.now.0 field.now.1) ≡ Some bytes.now) }
+    ensures { MatchOption result (chunk_in number (field_of field.now.0 field.now.1) ≡ None)
+        (λ bytes. chunk_in number (field_of field.now.0 field.now.1) ≡ Some bytes.now) }
 {
     match *field {
         (at, Value::Bytes(bytes)) if at == number => Some(bytes),

@@ -4,12 +4,13 @@ use crate::checking::{check_message, check_text};
 use crate::faults::MessageFault;
 use crate::field_list::FieldList;
 use crate::message::{Message, Shape};
+use crate::numbers::{command, environment_variable, platform, property};
 use crate::writer::Writer;
 use rx_base::{Items, NoMemory, Text};
 use rx_wire::{Fields, Value, WireFault};
 use std::alloc::Global;
 
-/// A variable of the environment: name 1, value 2.
+/// A variable of the environment.
 #[derive(Debug, Drop)]
 pub struct EnvironmentVariable {
     pub name: Text,
@@ -37,7 +38,9 @@ impl Message for EnvironmentVariable {
     #[tactic(auto, unfolding(crate::specs::Parts::part_checked))]
     fn check_field(number: u32, value: Value<'_>, read: &Fields<'_>) -> Result<(), WireFault> {
         match number {
-            1 | 2 => check_text(number, value, read),
+            environment_variable::NAME | environment_variable::VALUE => check_text(
+                number, value, read,
+            ),
             _ => Ok(()),
         }
     }
@@ -47,15 +50,15 @@ impl Message for EnvironmentVariable {
         alloc: Global,
         list: &FieldList<'_, EnvironmentVariable>,
     ) -> Result<EnvironmentVariable, MessageFault> {
-        let name = list.text(alloc, 1)?;
-        let value = list.text(alloc, 2)?;
+        let name = list.text(alloc, environment_variable::NAME)?;
+        let value = list.text(alloc, environment_variable::VALUE)?;
         Ok(EnvironmentVariable { name, value })
     }
 
     #[tactic(auto, unfolding(crate::specs::Commands::environment_variable_fields))]
     fn write(&self, alloc: Global, out: &mut Writer<EnvironmentVariable>) -> Result<(), NoMemory> {
-        out.text(1, self.name.as_str())?;
-        out.text(2, self.value.as_str())
+        out.text(environment_variable::NAME, self.name.as_str())?;
+        out.text(environment_variable::VALUE, self.value.as_str())
     }
 
     fn has_one_form(&self, alloc: Global, bytes: &[u8]) -> Result<bool, NoMemory> {
@@ -63,7 +66,7 @@ impl Message for EnvironmentVariable {
     }
 }
 
-/// A property that the worker has to have: name 1, value 2.
+/// A property that the worker has to have.
 #[derive(Debug, Drop)]
 pub struct Property {
     pub name: Text,
@@ -91,7 +94,7 @@ impl Message for Property {
     #[tactic(auto, unfolding(crate::specs::Parts::part_checked))]
     fn check_field(number: u32, value: Value<'_>, read: &Fields<'_>) -> Result<(), WireFault> {
         match number {
-            1 | 2 => check_text(number, value, read),
+            property::NAME | property::VALUE => check_text(number, value, read),
             _ => Ok(()),
         }
     }
@@ -101,15 +104,15 @@ impl Message for Property {
         alloc: Global,
         list: &FieldList<'_, Property>,
     ) -> Result<Property, MessageFault> {
-        let name = list.text(alloc, 1)?;
-        let value = list.text(alloc, 2)?;
+        let name = list.text(alloc, property::NAME)?;
+        let value = list.text(alloc, property::VALUE)?;
         Ok(Property { name, value })
     }
 
     #[tactic(auto, unfolding(crate::specs::Commands::property_fields))]
     fn write(&self, alloc: Global, out: &mut Writer<Property>) -> Result<(), NoMemory> {
-        out.text(1, self.name.as_str())?;
-        out.text(2, self.value.as_str())
+        out.text(property::NAME, self.name.as_str())?;
+        out.text(property::VALUE, self.value.as_str())
     }
 
     fn has_one_form(&self, alloc: Global, bytes: &[u8]) -> Result<bool, NoMemory> {
@@ -117,7 +120,7 @@ impl Message for Property {
     }
 }
 
-/// Properties 1, sorted by name and then by value.
+/// The properties that the worker has to have, sorted by name and then by value.
 #[derive(Debug, Drop)]
 pub struct Platform {
     pub properties: Items<Property>,
@@ -144,7 +147,7 @@ impl Message for Platform {
     #[tactic(auto, unfolding(crate::specs::Parts::part_checked))]
     fn check_field(number: u32, value: Value<'_>, read: &Fields<'_>) -> Result<(), WireFault> {
         match number {
-            1 => check_message::<Property>(number, value, read),
+            platform::PROPERTIES => check_message::<Property>(number, value, read),
             _ => Ok(()),
         }
     }
@@ -154,13 +157,13 @@ impl Message for Platform {
         alloc: Global,
         list: &FieldList<'_, Platform>,
     ) -> Result<Platform, MessageFault> {
-        let properties = list.messages(alloc, 1)?;
+        let properties = list.messages(alloc, platform::PROPERTIES)?;
         Ok(Platform { properties })
     }
 
     #[tactic(auto, unfolding(crate::specs::Commands::platform_fields))]
     fn write(&self, alloc: Global, out: &mut Writer<Platform>) -> Result<(), NoMemory> {
-        out.messages(alloc, 1, &self.properties)
+        out.messages(alloc, platform::PROPERTIES, &self.properties)
     }
 
     fn has_one_form(&self, alloc: Global, bytes: &[u8]) -> Result<bool, NoMemory> {
@@ -168,8 +171,7 @@ impl Message for Platform {
     }
 }
 
-/// What is run: arguments 1, environment_variables 2, output_files 3, output_directories 4, platform 5,
-/// working_directory 6, output_paths 7.
+/// What is run.
 #[derive(Debug, Drop)]
 pub struct Command {
     pub arguments: Items<Text>,
@@ -202,22 +204,28 @@ impl Message for Command {
     #[tactic(auto, unfolding(crate::specs::Parts::part_checked))]
     fn check_field(number: u32, value: Value<'_>, read: &Fields<'_>) -> Result<(), WireFault> {
         match number {
-            1 | 3 | 4 | 6 | 7 => check_text(number, value, read),
-            2 => check_message::<EnvironmentVariable>(number, value, read),
-            5 => check_message::<Platform>(number, value, read),
+            command::ARGUMENTS
+            | command::OUTPUT_FILES
+            | command::OUTPUT_DIRECTORIES
+            | command::WORKING_DIRECTORY
+            | command::OUTPUT_PATHS => check_text(number, value, read),
+            command::ENVIRONMENT_VARIABLES => check_message::<EnvironmentVariable>(
+                number, value, read,
+            ),
+            command::PLATFORM => check_message::<Platform>(number, value, read),
             _ => Ok(()),
         }
     }
 
     #[tactic(auto, unfolding(crate::specs::Commands::command_from))]
     fn from_fields(alloc: Global, list: &FieldList<'_, Command>) -> Result<Command, MessageFault> {
-        let arguments = list.texts(alloc, 1)?;
-        let environment_variables = list.messages(alloc, 2)?;
-        let output_files = list.texts(alloc, 3)?;
-        let output_directories = list.texts(alloc, 4)?;
-        let platform = list.message(alloc, 5)?;
-        let working_directory = list.text(alloc, 6)?;
-        let output_paths = list.texts(alloc, 7)?;
+        let arguments = list.texts(alloc, command::ARGUMENTS)?;
+        let environment_variables = list.messages(alloc, command::ENVIRONMENT_VARIABLES)?;
+        let output_files = list.texts(alloc, command::OUTPUT_FILES)?;
+        let output_directories = list.texts(alloc, command::OUTPUT_DIRECTORIES)?;
+        let platform = list.message(alloc, command::PLATFORM)?;
+        let working_directory = list.text(alloc, command::WORKING_DIRECTORY)?;
+        let output_paths = list.texts(alloc, command::OUTPUT_PATHS)?;
         Ok(Command {
             arguments,
             environment_variables,
@@ -231,13 +239,17 @@ impl Message for Command {
 
     #[tactic(auto, unfolding(crate::specs::Commands::command_fields))]
     fn write(&self, alloc: Global, out: &mut Writer<Command>) -> Result<(), NoMemory> {
-        out.texts(1, &self.arguments)?;
-        out.messages(alloc, 2, &self.environment_variables)?;
-        out.texts(3, &self.output_files)?;
-        out.texts(4, &self.output_directories)?;
-        out.message(alloc, 5, &self.platform)?;
-        out.text(6, self.working_directory.as_str())?;
-        out.texts(7, &self.output_paths)
+        out.texts(command::ARGUMENTS, &self.arguments)?;
+        out.messages(
+            alloc,
+            command::ENVIRONMENT_VARIABLES,
+            &self.environment_variables,
+        )?;
+        out.texts(command::OUTPUT_FILES, &self.output_files)?;
+        out.texts(command::OUTPUT_DIRECTORIES, &self.output_directories)?;
+        out.message(alloc, command::PLATFORM, &self.platform)?;
+        out.text(command::WORKING_DIRECTORY, self.working_directory.as_str())?;
+        out.texts(command::OUTPUT_PATHS, &self.output_paths)
     }
 
     fn has_one_form(&self, alloc: Global, bytes: &[u8]) -> Result<bool, NoMemory> {

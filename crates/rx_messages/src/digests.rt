@@ -1,5 +1,5 @@
-//! A Digest as a message: hash 1, as 64 lower-case hexadecimal digits, and size_bytes 2
-//! (`remote_execution.proto`, Digest).
+//! A Digest as a message (`remote_execution.proto`, Digest): the hash as 64 lower-case hexadecimal
+//! digits, and the size.
 
 ghost use Rattle.std.specs.Prelude.{◌≡◌, IfOk, length, string_bytes};
 ghost use Rattle.hex.specs.Hex.{IsBytes, encode_lower};
@@ -9,6 +9,7 @@ use crate::checking::check_text;
 use crate::faults::MessageFault;
 use crate::field_list::FieldList;
 use crate::message::{Message, Shape};
+use crate::numbers::digest;
 use crate::writer::Writer;
 use rx_base::{Digest, NoMemory, read_hash};
 use rx_wire::{Fields, Value, WireFault};
@@ -35,22 +36,22 @@ impl Message for Digest {
     #[tactic(auto, unfolding(crate::specs::Parts::part_checked))]
     fn check_field(number: u32, value: Value<'_>, read: &Fields<'_>) -> Result<(), WireFault> {
         match number {
-            1 => check_text(number, value, read),
+            digest::HASH => check_text(number, value, read),
             _ => Ok(()),
         }
     }
 
     #[tactic(auto, unfolding(crate::specs::Digests::digest_from))]
     fn from_fields(alloc: Global, list: &FieldList<'_, Digest>) -> Result<Digest, MessageFault> {
-        let hash = list.text(alloc, 1)?;
-        digest_of_parts(hash.as_str(), list.number(2))
+        let hash = list.text(alloc, digest::HASH)?;
+        digest_of_parts(hash.as_str(), list.number(digest::SIZE_BYTES))
     }
 
     #[tactic(auto, unfolding(crate::specs::Digests::digest_fields))]
     fn write(&self, alloc: Global, out: &mut Writer<Digest>) -> Result<(), NoMemory> {
         let hash = hash_text(alloc, self.hash)?;
-        out.text(1, hash.as_str())?;
-        out.number(2, self.size)
+        out.text(digest::HASH, hash.as_str())?;
+        out.number(digest::SIZE_BYTES, self.size)
     }
 
     fn has_one_form(&self, alloc: Global, bytes: &[u8]) -> Result<bool, NoMemory> {
@@ -58,7 +59,7 @@ impl Message for Digest {
     }
 }
 
-/// The greatest size, that of an int64, and one more.
+/// Sizes are below this, since `size_bytes` is an int64.
 const SIZES: u64 = 1 << 63;
 
 /// The digest of a hash's text and a size.

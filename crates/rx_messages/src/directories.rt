@@ -9,12 +9,13 @@ use crate::field_list::FieldList;
 use crate::message::{Message, Shape};
 use crate::names::{Entry, are_distinct, entries_hold, push_names};
 use crate::nodes::{DirectoryNode, FileNode, SymlinkNode};
+use crate::numbers::directory;
 use crate::writer::Writer;
 use rx_base::{Items, NoMemory, Text};
 use rx_wire::{Fields, Value, WireFault};
 use std::alloc::Global;
 
-/// What is directly in a directory: files 1, directories 2, symlinks 3. It may be written in one
+/// What is directly in a directory. It may be written in one
 /// form alone: each list sorted by the bytes of the names, no name twice in the whole, each a name
 /// of a path, each file and directory with its digest, and no byte that isn't written for these.
 #[derive(Debug, Drop)]
@@ -44,9 +45,9 @@ impl Message for Directory {
     #[tactic(auto, unfolding(crate::specs::Parts::part_checked))]
     fn check_field(number: u32, value: Value<'_>, read: &Fields<'_>) -> Result<(), WireFault> {
         match number {
-            1 => check_message::<FileNode>(number, value, read),
-            2 => check_message::<DirectoryNode>(number, value, read),
-            3 => check_message::<SymlinkNode>(number, value, read),
+            directory::FILES => check_message::<FileNode>(number, value, read),
+            directory::DIRECTORIES => check_message::<DirectoryNode>(number, value, read),
+            directory::SYMLINKS => check_message::<SymlinkNode>(number, value, read),
             _ => Ok(()),
         }
     }
@@ -56,9 +57,9 @@ impl Message for Directory {
         alloc: Global,
         list: &FieldList<'_, Directory>,
     ) -> Result<Directory, MessageFault> {
-        let files = list.messages(alloc, 1)?;
-        let directories = list.messages(alloc, 2)?;
-        let symlinks = list.messages(alloc, 3)?;
+        let files = list.messages(alloc, directory::FILES)?;
+        let directories = list.messages(alloc, directory::DIRECTORIES)?;
+        let symlinks = list.messages(alloc, directory::SYMLINKS)?;
         Ok(Directory {
             files,
             directories,
@@ -68,9 +69,9 @@ impl Message for Directory {
 
     #[tactic(auto, unfolding(crate::specs::Directories::directory_fields))]
     fn write(&self, alloc: Global, out: &mut Writer<Directory>) -> Result<(), NoMemory> {
-        out.messages(alloc, 1, &self.files)?;
-        out.messages(alloc, 2, &self.directories)?;
-        out.messages(alloc, 3, &self.symlinks)
+        out.messages(alloc, directory::FILES, &self.files)?;
+        out.messages(alloc, directory::DIRECTORIES, &self.directories)?;
+        out.messages(alloc, directory::SYMLINKS, &self.symlinks)
     }
 
     #[tactic(auto, unfolding(crate::specs::Directories::directory_has_one_form))]

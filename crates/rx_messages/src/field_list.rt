@@ -162,7 +162,8 @@ fn merged_of<N: Message>(alloc: Global, pieces: &[&[u8]]) -> Result<N, MessageFa
 /// The messages that these bytes are, each by itself.
 fn messages_of<N: Message>(alloc: Global, pieces: &[&[u8]]) -> Result<Vec<N>, MessageFault>
     requires { AllByRecursion (IsMessage N.parts) (slices pieces.now) }
-    ensures { Gives NoMemory (λ messages. messages.items) result (each_of N.from (slices pieces.now)) }
+    ensures { Gives NoMemory (λ messages. messages.items) result
+        (each_of N.from (slices pieces.now)) }
 {
     let mut messages = Vec::new(alloc);
     for piece in pieces {

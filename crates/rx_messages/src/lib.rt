@@ -3,7 +3,8 @@
 #![tactic(auto)]
 
 mod actions;
-mod batches;
+mod batch_reads;
+mod batch_updates;
 mod blobs;
 mod checking;
 mod chunks;
@@ -15,6 +16,7 @@ mod field_list;
 mod message;
 mod names;
 mod nodes;
+mod numbers;
 mod outputs;
 mod results;
 mod statuses;
@@ -22,9 +24,9 @@ mod trees;
 mod writer;
 
 pub use actions::{Action, Duration};
-pub use batches::{
-    BatchReadBlobsRequest, BatchReadBlobsResponse, BatchUpdateBlobsRequest,
-    BatchUpdateBlobsResponse, BlobRead, BlobUpdate, BlobUpdated,
+pub use batch_reads::{BatchReadBlobsRequest, BatchReadBlobsResponse, BlobRead};
+pub use batch_updates::{
+    BatchUpdateBlobsRequest, BatchUpdateBlobsResponse, BlobUpdate, BlobUpdated,
 };
 pub use blobs::{FindMissingBlobsRequest, FindMissingBlobsResponse};
 pub use commands::{Command, EnvironmentVariable, Platform, Property};
@@ -38,6 +40,3 @@ pub use results::ActionResult;
 pub use statuses::{Any, Status};
 pub use trees::Tree;
 pub use writer::Writer;
-
-#[cfg(test)]
-mod tests;

@@ -40,7 +40,8 @@ pub trait Message: Shape + Sized + Drop {
 
     /// Whether the field that was read last is text, or a message, where it has to be.
     fn check_field(number: u32, value: Value<'_>, read: &Fields<'_>) -> Result<(), WireFault>
-        ensures { result ≡ field_checked Self.parts read.now.bytes (placed_before number value.entry read.now) };
+        ensures { result ≡ field_checked Self.parts read.now.bytes
+            (placed_before number value.entry read.now) };
 
     /// The message that these fields mean.
     fn from_fields(alloc: Global, list: &FieldList<'_, Self>) -> Result<Self, MessageFault>
@@ -51,7 +52,9 @@ pub trait Message: Shape + Sized + Drop {
         ensures written { OnOk result (out.new ≡ out.old ++ fields self.now) }
         ensures again { IsOk result → IsReadable self.now → from (fields self.now) ≡ Ok self.now }
         // What is read again is written in the one form, where it has but one.
-        ensures form { IsOk result → IsReadable self.now → fields_in (fields_bytes (fields self.now)) ≡ fields self.now → is_canonical (fields_bytes (fields self.now)) self.now ≡ true };
+        ensures form { IsOk result → IsReadable self.now →
+            fields_in (fields_bytes (fields self.now)) ≡ fields self.now →
+            is_canonical (fields_bytes (fields self.now)) self.now ≡ true };
 
     /// Whether these bytes are the one form of this message.
     fn has_one_form(&self, alloc: Global, bytes: &[u8]) -> Result<bool, NoMemory>
@@ -61,7 +64,8 @@ pub trait Message: Shape + Sized + Drop {
     final fn encode(&self, alloc: Global) -> Result<Vec<u8>, NoMemory>
         ensures bytes { IfOk result (λ bytes. bytes.items ≡ fields_bytes (fields self.now)) }
         // What is written is read again.
-        ensures again { IfOk result (λ bytes. IsReadable self.now → decoded Self.parts from is_canonical bytes.items ≡ Ok self.now) }
+        ensures again { IfOk result (λ bytes. IsReadable self.now →
+            decoded Self.parts from is_canonical bytes.items ≡ Ok self.now) }
     {
         let mut out = Writer::new(alloc);
         self.write(alloc, &mut out)?;
@@ -70,11 +74,13 @@ pub trait Message: Shape + Sized + Drop {
 
     /// The message of some bytes.
     final fn decode(alloc: Global, bytes: &[u8]) -> Result<Self, MessageFault>
-        ensures exact { Gives NoMemory (λ x. x) result (decoded Self.parts from is_canonical bytes.now) }
+        ensures exact { Gives NoMemory (λ x. x) result
+            (decoded Self.parts from is_canonical bytes.now) }
         // What is read is spelled so.
         ensures spelled { IfOk result (λ message. Means Self.parts from bytes.now message) }
         // Fields in any spelling are read by what they mean.
-        ensures any { (list : List Field) → SpellsFields list bytes.now → HasParts Self.parts list → Gives NoMemory (λ x. x) result (formed is_canonical bytes.now (from list)) }
+        ensures any { (list : List Field) → SpellsFields list bytes.now → HasParts Self.parts list →
+            Gives NoMemory (λ x. x) result (formed is_canonical bytes.now (from list)) }
     {
         decode_exactly(alloc, bytes)
     }

@@ -4,12 +4,13 @@ use crate::checking::{check_message, check_text};
 use crate::faults::MessageFault;
 use crate::field_list::FieldList;
 use crate::message::{Message, Shape};
+use crate::numbers::{directory_node, file_node, symlink_node};
 use crate::writer::Writer;
 use rx_base::{Digest, NoMemory, Text};
 use rx_wire::{Fields, Value, WireFault};
 use std::alloc::Global;
 
-/// A file: name 1, digest 2, is_executable 4.
+/// A file in a directory.
 #[derive(Debug, Drop)]
 pub struct FileNode {
     pub name: Text,
@@ -38,8 +39,8 @@ impl Message for FileNode {
     #[tactic(auto, unfolding(crate::specs::Parts::part_checked))]
     fn check_field(number: u32, value: Value<'_>, read: &Fields<'_>) -> Result<(), WireFault> {
         match number {
-            1 => check_text(number, value, read),
-            2 => check_message::<Digest>(number, value, read),
+            file_node::NAME => check_text(number, value, read),
+            file_node::DIGEST => check_message::<Digest>(number, value, read),
             _ => Ok(()),
         }
     }
@@ -49,9 +50,9 @@ impl Message for FileNode {
         alloc: Global,
         list: &FieldList<'_, FileNode>,
     ) -> Result<FileNode, MessageFault> {
-        let name = list.text(alloc, 1)?;
-        let digest = list.message(alloc, 2)?;
-        let is_executable = list.truth(4);
+        let name = list.text(alloc, file_node::NAME)?;
+        let digest = list.message(alloc, file_node::DIGEST)?;
+        let is_executable = list.truth(file_node::IS_EXECUTABLE);
         Ok(FileNode {
             name,
             digest,
@@ -61,9 +62,9 @@ impl Message for FileNode {
 
     #[tactic(auto, unfolding(crate::specs::Nodes::file_node_fields))]
     fn write(&self, alloc: Global, out: &mut Writer<FileNode>) -> Result<(), NoMemory> {
-        out.text(1, self.name.as_str())?;
-        out.message(alloc, 2, &self.digest)?;
-        out.truth(4, self.is_executable)
+        out.text(file_node::NAME, self.name.as_str())?;
+        out.message(alloc, file_node::DIGEST, &self.digest)?;
+        out.truth(file_node::IS_EXECUTABLE, self.is_executable)
     }
 
     fn has_one_form(&self, alloc: Global, bytes: &[u8]) -> Result<bool, NoMemory> {
@@ -71,7 +72,7 @@ impl Message for FileNode {
     }
 }
 
-/// A directory within another: name 1, and the digest 2 of its Directory's bytes.
+/// A directory within another, by the digest of its Directory's bytes.
 #[derive(Debug, Drop)]
 pub struct DirectoryNode {
     pub name: Text,
@@ -99,8 +100,8 @@ impl Message for DirectoryNode {
     #[tactic(auto, unfolding(crate::specs::Parts::part_checked))]
     fn check_field(number: u32, value: Value<'_>, read: &Fields<'_>) -> Result<(), WireFault> {
         match number {
-            1 => check_text(number, value, read),
-            2 => check_message::<Digest>(number, value, read),
+            directory_node::NAME => check_text(number, value, read),
+            directory_node::DIGEST => check_message::<Digest>(number, value, read),
             _ => Ok(()),
         }
     }
@@ -110,15 +111,15 @@ impl Message for DirectoryNode {
         alloc: Global,
         list: &FieldList<'_, DirectoryNode>,
     ) -> Result<DirectoryNode, MessageFault> {
-        let name = list.text(alloc, 1)?;
-        let digest = list.message(alloc, 2)?;
+        let name = list.text(alloc, directory_node::NAME)?;
+        let digest = list.message(alloc, directory_node::DIGEST)?;
         Ok(DirectoryNode { name, digest })
     }
 
     #[tactic(auto, unfolding(crate::specs::Nodes::directory_node_fields))]
     fn write(&self, alloc: Global, out: &mut Writer<DirectoryNode>) -> Result<(), NoMemory> {
-        out.text(1, self.name.as_str())?;
-        out.message(alloc, 2, &self.digest)
+        out.text(directory_node::NAME, self.name.as_str())?;
+        out.message(alloc, directory_node::DIGEST, &self.digest)
     }
 
     fn has_one_form(&self, alloc: Global, bytes: &[u8]) -> Result<bool, NoMemory> {
@@ -126,7 +127,7 @@ impl Message for DirectoryNode {
     }
 }
 
-/// A symbolic link: name 1, target 2.
+/// A symbolic link.
 #[derive(Debug, Drop)]
 pub struct SymlinkNode {
     pub name: Text,
@@ -154,7 +155,7 @@ impl Message for SymlinkNode {
     #[tactic(auto, unfolding(crate::specs::Parts::part_checked))]
     fn check_field(number: u32, value: Value<'_>, read: &Fields<'_>) -> Result<(), WireFault> {
         match number {
-            1 | 2 => check_text(number, value, read),
+            symlink_node::NAME | symlink_node::TARGET => check_text(number, value, read),
             _ => Ok(()),
         }
     }
@@ -164,15 +165,15 @@ impl Message for SymlinkNode {
         alloc: Global,
         list: &FieldList<'_, SymlinkNode>,
     ) -> Result<SymlinkNode, MessageFault> {
-        let name = list.text(alloc, 1)?;
-        let target = list.text(alloc, 2)?;
+        let name = list.text(alloc, symlink_node::NAME)?;
+        let target = list.text(alloc, symlink_node::TARGET)?;
         Ok(SymlinkNode { name, target })
     }
 
     #[tactic(auto, unfolding(crate::specs::Nodes::symlink_node_fields))]
     fn write(&self, alloc: Global, out: &mut Writer<SymlinkNode>) -> Result<(), NoMemory> {
-        out.text(1, self.name.as_str())?;
-        out.text(2, self.target.as_str())
+        out.text(symlink_node::NAME, self.name.as_str())?;
+        out.text(symlink_node::TARGET, self.target.as_str())
     }
 
     fn has_one_form(&self, alloc: Global, bytes: &[u8]) -> Result<bool, NoMemory> {

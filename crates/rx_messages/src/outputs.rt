@@ -4,12 +4,13 @@ use crate::checking::{check_message, check_text};
 use crate::faults::MessageFault;
 use crate::field_list::FieldList;
 use crate::message::{Message, Shape};
+use crate::numbers::{output_directory, output_file, output_symlink};
 use crate::writer::Writer;
 use rx_base::{Bytes, Digest, NoMemory, Text};
 use rx_wire::{Fields, Value, WireFault};
 use std::alloc::Global;
 
-/// A file: path 1, digest 2, is_executable 4, contents 5.
+/// A file that a command wrote; its contents may stand here too.
 #[derive(Debug, Drop)]
 pub struct OutputFile {
     pub path: Text,
@@ -39,8 +40,8 @@ impl Message for OutputFile {
     #[tactic(auto, unfolding(crate::specs::Parts::part_checked))]
     fn check_field(number: u32, value: Value<'_>, read: &Fields<'_>) -> Result<(), WireFault> {
         match number {
-            1 => check_text(number, value, read),
-            2 => check_message::<Digest>(number, value, read),
+            output_file::PATH => check_text(number, value, read),
+            output_file::DIGEST => check_message::<Digest>(number, value, read),
             _ => Ok(()),
         }
     }
@@ -50,10 +51,10 @@ impl Message for OutputFile {
         alloc: Global,
         list: &FieldList<'_, OutputFile>,
     ) -> Result<OutputFile, MessageFault> {
-        let path = list.text(alloc, 1)?;
-        let digest = list.message(alloc, 2)?;
-        let is_executable = list.truth(4);
-        let contents = list.bytes(alloc, 5)?;
+        let path = list.text(alloc, output_file::PATH)?;
+        let digest = list.message(alloc, output_file::DIGEST)?;
+        let is_executable = list.truth(output_file::IS_EXECUTABLE);
+        let contents = list.bytes(alloc, output_file::CONTENTS)?;
         Ok(OutputFile {
             path,
             digest,
@@ -64,10 +65,10 @@ impl Message for OutputFile {
 
     #[tactic(auto, unfolding(crate::specs::Outputs::output_file_fields))]
     fn write(&self, alloc: Global, out: &mut Writer<OutputFile>) -> Result<(), NoMemory> {
-        out.text(1, self.path.as_str())?;
-        out.message(alloc, 2, &self.digest)?;
-        out.truth(4, self.is_executable)?;
-        out.bytes(5, self.contents.as_slice())
+        out.text(output_file::PATH, self.path.as_str())?;
+        out.message(alloc, output_file::DIGEST, &self.digest)?;
+        out.truth(output_file::IS_EXECUTABLE, self.is_executable)?;
+        out.bytes(output_file::CONTENTS, self.contents.as_slice())
     }
 
     fn has_one_form(&self, alloc: Global, bytes: &[u8]) -> Result<bool, NoMemory> {
@@ -75,7 +76,7 @@ impl Message for OutputFile {
     }
 }
 
-/// A directory: path 1, and the digest 3 of its Tree's bytes.
+/// A directory that a command wrote, by the digest of its Tree's bytes.
 #[derive(Debug, Drop)]
 pub struct OutputDirectory {
     pub path: Text,
@@ -103,8 +104,8 @@ impl Message for OutputDirectory {
     #[tactic(auto, unfolding(crate::specs::Parts::part_checked))]
     fn check_field(number: u32, value: Value<'_>, read: &Fields<'_>) -> Result<(), WireFault> {
         match number {
-            1 => check_text(number, value, read),
-            3 => check_message::<Digest>(number, value, read),
+            output_directory::PATH => check_text(number, value, read),
+            output_directory::TREE_DIGEST => check_message::<Digest>(number, value, read),
             _ => Ok(()),
         }
     }
@@ -114,15 +115,15 @@ impl Message for OutputDirectory {
         alloc: Global,
         list: &FieldList<'_, OutputDirectory>,
     ) -> Result<OutputDirectory, MessageFault> {
-        let path = list.text(alloc, 1)?;
-        let tree_digest = list.message(alloc, 3)?;
+        let path = list.text(alloc, output_directory::PATH)?;
+        let tree_digest = list.message(alloc, output_directory::TREE_DIGEST)?;
         Ok(OutputDirectory { path, tree_digest })
     }
 
     #[tactic(auto, unfolding(crate::specs::Outputs::output_directory_fields))]
     fn write(&self, alloc: Global, out: &mut Writer<OutputDirectory>) -> Result<(), NoMemory> {
-        out.text(1, self.path.as_str())?;
-        out.message(alloc, 3, &self.tree_digest)
+        out.text(output_directory::PATH, self.path.as_str())?;
+        out.message(alloc, output_directory::TREE_DIGEST, &self.tree_digest)
     }
 
     fn has_one_form(&self, alloc: Global, bytes: &[u8]) -> Result<bool, NoMemory> {
@@ -130,7 +131,7 @@ impl Message for OutputDirectory {
     }
 }
 
-/// A symbolic link: path 1, target 2.
+/// A symbolic link that a command made.
 #[derive(Debug, Drop)]
 pub struct OutputSymlink {
     pub path: Text,
@@ -158,7 +159,7 @@ impl Message for OutputSymlink {
     #[tactic(auto, unfolding(crate::specs::Parts::part_checked))]
     fn check_field(number: u32, value: Value<'_>, read: &Fields<'_>) -> Result<(), WireFault> {
         match number {
-            1 | 2 => check_text(number, value, read),
+            output_symlink::PATH | output_symlink::TARGET => check_text(number, value, read),
             _ => Ok(()),
         }
     }
@@ -168,15 +169,15 @@ impl Message for OutputSymlink {
         alloc: Global,
         list: &FieldList<'_, OutputSymlink>,
     ) -> Result<OutputSymlink, MessageFault> {
-        let path = list.text(alloc, 1)?;
-        let target = list.text(alloc, 2)?;
+        let path = list.text(alloc, output_symlink::PATH)?;
+        let target = list.text(alloc, output_symlink::TARGET)?;
         Ok(OutputSymlink { path, target })
     }
 
     #[tactic(auto, unfolding(crate::specs::Outputs::output_symlink_fields))]
     fn write(&self, alloc: Global, out: &mut Writer<OutputSymlink>) -> Result<(), NoMemory> {
-        out.text(1, self.path.as_str())?;
-        out.text(2, self.target.as_str())
+        out.text(output_symlink::PATH, self.path.as_str())?;
+        out.text(output_symlink::TARGET, self.target.as_str())
     }
 
     fn has_one_form(&self, alloc: Global, bytes: &[u8]) -> Result<bool, NoMemory> {

@@ -4,15 +4,14 @@ use crate::checking::check_message;
 use crate::faults::MessageFault;
 use crate::field_list::FieldList;
 use crate::message::{Message, Shape};
+use crate::numbers::action_result;
 use crate::outputs::{OutputDirectory, OutputFile, OutputSymlink};
 use crate::writer::Writer;
 use rx_base::{Bytes, Digest, Items, NoMemory};
 use rx_wire::{Fields, Value, WireFault};
 use std::alloc::Global;
 
-/// How a command ended: output_files 2, output_directories 3, exit_code 4, stdout_raw 5, stdout_digest 6,
-/// stderr_raw 7, stderr_digest 8, execution_metadata 9 as the bytes of its pieces, joined, and
-/// output_symlinks 12.
+/// How a command ended. Of execution_metadata only the bytes of its pieces, joined, are kept.
 #[derive(Debug, Drop)]
 pub struct ActionResult {
     pub output_files: Items<OutputFile>,
@@ -47,10 +46,14 @@ impl Message for ActionResult {
     #[tactic(auto, unfolding(crate::specs::Parts::part_checked))]
     fn check_field(number: u32, value: Value<'_>, read: &Fields<'_>) -> Result<(), WireFault> {
         match number {
-            2 => check_message::<OutputFile>(number, value, read),
-            3 => check_message::<OutputDirectory>(number, value, read),
-            6 | 8 => check_message::<Digest>(number, value, read),
-            12 => check_message::<OutputSymlink>(number, value, read),
+            action_result::OUTPUT_FILES => check_message::<OutputFile>(number, value, read),
+            action_result::OUTPUT_DIRECTORIES => check_message::<OutputDirectory>(
+                number, value, read,
+            ),
+            action_result::STDOUT_DIGEST | action_result::STDERR_DIGEST => check_message::<Digest>(
+                number, value, read,
+            ),
+            action_result::OUTPUT_SYMLINKS => check_message::<OutputSymlink>(number, value, read),
             _ => Ok(()),
         }
     }
@@ -60,15 +63,15 @@ impl Message for ActionResult {
         alloc: Global,
         list: &FieldList<'_, ActionResult>,
     ) -> Result<ActionResult, MessageFault> {
-        let output_files = list.messages(alloc, 2)?;
-        let output_directories = list.messages(alloc, 3)?;
-        let exit_code = list.int32(4);
-        let stdout_raw = list.bytes(alloc, 5)?;
-        let stdout_digest = list.message(alloc, 6)?;
-        let stderr_raw = list.bytes(alloc, 7)?;
-        let stderr_digest = list.message(alloc, 8)?;
-        let execution_metadata = list.joined(alloc, 9)?;
-        let output_symlinks = list.messages(alloc, 12)?;
+        let output_files = list.messages(alloc, action_result::OUTPUT_FILES)?;
+        let output_directories = list.messages(alloc, action_result::OUTPUT_DIRECTORIES)?;
+        let exit_code = list.int32(action_result::EXIT_CODE);
+        let stdout_raw = list.bytes(alloc, action_result::STDOUT_RAW)?;
+        let stdout_digest = list.message(alloc, action_result::STDOUT_DIGEST)?;
+        let stderr_raw = list.bytes(alloc, action_result::STDERR_RAW)?;
+        let stderr_digest = list.message(alloc, action_result::STDERR_DIGEST)?;
+        let execution_metadata = list.joined(alloc, action_result::EXECUTION_METADATA)?;
+        let output_symlinks = list.messages(alloc, action_result::OUTPUT_SYMLINKS)?;
         Ok(ActionResult {
             output_files,
             output_directories,
@@ -85,15 +88,22 @@ impl Message for ActionResult {
     #[tactic(auto, unfolding(crate::specs::Results::action_result_fields))]
     fn write(&self, alloc: Global, out: &mut Writer<ActionResult>) -> Result<(), NoMemory> {
         let exit_code = self.exit_code;
-        out.messages(alloc, 2, &self.output_files)?;
-        out.messages(alloc, 3, &self.output_directories)?;
-        out.int32(4, exit_code)?;
-        out.bytes(5, self.stdout_raw.as_slice())?;
-        out.message(alloc, 6, &self.stdout_digest)?;
-        out.bytes(7, self.stderr_raw.as_slice())?;
-        out.message(alloc, 8, &self.stderr_digest)?;
-        out.bytes(9, self.execution_metadata.as_slice())?;
-        out.messages(alloc, 12, &self.output_symlinks)
+        out.messages(alloc, action_result::OUTPUT_FILES, &self.output_files)?;
+        out.messages(
+            alloc,
+            action_result::OUTPUT_DIRECTORIES,
+            &self.output_directories,
+        )?;
+        out.int32(action_result::EXIT_CODE, exit_code)?;
+        out.bytes(action_result::STDOUT_RAW, self.stdout_raw.as_slice())?;
+        out.message(alloc, action_result::STDOUT_DIGEST, &self.stdout_digest)?;
+        out.bytes(action_result::STDERR_RAW, self.stderr_raw.as_slice())?;
+        out.message(alloc, action_result::STDERR_DIGEST, &self.stderr_digest)?;
+        out.bytes(
+            action_result::EXECUTION_METADATA,
+            self.execution_metadata.as_slice(),
+        )?;
+        out.messages(alloc, action_result::OUTPUT_SYMLINKS, &self.output_symlinks)
     }
 
     fn has_one_form(&self, alloc: Global, bytes: &[u8]) -> Result<bool, NoMemory> {

@@ -4,12 +4,13 @@ use crate::checking::{check_message, check_text};
 use crate::faults::MessageFault;
 use crate::field_list::FieldList;
 use crate::message::{Message, Shape};
+use crate::numbers::{any, status};
 use crate::writer::Writer;
 use rx_base::{Bytes, Items, NoMemory, Text};
 use rx_wire::{Fields, Value, WireFault};
 use std::alloc::Global;
 
-/// A message of any kind: type_url 1, value 2.
+/// A message of any kind, by the name of its type and its bytes.
 #[derive(Debug, Drop)]
 pub struct Any {
     pub type_url: Text,
@@ -37,22 +38,22 @@ impl Message for Any {
     #[tactic(auto, unfolding(crate::specs::Parts::part_checked))]
     fn check_field(number: u32, value: Value<'_>, read: &Fields<'_>) -> Result<(), WireFault> {
         match number {
-            1 => check_text(number, value, read),
+            any::TYPE_URL => check_text(number, value, read),
             _ => Ok(()),
         }
     }
 
     #[tactic(auto, unfolding(crate::specs::Statuses::any_from))]
     fn from_fields(alloc: Global, list: &FieldList<'_, Any>) -> Result<Any, MessageFault> {
-        let type_url = list.text(alloc, 1)?;
-        let value = list.bytes(alloc, 2)?;
+        let type_url = list.text(alloc, any::TYPE_URL)?;
+        let value = list.bytes(alloc, any::VALUE)?;
         Ok(Any { type_url, value })
     }
 
     #[tactic(auto, unfolding(crate::specs::Statuses::any_fields))]
     fn write(&self, alloc: Global, out: &mut Writer<Any>) -> Result<(), NoMemory> {
-        out.text(1, self.type_url.as_str())?;
-        out.bytes(2, self.value.as_slice())
+        out.text(any::TYPE_URL, self.type_url.as_str())?;
+        out.bytes(any::VALUE, self.value.as_slice())
     }
 
     fn has_one_form(&self, alloc: Global, bytes: &[u8]) -> Result<bool, NoMemory> {
@@ -60,7 +61,7 @@ impl Message for Any {
     }
 }
 
-/// A gRPC status: code 1, message 2, details 3.
+/// A gRPC status.
 #[derive(Debug, Drop)]
 pub struct Status {
     pub code: i32,
@@ -89,17 +90,17 @@ impl Message for Status {
     #[tactic(auto, unfolding(crate::specs::Parts::part_checked))]
     fn check_field(number: u32, value: Value<'_>, read: &Fields<'_>) -> Result<(), WireFault> {
         match number {
-            2 => check_text(number, value, read),
-            3 => check_message::<Any>(number, value, read),
+            status::MESSAGE => check_text(number, value, read),
+            status::DETAILS => check_message::<Any>(number, value, read),
             _ => Ok(()),
         }
     }
 
     #[tactic(auto, unfolding(crate::specs::Statuses::status_from))]
     fn from_fields(alloc: Global, list: &FieldList<'_, Status>) -> Result<Status, MessageFault> {
-        let code = list.int32(1);
-        let message = list.text(alloc, 2)?;
-        let details = list.messages(alloc, 3)?;
+        let code = list.int32(status::CODE);
+        let message = list.text(alloc, status::MESSAGE)?;
+        let details = list.messages(alloc, status::DETAILS)?;
         Ok(Status {
             code,
             message,
@@ -110,9 +111,9 @@ impl Message for Status {
     #[tactic(auto, unfolding(crate::specs::Statuses::status_fields))]
     fn write(&self, alloc: Global, out: &mut Writer<Status>) -> Result<(), NoMemory> {
         let code = self.code;
-        out.int32(1, code)?;
-        out.text(2, self.message.as_str())?;
-        out.messages(alloc, 3, &self.details)
+        out.int32(status::CODE, code)?;
+        out.text(status::MESSAGE, self.message.as_str())?;
+        out.messages(alloc, status::DETAILS, &self.details)
     }
 
     fn has_one_form(&self, alloc: Global, bytes: &[u8]) -> Result<bool, NoMemory> {

@@ -10,12 +10,13 @@ use crate::directories::Directory;
 use crate::faults::MessageFault;
 use crate::field_list::FieldList;
 use crate::message::{Message, Shape};
+use crate::numbers::tree;
 use crate::writer::Writer;
 use rx_base::{Items, NoMemory};
 use rx_wire::{Fields, Value, WireFault};
 use std::alloc::Global;
 
-/// A directory with all below it: root 1, children 2, each Directory in its one form.
+/// A directory with all below it, each Directory in its one form.
 #[derive(Debug, Drop)]
 pub struct Tree {
     pub root: Option<Directory>,
@@ -42,22 +43,22 @@ impl Message for Tree {
     #[tactic(auto, unfolding(crate::specs::Parts::part_checked))]
     fn check_field(number: u32, value: Value<'_>, read: &Fields<'_>) -> Result<(), WireFault> {
         match number {
-            1 | 2 => check_message::<Directory>(number, value, read),
+            tree::ROOT | tree::CHILDREN => check_message::<Directory>(number, value, read),
             _ => Ok(()),
         }
     }
 
     #[tactic(auto, unfolding(crate::specs::Trees::tree_from))]
     fn from_fields(alloc: Global, list: &FieldList<'_, Tree>) -> Result<Tree, MessageFault> {
-        let root = list.message(alloc, 1)?;
-        let children = list.messages(alloc, 2)?;
+        let root = list.message(alloc, tree::ROOT)?;
+        let children = list.messages(alloc, tree::CHILDREN)?;
         Ok(Tree { root, children })
     }
 
     #[tactic(auto, unfolding(crate::specs::Trees::tree_fields))]
     fn write(&self, alloc: Global, out: &mut Writer<Tree>) -> Result<(), NoMemory> {
-        out.message(alloc, 1, &self.root)?;
-        out.messages(alloc, 2, &self.children)
+        out.message(alloc, tree::ROOT, &self.root)?;
+        out.messages(alloc, tree::CHILDREN, &self.children)
     }
 
     #[tactic(auto, unfolding(crate::specs::Trees::tree_has_one_form))]

@@ -157,7 +157,8 @@ impl<M: Shape> Writer<M> {
         requires above { 0 < number }
         requires below { number < 2 ^ 29 }
         requires part { M.parts number ≡ text }
-        ensures fields { OnOk result (self.new ≡ self.old ++ numbered number (texts_put values.now)) }
+        ensures fields { OnOk result
+            (self.new ≡ self.old ++ numbered number (texts_put values.now)) }
         ensures again { texts_in (texts_put values.now) ≡ values.now }
     {
         self.push_texts(number, values.as_slice())
@@ -188,8 +189,10 @@ impl<M: Shape> Writer<M> {
         requires above { 0 < number }
         requires below { number < 2 ^ 29 }
         requires part { M.parts number ≡ message N.parts }
-        ensures fields { OnOk result (self.new ≡ self.old ++ numbered number (one_put N.fields value.now)) }
-        ensures again { IsOk result → IfSome value.now N.IsReadable → one_in N.from (one_put N.fields value.now) ≡ Ok value.now }
+        ensures fields { OnOk result
+            (self.new ≡ self.old ++ numbered number (one_put N.fields value.now)) }
+        ensures again { IsOk result → IfSome value.now N.IsReadable →
+            one_in N.from (one_put N.fields value.now) ≡ Ok value.now }
     {
         match value {
             None => Ok(()),
@@ -207,8 +210,10 @@ impl<M: Shape> Writer<M> {
         requires above { 0 < number }
         requires below { number < 2 ^ 29 }
         requires part { M.parts number ≡ message N.parts }
-        ensures fields { OnOk result (self.new ≡ self.old ++ numbered number (bytes (fields_bytes (N.fields value.now)) ∷ [])) }
-        ensures again { IsOk result → N.IsReadable value.now → N.from (fields_in (fields_bytes (N.fields value.now))) ≡ Ok value.now }
+        ensures fields { OnOk result (self.new
+            ≡ self.old ++ numbered number (bytes (fields_bytes (N.fields value.now)) ∷ [])) }
+        ensures again { IsOk result → N.IsReadable value.now →
+            N.from (fields_in (fields_bytes (N.fields value.now))) ≡ Ok value.now }
     {
         let mut out = Writer::<N>::new(alloc);
         value.write(alloc, &mut out)?;
@@ -225,8 +230,10 @@ impl<M: Shape> Writer<M> {
         requires above { 0 < number }
         requires below { number < 2 ^ 29 }
         requires part { M.parts number ≡ message N.parts }
-        ensures fields { OnOk result (self.new ≡ self.old ++ numbered number (each_put N.fields values.now)) }
-        ensures again { IsOk result → AllByRecursion N.IsReadable values.now → each_in N.from (each_put N.fields values.now) ≡ Ok values.now }
+        ensures fields { OnOk result
+            (self.new ≡ self.old ++ numbered number (each_put N.fields values.now)) }
+        ensures again { IsOk result → AllByRecursion N.IsReadable values.now →
+            each_in N.from (each_put N.fields values.now) ≡ Ok values.now }
     {
         self.push_messages(alloc, number, values.as_slice())
     }
@@ -242,8 +249,10 @@ impl<M: Shape> Writer<M> {
         requires above { 0 < number }
         requires below { number < 2 ^ 29 }
         requires part { M.parts number ≡ message N.parts }
-        ensures fields { OnOk result (self.new ≡ self.old ++ numbered number (each_put N.fields values.now)) }
-        ensures again { IsOk result → AllByRecursion N.IsReadable values.now → each_in N.from (each_put N.fields values.now) ≡ Ok values.now }
+        ensures fields { OnOk result
+            (self.new ≡ self.old ++ numbered number (each_put N.fields values.now)) }
+        ensures again { IsOk result → AllByRecursion N.IsReadable values.now →
+            each_in N.from (each_put N.fields values.now) ≡ Ok values.now }
     {
         for value in values {
             self.push_message(alloc, number, value)?;
