@@ -1,5 +1,5 @@
 -- Each Directory of a tree with names is in its one form.
-use Rattle.std.proofs.Common.{◌≡◌, ◌≢◌, ℕ, zero, suc, ◌+◌, ◌<◌, ◌^◌, ◌==◌, ◌⊎◌, inl, inr, Bool, true, false, List, [], ◌∷◌, ◌++◌, length, map, Option, Some, None, append-nil, length-append, eq-eqb, refl, sym, ap, subst, arith}
+use Rattle.std.proofs.Common.{◌≡◌, ℕ, zero, suc, ◌+◌, ◌<◌, ◌^◌, ◌==◌, ◌⊎◌, inl, inr, Bool, true, false, List, [], ◌∷◌, ◌++◌, length, map, Option, Some, None, append-nil, length-append, eq-eqb, refl, sym, ap, subst, arith}
 use Rattle.std.specs.Prelude.{codes, is_some}
 use Rattle.std.specs.declared.cmp.Ordering.TheVariants.{Less}
 use Rattle.std.specs.Ordering.{nat_cmp}
@@ -7,12 +7,11 @@ use Rattle.std.specs.Cmp.Lexicographic.{slice_cmp}
 use Rattle.std.specs.FinMap.{nat_cmp-IsAntisymmetric, slice_cmp-IsAntisymmetric}
 use Rattle.std.specs.List.{AllByRecursion, Contains, list_all, list_any}
 use Rattle.std.specs.List.Sorted.{IsStrictlySortedBy}
-use Rattle.std.proofs.lemmas.Bool.{eqb-true, ne_eqb}
+use Rattle.std.proofs.lemmas.Bool.{ne_eqb}
 use Rattle.std.proofs.lemmas.Cmp.{nat_list_cmp_total}
 use Rattle.std.proofs.lemmas.List.Elements.{Contains-append_cases, Contains-append_left, Contains-append_right}
 use Rattle.rx_base.specs.Paths.{IsName, Lacks}
 use Rattle.rx_base.specs.SortedPaths.{sorted_once}
-use Rattle.rx_base.proofs.PathLemmas.{not_true}
 use Rattle.rx_base.proofs.Orders.{IsStrictlySortedBy-sorted_once, is_sorted_once}
 use Rattle.rx_messages.specs.Directories.{directory_is_readable, entry_names, is_canonical, lists_hold}
 use Rattle.rx_messages.specs.Names.{are_distinct, are_sorted, entries_hold, entry_holds, is_name}

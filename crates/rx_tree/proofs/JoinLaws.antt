@@ -1,12 +1,12 @@
 -- A name on from a path.
-use Rattle.std.proofs.Common.{◌≡◌, ◌∙◌, ℕ, ◌≤◌, false, List, [], ◌∷◌, ◌++◌, length, nat_lt, Ok, append-nil, append_assoc, length-append, refl, ap, arith}
+use Rattle.std.proofs.Common.{◌≡◌, ℕ, ◌≤◌, List, [], ◌∷◌, ◌++◌, length, Ok, length-append, refl, ap, arith}
 use Rattle.std.specs.List.{AllByRecursion}
 use Rattle.std.proofs.lemmas.Bool.{le-ltb}
 use Rattle.rx_base.specs.Results.{◌>>=◌}
-use Rattle.rx_base.specs.Paths.{IsName, checked, join_of, joined, longest, path_of, read_of, with_part, with_parts, with_text}
+use Rattle.rx_base.specs.Paths.{IsName, checked, join_of, joined, longest, path_of, read_of, with_text}
 use Rattle.rx_base.specs.declared.digests.Digest.{Digest}
 use Rattle.rx_base.proofs.PathAgain.{parts-joined, read_of-path, with_parts-on, with_text-joined}
-use Rattle.rx_base.proofs.PathLemmas.{joined_push, with_part_name}
+use Rattle.rx_base.proofs.PathLemmas.{joined_push}
 use Rattle.rx_base.proofs.ResultLemmas.{bind_ok}
 use Rattle.rx_base.proofs.ByteLists.{some_bytes}
 use Rattle.rx_tree.specs.Walks.{child_of}

@@ -1,5 +1,5 @@
 -- Members of lists, one by one, and sorted lists with a new first item.
-use Rattle.std.proofs.Common.{◌≡◌, ◌∙◌, ℕ, zero, suc, ◌<◌, ◌⊎◌, inl, inr, List, [], ◌∷◌, ◌++◌, length, get_or, refl, sym, subst, arith, false, ◌+◌}
+use Rattle.std.proofs.Common.{◌≡◌, ◌∙◌, ℕ, suc, inl, inr, List, ◌∷◌, ◌++◌, get_or, refl, sym, subst, arith, false, ◌+◌}
 use Rattle.std.specs.declared.cmp.Ordering.{Ordering}
 use Rattle.std.specs.declared.cmp.Ordering.TheVariants.{Less}
 use Rattle.std.specs.Cmp.{IsTotalOrder}
@@ -7,7 +7,7 @@ use Rattle.std.specs.Ordering.{is_lt}
 use Rattle.std.specs.FinMap.{IsAntisymmetric}
 use Rattle.std.specs.List.{AllByRecursion, Contains}
 use Rattle.std.specs.List.Sorted.{IsSorted, IsStrictlySortedBy}
-use Rattle.std.proofs.lemmas.List.Elements.{All-contains, All-from_recursion, Contains-append_cases, Contains-append_left, Contains-append_right, Contains-get_or, recursion_from_All}
+use Rattle.std.proofs.lemmas.List.Elements.{Contains-append_cases, Contains-append_left, Contains-append_right}
 use Rattle.rx_base.specs.SortedPaths.{HasSameMembers, sorted_once}
 use Rattle.rx_base.proofs.Orders.{HasSameMembers-sorted_once, IsStrictlySortedBy-sorted_once, is_sorted_once}
 use Rattle.rx_base.proofs.Members.{All-member, All-members, Contains-cons_cases, Contains-head, Contains-later}

@@ -1,5 +1,5 @@
 -- Blobs that are looked up by their digests.
-use Rattle.std.proofs.Common.{◌≡◌, ◌∙◌, ℕ, zero, suc, ◌<◌, ◌≤◌, inl, inr, Bool, true, false, List, [], ◌∷◌, Some, None, cond, length, get_or, map, refl, sym, ap, subst, arith}
+use Rattle.std.proofs.Common.{◌≡◌, ◌∙◌, ℕ, zero, suc, ◌<◌, ◌≤◌, inl, inr, Bool, true, false, List, [], ◌∷◌, Some, None, length, get_or, map, refl, sym, ap, subst, arith}
 use Rattle.std.specs.Prelude.{slice_get}
 use Rattle.std.specs.Borrow.{Bor}
 use Rattle.std.specs.declared.cmp.Ordering.{Ordering}
@@ -18,7 +18,7 @@ use Rattle.rx_base.specs.SortedPaths.{sorted_paths}
 use Rattle.rx_base.specs.declared.digests.Digest.{Digest}
 use Rattle.rx_base.proofs.Orders.{HasSameMembers-sorted_once, IsStrictlySortedBy-sorted_once}
 use Rattle.rx_base.proofs.DigestOrder.{by_digest-same}
-use Rattle.rx_base.proofs.Members.{All-member, Contains-cons_cases, Contains-head, Contains-later, not_in_nothing, Contains-filter, Contains-from_filter, Contains-from_map, Contains-map}
+use Rattle.rx_base.proofs.Members.{All-member, Contains-cons_cases, Contains-head, not_in_nothing, Contains-filter, Contains-from_filter, Contains-from_map, Contains-map}
 use Rattle.rx_base.proofs.Orderings.{Equal-from_is_eq, Equal-from_neither, Less-from_is_lt, then-not_less}
 use Rattle.rx_base.specs.Digests.{by_digest, by_digest_total}
 use Rattle.rx_tree.specs.declared.blobs.Blob.{Blob}

@@ -1,5 +1,5 @@
 -- A list of paths that has a tree, as its tree is built.
-use Rattle.std.proofs.Common.{◌≡◌, ◌∙◌, ℕ, zero, suc, ◌<◌, inl, inr, Bool, true, false, List, [], ◌∷◌, length, get_or, map, append-nil, refl, sym, ap, subst, arith}
+use Rattle.std.proofs.Common.{◌≡◌, ◌∙◌, ℕ, zero, suc, ◌<◌, inl, inr, Bool, true, false, List, [], ◌∷◌, length, get_or, append-nil, refl, sym, ap, subst, arith}
 use Rattle.std.specs.Prelude.{is_some, is_none}
 use Rattle.std.specs.Ordering.{bool_cmp, is_lt}
 use Rattle.std.specs.List.{Contains, count_by}
@@ -8,7 +8,7 @@ use Rattle.std.specs.Str.{bytes_eq}
 use Rattle.std.proofs.lemmas.Bool.{cases_lt}
 use Rattle.std.proofs.lemmas.List.{get_or_default}
 use Rattle.std.proofs.lemmas.List.Sorted.{Contains-permutation, IsPermutation-map, IsPermutation-sym, ranks_by, sorted_far}
-use Rattle.rx_base.proofs.Members.{All-members, Contains-cons_cases, Contains-head, Contains-later, not_in_nothing, Contains-from_map}
+use Rattle.rx_base.proofs.Members.{All-members, Contains-head, Contains-later, Contains-from_map}
 use Rattle.rx_base.proofs.Orderings.{then-not_less}
 use Rattle.rx_tree.specs.Entries.{Entry, names_of}
 use Rattle.rx_tree.specs.Places.{by_names, by_place, by_place_total}

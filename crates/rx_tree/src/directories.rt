@@ -33,9 +33,12 @@ pub(crate) fn add_directories(
     blobs: &mut Vec<Blob>,
 ) -> Result<Digest, NoMemory>
     requires { IsReady (rests depth entries.now) }
-    ensures root { IfOk result (λ digest. digest ≡ digest_of (tree_bytes (tree_of (rests depth entries.now)))) }
-    ensures blobs { OnOk result (blobs.new.items ≡ blobs.old.items ++ map blob_of (all_bytes (tree_of (rests depth entries.now)))) }
-    ensures again { IfOk result (λ _. ReadsAgain (tree_of (rests depth entries.now)) × ReadsAgainBelow (tree_of (rests depth entries.now))) }
+    ensures root { IfOk result (λ digest.
+        digest ≡ digest_of (tree_bytes (tree_of (rests depth entries.now)))) }
+    ensures blobs { OnOk result (blobs.new.items
+        ≡ blobs.old.items ++ map blob_of (all_bytes (tree_of (rests depth entries.now)))) }
+    ensures again { IfOk result (λ _. ReadsAgain (tree_of (rests depth entries.now))
+        × ReadsAgainBelow (tree_of (rests depth entries.now))) }
 {
     let mut files = Vec::new(alloc);
     let mut directories = Vec::new(alloc);

@@ -104,7 +104,8 @@ impl<'a> Entry<'a> {
 
     /// The name after so many others, or none where the path has no more.
     pub(crate) fn name(&self, depth: usize) -> Option<&'a str>
-        ensures name { option_to_list (place result) ≡ first_name (drop depth (names_of self.now.path)) }
+        ensures name { option_to_list (place result)
+            ≡ first_name (drop depth (names_of self.now.path)) }
         ensures deeper { IsSome result → depth + 1 < 2 ^ 64 }
     {
         self.names.get(depth).copied()
@@ -112,7 +113,8 @@ impl<'a> Entry<'a> {
 
     /// Whether both paths go on by one name after so many, or neither goes on.
     pub(crate) fn goes_alike(&self, other: &Entry<'_>, depth: usize) -> bool
-        ensures { result ≡ goes_alike (drop depth (names_of self.now.path)) (drop depth (names_of other.now.path)) }
+        ensures { result ≡ goes_alike
+            (drop depth (names_of self.now.path)) (drop depth (names_of other.now.path)) }
     {
         match (self.name(depth), other.name(depth)) {
             (Some(name), Some(other)) => name == other,
@@ -123,7 +125,8 @@ impl<'a> Entry<'a> {
 
     /// The file of a path that has no more than so many names.
     pub(crate) fn file_after(&self, depth: usize) -> Option<&'a InputFile>
-        ensures { contents result ≡ file_at_end (drop depth (names_of self.now.path)) self.now.file }
+        ensures { contents result
+            ≡ file_at_end (drop depth (names_of self.now.path)) self.now.file }
     {
         if self.names.len() <= depth {
             self.file
@@ -200,7 +203,8 @@ pub(crate) fn sort_entries<'a>(
     files: &'a [InputFile],
     dirs: &'a [RelPath],
 ) -> Result<Vec<Entry<'a>>, NoMemory>
-    ensures all { IfOk result (λ entries. IsPermutation (entries_of files.now dirs.now) entries.items) }
+    ensures all { IfOk result (λ entries.
+        IsPermutation (entries_of files.now dirs.now) entries.items) }
     ensures sorted { IfOk result (λ entries. IsSorted by_place entries.items) }
     ensures sound { IfOk result (λ _. AllByRecursion IsEntry (entries_of files.now dirs.now)) }
 {

@@ -17,6 +17,3 @@ pub use listings::{Listed, TreeFile, list_of};
 pub use refusals::MAX_FILES;
 pub use tree_fault::TreeFault;
 pub use trees::{Built, build};
-
-#[cfg(test)]
-mod tests;

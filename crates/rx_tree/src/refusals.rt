@@ -26,7 +26,8 @@ pub(crate) fn take_entries<'a>(
     dirs: &'a [RelPath],
 ) -> Result<Vec<Entry<'a>>, TreeFault>
     ensures judged { Judges files.now dirs.now result }
-    ensures all { IfOk result (λ entries. IsPermutation (entries_of files.now dirs.now) entries.items) }
+    ensures all { IfOk result (λ entries.
+        IsPermutation (entries_of files.now dirs.now) entries.items) }
     ensures sorted { IfOk result (λ entries. IsSorted by_place entries.items) }
     ensures sound { IfOk result (λ _. AllByRecursion IsEntry (entries_of files.now dirs.now)) }
 {
@@ -76,7 +77,8 @@ fn is_conflict(first: &Entry<'_>, second: &Entry<'_>, conflict: Conflict) -> boo
 
 /// The least path of an entry that is in this conflict with the next one.
 fn least_conflict<'a>(entries: &[Entry<'a>], conflict: Conflict) -> Option<&'a RelPath>
-    ensures { IsLeastOr by_bytes (HasNeighbours (is_conflict conflict) entries.now (length entries.now)) (place result) }
+    ensures { IsLeastOr by_bytes
+        (HasNeighbours (is_conflict conflict) entries.now (length entries.now)) (place result) }
 {
     let mut least = None;
     for i in 1..entries.len() {
@@ -90,7 +92,8 @@ fn least_conflict<'a>(entries: &[Entry<'a>], conflict: Conflict) -> Option<&'a R
 
 /// The least path of an entry that stands under a path.
 fn least_below<'a>(entries: &[Entry<'a>], path: &RelPath) -> Option<&'a RelPath>
-    ensures { IsLeastOr by_bytes (HasBelow entries.now path.now (length entries.now)) (place result) }
+    ensures { IsLeastOr by_bytes
+        (HasBelow entries.now path.now (length entries.now)) (place result) }
 {
     let mut least = None;
     for entry in entries {

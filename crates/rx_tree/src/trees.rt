@@ -29,11 +29,14 @@ pub struct Built {
 /// Directory.
 pub fn build(alloc: Global, files: &[InputFile], dirs: &[RelPath]) -> Result<Built, TreeFault>
     ensures judged { Judges files.now dirs.now result }
-    ensures root { IfOk result (λ built. built.root ≡ digest_of (tree_bytes (tree (entries_of files.now dirs.now)))) }
-    ensures blobs { IfOk result (λ built. HasSameMembers (map blob_of (all_bytes (tree (entries_of files.now dirs.now)))) built.blobs) }
+    ensures root { IfOk result (λ built.
+        built.root ≡ digest_of (tree_bytes (tree (entries_of files.now dirs.now)))) }
+    ensures blobs { IfOk result (λ built. HasSameMembers
+        (map blob_of (all_bytes (tree (entries_of files.now dirs.now)))) built.blobs) }
     ensures once { IfOk result (λ built. HasNoRepeats built.blobs) }
     ensures told { IfOk result (λ _. IsToldByBytes (entries_of files.now dirs.now)) }
-    ensures back { IfOk result (λ built. IsGivenBack (entries_of files.now dirs.now) built.root built.blobs) }
+    ensures back { IfOk result (λ built.
+        IsGivenBack (entries_of files.now dirs.now) built.root built.blobs) }
 {
     let entries = take_entries(alloc, files, dirs)?;
     let mut blobs = Vec::new(alloc);

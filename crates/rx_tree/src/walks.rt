@@ -49,7 +49,8 @@ fn child_of(
 
 /// The Directory that a digest names.
 fn directory_at(alloc: Global, shelf: &Shelf<'_>, digest: &Digest) -> Result<Directory, TreeFault>
-    ensures { Gives fault.NoMemory (λ directory. directory) result (directory_at digest.now shelf.now) }
+    ensures { Gives fault.NoMemory (λ directory. directory) result
+        (directory_at digest.now shelf.now) }
 {
     let Some(bytes) = shelf.get(digest) else {
         return Err(TreeFault::MissingBlob(*digest));
@@ -69,7 +70,8 @@ fn add_files(
     nodes: &[FileNode],
     files: &mut Items<TreeFile>,
 ) -> Result<(), TreeFault>
-    ensures { Gives fault.NoMemory (λ _. files.new) result (with_files digest.now path.now nodes.now files.old) }
+    ensures { Gives fault.NoMemory (λ _. files.new) result
+        (with_files digest.now path.now nodes.now files.old) }
 {
     for node in nodes {
         let child = child_of(alloc, digest, path, &node.name)?;
@@ -92,7 +94,8 @@ fn subs_of(
     path: &RelPath,
     nodes: &[DirectoryNode],
 ) -> Result<Items<Sub>, TreeFault>
-    ensures { Gives fault.NoMemory (λ subs. subs) result (with_subs digest.now path.now nodes.now []) }
+    ensures { Gives fault.NoMemory (λ subs. subs) result
+        (with_subs digest.now path.now nodes.now []) }
 {
     let mut subs = Items::new(alloc);
     for node in nodes {
@@ -124,8 +127,10 @@ fn enter(
     path: &RelPath,
     seen: &mut Seen,
 ) -> Result<Items<Sub>, TreeFault>
-    ensures entered { Gives fault.NoMemory (entered_with seen.new) result (entered shelf.now digest.now path.now seen.old) }
-    ensures counts { OnOk result ((seen.old.entered < most_files) × (seen.new.entered ≡ seen.old.entered + 1)) }
+    ensures entered { Gives fault.NoMemory (entered_with seen.new) result
+        (entered shelf.now digest.now path.now seen.old) }
+    ensures counts { OnOk result
+        ((seen.old.entered < most_files) × (seen.new.entered ≡ seen.old.entered + 1)) }
 {
     if seen.entered >= MAX_FILES {
         return Err(TreeFault::TooManyFiles);
@@ -157,7 +162,9 @@ pub(crate) fn walk(
     path: &RelPath,
     seen: &mut Seen,
 ) -> Result<(), TreeFault>
-    ensures walked { (most : ℕ) → most_files < most + seen.old.entered → Gives fault.NoMemory (λ _. seen.new) result (walked most shelf.now digest.now path.now seen.old) }
+    ensures walked { (most : ℕ) → most_files < most + seen.old.entered →
+        Gives fault.NoMemory (λ _. seen.new) result
+        (walked most shelf.now digest.now path.now seen.old) }
     ensures counts { OnOk result (seen.old.entered < seen.new.entered) }
 {
     let subs = enter(alloc, shelf, digest, path, seen)?;
