@@ -1,8 +1,8 @@
 -- A sorted list with the items of another one is that list in order.
-use Rattle.std.proofs.Common.{◌≡◌, ℕ, suc, ◌+◌, Bool, true, false, cond, List, [], ◌∷◌, get_or, refl, sym, ◌∙◌, ap, subst, arith}
+use Rattle.std.proofs.Common.{◌≡◌, ℕ, suc, ◌+◌, Bool, true, false, cond, List, [], ◌∷◌, get_or, refl, sym, ◌∙◌, ap, subst, arith, true≢false}
 use Rattle.std.specs.declared.cmp.Ordering.{Ordering}
 use Rattle.std.specs.declared.cmp.Ordering.TheVariants.{Less, Equal, Greater}
-use Rattle.std.specs.Ordering.{is_lt, is_eq, nat_cmp, ordering_reverse, ordering_then}
+use Rattle.std.specs.Ordering.{is_lt, nat_cmp, ordering_reverse}
 use Rattle.std.specs.Cmp.{IsTotalOrder, IsStrictWeakOrder, on_total, then_total}
 use Rattle.std.specs.Cmp.Lexicographic.{slice_cmp, nat_list_cmp_total}
 use Rattle.std.specs.FinMap.{IsAntisymmetric, nat_cmp-IsAntisymmetric, slice_cmp-IsAntisymmetric}
@@ -12,14 +12,9 @@ use Rattle.std.proofs.lemmas.List.Elements.{recursion_from_All}
 use Rattle.std.proofs.lemmas.List.Sorted.{ranks_by, sorted_far, sum_by-IsPermutation}
 use Rattle.std.proofs.lemmas.List.Sums.{sum_by-cons}
 use Rattle.rx_world.specs.declared.commands.Pair.{Pair}
+use Rattle.rx_base.proofs.Lists.{All-weaken}
+use Rattle.rx_base.proofs.Orderings.{then-Equal}
 use Rattle.rx_action.specs.Pairs.{by_name, in_order, placed}
-
-true_not_false : true ≡ false → ⊥
-true_not_false e = cc e
-
-All-both : {K : Type 0} (P Q : K → Type 0) (xs : List K) → ((x : K) → P x → Q x) → AllByRecursion P xs → AllByRecursion Q xs
-All-both P Q [] f h = tt
-All-both P Q (x ∷ xs) f h = (f x h.0, All-both P Q xs f h.1)
 
 module _ {K : Type 0} {R : K → K → Ordering} (o : IsTotalOrder R) (same : IsAntisymmetric R) where
   abbrev lt : K → K → Bool
@@ -55,7 +50,7 @@ module _ {K : Type 0} {R : K → K → Ordering} (o : IsTotalOrder R) (same : Is
   Rises-placed x (y ∷ ys) s =
       elim (lt y x) as (λ b. lt y x ≡ b → Rises (placed R x (y ∷ ys))) [
         | true ↦ λ e. rw e (All-placed (λ z. lt z y ≡ false) x ys (weak.one_way y x e) s.0, Rises-placed x ys s.1)
-        | false ↦ λ e. rw e ((e, All-both (λ z. lt z y ≡ false) (λ z. lt z x ≡ false) ys (λ z h. weak.chain z y x h e) s.0), s)
+        | false ↦ λ e. rw e ((e, All-weaken (λ z. lt z y ≡ false) (λ z. lt z x ≡ false) ys (λ z h. weak.chain z y x h e) s.0), s)
       ] refl
 
   sum_by-placed : (f : K → ℕ) (x : K) (ys : List K) → sum_by f (placed R x ys) ≡ f x + sum_by f ys
@@ -92,7 +87,7 @@ module _ {K : Type 0} {R : K → K → Ordering} (o : IsTotalOrder R) (same : Is
   above x y z e h =
       elim (lt x z) as (λ b. lt x z ≡ b → lt x z ≡ true) [
         | true ↦ λ k. k
-        | false ↦ λ k. absurd (true_not_false (sym e ∙ weak.chain x z y k h))
+        | false ↦ λ k. absurd (true≢false (sym e ∙ weak.chain x z y k h))
       ] refl
 
   none : (x : K) (ys : List K) → AllByRecursion (λ y. lt x y ≡ true) ys → sum_by (level x) ys ≡ 0
@@ -105,7 +100,7 @@ module _ {K : Type 0} {R : K → K → Ordering} (o : IsTotalOrder R) (same : Is
   lower x y xs ys e all eq =
       let one_here : level x x ≡ 1 = ap (λ (b : Bool). cond b 0 1) (itself x) in
       let a = sum_by-cons (level x) x xs in
-      let b = none x (y ∷ ys) (e, All-both (λ z. lt z y ≡ false) (λ z. lt x z ≡ true) ys (λ z h. above x y z e h) all) in
+      let b = none x (y ∷ ys) (e, All-weaken (λ z. lt z y ≡ false) (λ z. lt x z ≡ true) ys (λ z h. above x y z e h) all) in
       omega (arith, a, b, one_here, eq)
 
   unique : (xs ys : List K) → Rises xs → Rises ys → ((f : K → ℕ) → sum_by f xs ≡ sum_by f ys) → xs ≡ ys
@@ -130,19 +125,10 @@ module _ {K : Type 0} {R : K → K → Ordering} (o : IsTotalOrder R) (same : Is
 pub by_name_total : IsTotalOrder by_name
 by_name_total = then_total (on_total (λ (p : Pair). p.name) nat_list_cmp_total) (on_total (λ (p : Pair). p.value) nat_list_cmp_total)
 
-first_equal : (r s : Ordering) → ordering_then r s ≡ Equal → r ≡ Equal
-first_equal Less s e = e
-first_equal Equal s e = refl
-first_equal Greater s e = e
-
-second_equal : (r s : Ordering) → ordering_then r s ≡ Equal → s ≡ Equal
-second_equal Less s e = absurd (true_not_false (ap is_lt e))
-second_equal Equal s e = e
-second_equal Greater s e = absurd (true_not_false (sym (ap is_eq e)))
-
 pub by_name_same : IsAntisymmetric by_name
 by_name_same x y e =
     let texts = slice_cmp-IsAntisymmetric nat_cmp-IsAntisymmetric in
-    let name : x.name ≡ y.name = texts x.name y.name (first_equal _ _ e) in
-    let value : x.value ≡ y.value = texts x.value y.value (second_equal (slice_cmp nat_cmp x.name y.name) _ e) in
+    let parts = then-Equal (slice_cmp nat_cmp x.name y.name) (slice_cmp nat_cmp x.value y.value) e in
+    let name : x.name ≡ y.name = texts x.name y.name parts.0 in
+    let value : x.value ≡ y.value = texts x.value y.value parts.1 in
     λ i. record { name = name i; value = value i }

@@ -3,10 +3,12 @@ use Rattle.std.specs.Prelude.{ℕ, pos, false, ◌==◌, List, [], Option, Some,
 use Rattle.rx_base.specs.Digests.{digest_of}
 use Rattle.rx_base.specs.Results.{◌>>=◌}
 use Rattle.rx_base.specs.declared.digests.Digest.{Digest}
-use Rattle.rx_messages.specs.Actions.{action_fields}
+use Rattle.rx_messages.specs.Actions.{action_fields, action_from, action_parts}
+use Rattle.rx_messages.specs.Decoding.{any_form, decoded}
 use Rattle.rx_messages.specs.FieldBytes.{fields_bytes}
 use Rattle.rx_messages.specs.declared.actions.Action.{Action}
 use Rattle.rx_messages.specs.declared.actions.Duration.{Duration}
+use Rattle.rx_messages.specs.declared.faults.MessageFault.{MessageFault}
 use Rattle.rx_world.specs.declared.commands.Command.{Command}
 use Rattle.rx_action.specs.Commands.{command_bytes, platform_of}
 use Rattle.rx_action.specs.OutputPaths.{checked, misplaced}
@@ -27,6 +29,10 @@ action_message command root = record {
   salt = [];
   platform = platform_of command.platform;
 }
+
+-- the Action that some bytes are
+abbrev pub read_action : List ℕ → Result Action MessageFault
+read_action bytes = decoded action_parts action_from any_form bytes
 
 abbrev pub action_bytes : Command → Digest → List ℕ
 action_bytes command root = fields_bytes (action_fields (action_message command root))

@@ -1,11 +1,13 @@
 -- The Command message of a command (remote_execution.proto, Command, Platform).
-use Rattle.std.specs.Prelude.{ℕ, List, [], ◌∷◌, map, Option, Some, None}
-use Rattle.rx_messages.specs.Commands.{command_fields}
+use Rattle.std.specs.Prelude.{ℕ, List, [], ◌∷◌, map, Option, Some, None, Result}
+use Rattle.rx_messages.specs.Commands.{command_fields, command_from, command_parts}
+use Rattle.rx_messages.specs.Decoding.{any_form, decoded}
 use Rattle.rx_messages.specs.FieldBytes.{fields_bytes}
 use Rattle.rx_messages.specs.declared.commands.EnvironmentVariable.{EnvironmentVariable}
 use Rattle.rx_messages.specs.declared.commands.Platform.{Platform}
 use Rattle.rx_messages.specs.declared.commands.Property.{Property}
 use Rattle.rx_messages.specs.declared.commands.Command.{Command as Message}
+use Rattle.rx_messages.specs.declared.faults.MessageFault.{MessageFault}
 use Rattle.rx_world.specs.declared.commands.Command.{Command}
 use Rattle.rx_world.specs.declared.commands.Pair.{Pair}
 use Rattle.rx_action.specs.OutputPaths.{output_paths}
@@ -21,6 +23,10 @@ property_of pair = record { name = pair.name; value = pair.value }
 abbrev pub platform_of : List Pair → Option Platform
 platform_of [] = None
 platform_of (pair ∷ pairs) = Some (record { properties = map property_of (sorted_pairs (pair ∷ pairs)) })
+
+-- the Command that some bytes are
+abbrev pub read_command : List ℕ → Result Message MessageFault
+read_command bytes = decoded command_parts command_from any_form bytes
 
 -- The outputs are told by output_paths alone.
 abbrev pub command_message : Command → Message

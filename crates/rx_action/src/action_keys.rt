@@ -2,11 +2,8 @@
 
 ghost use Rattle.std.specs.Prelude.{◌≡◌, ◌<◌, ◌^◌, IfOk, Ok, length};
 ghost use Rattle.rx_base.specs.Results.{Gives};
-ghost use Rattle.rx_messages.specs.Actions.{action_from, action_parts};
-ghost use Rattle.rx_messages.specs.Commands.{command_from, command_parts};
-ghost use Rattle.rx_messages.specs.Decoding.{any_form, decoded};
-ghost use Rattle.rx_action.specs.ActionKeys.{action_message, action_of, timeout_of};
-ghost use Rattle.rx_action.specs.Commands.{command_message};
+ghost use Rattle.rx_action.specs.ActionKeys.{action_message, action_of, read_action, timeout_of};
+ghost use Rattle.rx_action.specs.Commands.{command_message, read_command};
 ghost use Rattle.rx_action.specs.declared.action_fault.ActionFault.TheVariants as fault;
 
 use crate::action_fault::ActionFault;
@@ -39,8 +36,10 @@ pub struct ActionKey {
 pub fn action_of(alloc: Global, command: &Command, root: &Digest) -> Result<ActionKey, ActionFault>
     ensures key { Gives fault.NoMemory (λ key. key) result (action_of command.now root.now) }
     // Both messages are read again as they were written.
-    ensures command { IfOk result (λ key. decoded command_parts command_from any_form key.command_blob ≡ Ok (command_message command.now)) }
-    ensures action { IfOk result (λ key. length key.command_blob < 2 ^ 63 → root.now.size < 2 ^ 63 → decoded action_parts action_from any_form key.action_blob ≡ Ok (action_message command.now root.now)) }
+    ensures command { IfOk result (λ key.
+        read_command key.command_blob ≡ Ok (command_message command.now)) }
+    ensures action { IfOk result (λ key. length key.command_blob < 2 ^ 63 → root.now.size < 2 ^ 63 →
+        read_action key.action_blob ≡ Ok (action_message command.now root.now)) }
 {
     check_outputs(&command.working_directory, command.outputs.as_slice())?;
     let message = command_message(alloc, command)?;

@@ -10,6 +10,3 @@ mod pairs;
 
 pub use action_fault::ActionFault;
 pub use action_keys::{ActionKey, action_of};
-
-#[cfg(test)]
-mod tests;
