@@ -1,5 +1,5 @@
 -- The words of a row, with one space between each two.
-use Rattle.std.specs.Prelude.{◌≡◌, ◌≢◌, ◌<◌, ◌≤◌, ℕ, List, [], ◌∷◌, ◌++◌, length, slice_index, Option, None, Some}
+use Rattle.std.specs.Prelude.{◌≡◌, ◌≢◌, ◌<◌, ℕ, List, [], ◌∷◌, ◌++◌, length, slice_index, Option, None, Some}
 
 -- how what is left of a row stands behind the word before it
 abbrev pub behind : Option (List ℕ) → List ℕ

@@ -51,9 +51,15 @@ pub enum TableFault {
     /// What is wrong with the row at this line, counted from 1.
     #[error("line {line}: {fault}")]
     Row { line: u64, fault: RowFault },
-    /// The input can't be read, or the output can't be written.
+    /// The input can't be read, the output can't be written, or memory ran out outside of a row.
     #[error("{0}")]
     Io(io::Error),
+}
+
+impl From<AllocError> for TableFault {
+    fn from(error: AllocError) -> TableFault {
+        TableFault::Io(io::Error::from(error))
+    }
 }
 
 impl From<io::Error> for TableFault {
