@@ -15,8 +15,6 @@ mod reader;
 mod settings;
 mod stream;
 mod streams;
-#[cfg(test)]
-mod tests;
 mod updates;
 mod window;
 

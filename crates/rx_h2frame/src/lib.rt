@@ -5,8 +5,6 @@ mod flags;
 mod frame;
 mod head;
 mod kind;
-#[cfg(test)]
-mod tests;
 mod write;
 
 pub use flags::{ACK, END_HEADERS, END_STREAM, PADDED, PRIORITY, is_set};

@@ -24,6 +24,3 @@ pub use encoder::Encoder;
 pub use fault::HpackFault;
 pub use header::Header;
 pub use header_list::LARGEST_LIST;
-
-#[cfg(test)]
-mod tests;
