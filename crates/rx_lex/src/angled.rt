@@ -25,7 +25,8 @@ fn step_over(text: &[u8], at: usize) -> usize
 pub(crate) fn angled_end(text: &[u8], from: usize, barren: usize) -> (Option<usize>, usize)
     requires room { from ≤ length text.now }
     requires known { IsBarren text.now from barren }
-    ensures value { MaybeReaches text.now from result.0 (behind_header 62 (letters_at text.now from)) }
+    ensures value { MaybeReaches text.now from result.0
+        (behind_header 62 (letters_at text.now from)) }
     ensures known { IsBarren text.now from result.1 }
 {
     if from < barren {

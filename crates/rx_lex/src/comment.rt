@@ -76,7 +76,8 @@ fn block_end(text: &[u8], from: usize) -> Option<usize>
 fn block_cut(text: &[u8], next: usize, from: usize) -> Cut
     requires on { next ≤ from }
     requires within { from ≤ length text.now }
-    ensures value { unless_open Comment (behind_block (letters_at text.now from)) ≡ front_view text.now result }
+    ensures value { unless_open Comment (behind_block (letters_at text.now from)) ≡
+        front_view text.now result }
     ensures fits { Fits text.now 47 next result }
 {
     match block_end(text, from) {

@@ -63,7 +63,8 @@ pub(crate) fn is_split(text: &[u8], at: usize) -> bool
 #[inline(never)]
 fn slow_letter(text: &[u8], from: usize) -> Option<(u8, usize)>
     requires { from ≤ length text.now }
-    ensures { MatchOption result (letters_at text.now from ≡ []) (λ found. IsNext text.now from found.0 found.1) }
+    ensures { MatchOption result (letters_at text.now from ≡ [])
+        (λ found. IsNext text.now from found.0 found.1) }
 {
     let mut at = from;
     while at < text.len() {
@@ -84,7 +85,8 @@ fn slow_letter(text: &[u8], from: usize) -> Option<(u8, usize)>
 #[inline(always)]
 pub(crate) fn letter(text: &[u8], at: usize) -> Option<(u8, usize)>
     requires { at ≤ length text.now }
-    ensures { MatchOption result (letters_at text.now at ≡ []) (λ found. IsNext text.now at found.0 found.1) }
+    ensures { MatchOption result (letters_at text.now at ≡ [])
+        (λ found. IsNext text.now at found.0 found.1) }
 {
     if at < text.len() {
         let byte = text[at];

@@ -12,7 +12,8 @@ use crate::letters::{begins, letter};
 /// Whether a literal is closed whose first quote was passed, and its end.
 pub(crate) fn literal_end(text: &[u8], from: usize, quote: u8) -> (bool, usize)
     requires { from ≤ length text.now }
-    ensures value { literal quote false (letters_at text.now from) ≡ (record { kind = Literal; whole = result.0; rest = letters_at text.now result.1 }) }
+    ensures value { literal quote false (letters_at text.now from) ≡
+        (record { kind = Literal; whole = result.0; rest = letters_at text.now result.1 }) }
     ensures on { from ≤ result.1 }
     ensures within { result.1 ≤ length text.now }
 {

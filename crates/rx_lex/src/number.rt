@@ -63,7 +63,8 @@ fn number_end(text: &[u8], from: usize) -> usize
 #[inline(always)]
 fn begins_number(text: &[u8], first: u8, next: usize) -> bool
     requires { next ≤ length text.now }
-    ensures { result ≡ (is_digit first || (first == 46 && begins_digit (letters_at text.now next))) }
+    ensures { result ≡
+        (is_digit first || (first == 46 && begins_digit (letters_at text.now next))) }
 {
     is_digit(first) || (first == b'.' && next_is_digit(text, next))
 }

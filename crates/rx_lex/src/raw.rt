@@ -95,8 +95,10 @@ fn read_delimiter(text: &[u8], from: usize) -> Option<Delimiter>
 #[inline(always)]
 fn near_close(text: &[u8], at: usize) -> usize
     requires { at ≤ length text.now }
-    ensures same { (name : List ℕ) → behind_text (41 ∷ name) (letters_at text.now at) ≡ behind_text (41 ∷ name) (letters_at text.now result) }
-    ensures count { (result + length (letters_at text.now result)) ≡ (at + length (letters_at text.now at)) }
+    ensures same { (name : List ℕ) → behind_text (41 ∷ name) (letters_at text.now at) ≡
+        behind_text (41 ∷ name) (letters_at text.now result) }
+    ensures count { (result + length (letters_at text.now result)) ≡
+        (at + length (letters_at text.now at)) }
     ensures on { at ≤ result }
     ensures within { result ≤ length text.now }
 {
@@ -142,8 +144,10 @@ fn raw_close(text: &[u8], from: usize, delimiter: &[u8]) -> Option<(usize, usize
 /// The end of a raw literal whose prefix and quote were passed. With a bad delimiter it ends as another literal does.
 pub(crate) fn raw_end(text: &[u8], from: usize) -> RawEnd
     requires { from ≤ length text.now }
-    ensures value { raw (letters_at text.now from) ≡ (record { kind = Raw; whole = result.whole; rest = letters_at text.now result.end }) }
-    ensures count { result.whole ≡ true → result.letters + length (letters_at text.now result.end) ≡ length (letters_at text.now from) }
+    ensures value { raw (letters_at text.now from) ≡
+        (record { kind = Raw; whole = result.whole; rest = letters_at text.now result.end }) }
+    ensures count { result.whole ≡ true →
+        result.letters + length (letters_at text.now result.end) ≡ length (letters_at text.now from) }
     ensures on { from + result.letters ≤ result.end }
     ensures within { result.end ≤ length text.now }
 {

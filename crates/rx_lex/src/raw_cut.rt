@@ -12,7 +12,8 @@ use crate::raw::{RawEnd, has_line_end, is_split_within, raw_end, raw_prefix};
 fn is_split_behind(text: &[u8], next: usize, letters: usize) -> bool
     requires on { next ≤ length text.now }
     requires some { 0 < letters }
-    ensures { result ≡ (is_split_at text.now next || split_in (take (letters - 1) (letters_at text.now next))) }
+    ensures { result ≡
+        (is_split_at text.now next || split_in (take (letters - 1) (letters_at text.now next))) }
 {
     is_split(text, next) || is_split_within(text, next, letters - 1)
 }
@@ -23,9 +24,11 @@ fn raw_body_cut(text: &[u8], first: u8, next: usize, skipped: usize, body: RawEn
     requires skips { 0 < skipped }
     requires on { next ≤ body.end }
     requires within { body.end ≤ length text.now }
-    requires counted { body.whole ≡ true → skipped + body.letters + length (letters_at text.now body.end) ≡ length (letters_at text.now next) }
+    requires counted { body.whole ≡ true → skipped + body.letters
+        + length (letters_at text.now body.end) ≡ length (letters_at text.now next) }
     requires fitting { skipped + body.letters ≤ length text.now }
-    ensures value { front_view text.now result ≡ (record { kind = Raw; whole = body.whole; rest = letters_at text.now body.end }) }
+    ensures value { front_view text.now result ≡
+        (record { kind = Raw; whole = body.whole; rest = letters_at text.now body.end }) }
     ensures fits { Fits text.now first next result }
 {
     if !body.whole {

@@ -15,7 +15,8 @@ use std::alloc::Global;
 /// Adds the name at the end, if there is one.
 #[inline(always)]
 fn keep(list: &mut Vec<Include>, name: Option<Include>) -> Result<(), NoMemory>
-    ensures { OnOk result (map name_view list.new.items ≡ map name_view list.old.items ++ names_in name) }
+    ensures { OnOk result
+        (map name_view list.new.items ≡ map name_view list.old.items ++ names_in name) }
 {
     match name {
         Some(name) => {

@@ -34,7 +34,11 @@ pub(crate) struct Step {
 /// The name in a header name.
 fn header_name(alloc: Global, text: &[u8], first: u8, next: usize) -> Result<Include, NoMemory>
     requires { next ≤ length text.now }
-    ensures { IfOk result (λ name. name_view name ≡ (record { angled = first == 60; name = header_bytes (closing first) (letters_at text.now next) })) }
+    ensures { IfOk result (λ name. name_view name ≡ (record {
+      angled = first == 60;
+      name =
+          header_bytes (closing first) (letters_at text.now next);
+    })) }
 {
     if first == b'<' {
         return Ok(Include::Angled(header_bytes(alloc, text, next, b'>')?));
