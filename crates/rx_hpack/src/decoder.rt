@@ -52,9 +52,11 @@ impl Decoder {
     /// [`LARGEST_LIST`]: crate::LARGEST_LIST
     pub fn block(&mut self, alloc: Global, bytes: &[u8]) -> Result<Vec<Header>, HpackFault>
         // The list that is answered is one that the block stands for.
-        ensures found { IfOk result (λ headers. StandsFor self.old bytes.now (views headers.items) self.new) }
+        ensures found { IfOk result
+            (λ headers. StandsFor self.old bytes.now (views headers.items) self.new) }
         // A list that the block stands for is answered, unless memory runs out.
-        ensures only { (old : Table) (fields : List Field) (new : Table) → self.old ≡ Ready old → IsBlock old bytes.now fields new
+        ensures only { (old : Table) (fields : List Field) (new : Table)
+            → self.old ≡ Ready old → IsBlock old bytes.now fields new
             → Reaches fields new (seen result) self.new }
         // Which refusal it is, and that it comes again.
         ensures exact { Decodes self.old bytes.now (seen result) self.new }
@@ -99,7 +101,8 @@ fn apply(
     list: &mut HeaderList,
     representation: Representation,
 ) -> Result<(), HpackFault>
-    ensures { Leaves (applied list.old table.old (representation_view representation)) result list.new table.new }
+    ensures { Leaves (applied list.old table.old (representation_view representation)) result
+        list.new table.new }
 {
     match representation {
         Representation::Indexed(index) => {
@@ -141,7 +144,8 @@ fn keep(
     indexing: Indexing,
     header: Header,
 ) -> Result<(), HpackFault>
-    ensures { Leaves (with_field list.old table.old indexing (view header)) result list.new table.new }
+    ensures { Leaves (with_field list.old table.old indexing (view header)) result
+        list.new table.new }
 {
     match indexing {
         Indexing::Incremental => {

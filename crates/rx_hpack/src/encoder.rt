@@ -37,10 +37,12 @@ impl Encoder {
         // Which forms are written.
         ensures exact { IfOk result (λ block. block.items ≡ block_bytes (views headers.now)) }
         // It stands for the list, and changes no dynamic table.
-        ensures meant { IfOk result (λ block. (table : Table) → size_of (views headers.now) ≤ 65536 →
+        ensures meant { IfOk result
+            (λ block. (table : Table) → size_of (views headers.now) ≤ 65536 →
             IsBlock table block.items (views headers.now) table) }
         // So a decoder reads the list back, a new one or any other.
-        ensures read_back { IfOk result (λ block. (table : Table) → size_of (views headers.now) ≤ 65536 →
+        ensures read_back { IfOk result
+            (λ block. (table : Table) → size_of (views headers.now) ≤ 65536 →
             block_of table block.items ≡ Ok (record { fields = views headers.now; table = table })) }
     {
         write_block(alloc, headers)
@@ -79,7 +81,8 @@ fn write_form(
     requires place { ForSome place (λ p. p < 61) }
     requires name { length name.now < 2 ^ 32 }
     requires value { length value.now < 2 ^ 32 }
-    ensures { OnOk result (block.new.items ≡ block.old.items ++ form_bytes place name.now value.now) }
+    ensures { OnOk result
+        (block.new.items ≡ block.old.items ++ form_bytes place name.now value.now) }
 {
     if let Some(place) = place {
         return integer::write(block, INDEXED_PREFIX, INDEXED_FORM, place as u32 + 1);

@@ -12,7 +12,8 @@ use crate::static_table::STATIC_LENGTH;
 /// (RFC 7541 2.3.3).
 #[tactic(auto, unfolding(crate::specs::Index::field_at))]
 pub(crate) fn find(table: &DynamicTable, index: u32) -> Result<(&[u8], &[u8]), HpackFault>
-    ensures { Equals (λ x. record { name = x.0.now; value = x.1.now }) result (field_at table.now index) }
+    ensures { Equals (λ x. record { name = x.0.now; value = x.1.now }) result
+        (field_at table.now index) }
 {
     if index == 0 {
         return Err(HpackFault::BadIndex);

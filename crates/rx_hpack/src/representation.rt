@@ -67,7 +67,8 @@ pub(crate) fn read<'a>(
     first: u8,
     bytes: &'a [u8],
 ) -> Result<(Representation, &'a [u8]), HpackFault>
-    ensures { Gives (λ x. (representation_view x.0, x.1.now)) result (representation_at table.now first bytes.now) }
+    ensures { Gives (λ x. (representation_view x.0, x.1.now)) result
+        (representation_at table.now first bytes.now) }
 {
     match first {
         0..=15 => read_literal(
@@ -115,7 +116,8 @@ fn read_literal<'a>(
     prefix: u8,
     bytes: &'a [u8],
 ) -> Result<(Representation, &'a [u8]), HpackFault>
-    ensures { Gives (λ x. (representation_view x.0, x.1.now)) result (literal_at table.now indexing full prefix bytes.now) }
+    ensures { Gives (λ x. (representation_view x.0, x.1.now)) result
+        (literal_at table.now indexing full prefix bytes.now) }
 {
     let (index, rest) = integer::read(full, prefix, bytes)?;
     let (name, rest) = read_name(alloc, table, index, rest)?;
