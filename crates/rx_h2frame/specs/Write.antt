@@ -40,3 +40,7 @@ pub record IsProper (largest : ℕ) (o : Out) : Type 0 where
 abbrev pub ReadsBack : ℕ → Out → List ℕ → Type 0
 ReadsBack largest o bytes =
     IsProper largest o → next largest bytes ≡ Ok (Complete (record { kind = o.kind; flags = o.flags; stream = o.stream; body = o.body; size = length o.body }))
+
+-- the same of bytes that were written, whatever follows and whatever the largest payload is
+abbrev pub IsReadBack : Out → List ℕ → Type 0
+IsReadBack frame written = (largest : ℕ) (more : List ℕ) → ReadsBack largest frame (written ++ more)

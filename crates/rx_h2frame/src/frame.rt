@@ -70,7 +70,8 @@ fn is_wrong_padding(head: Head, payload: &[u8]) -> bool
 
 fn frame_of<'a>(head: Head, payload: &'a [u8]) -> Frame<'a>
     requires fits { head.size ≤ length payload.now }
-    requires front { pad_length_size (head_view head) + priority_size (head_view head) + padding (head_view head) payload.now ≤ head.size }
+    requires front { pad_length_size (head_view head) + priority_size (head_view head)
+        + padding (head_view head) payload.now ≤ head.size }
     ensures { frame_view result ≡ whole_of (head_view head) payload.now }
 {
     let front = head.pad_length_size() + head.priority_size();
@@ -128,7 +129,8 @@ pub fn next_frame<'a>(bytes: &'a [u8], largest: u32) -> Result<Next<'a>, FrameFa
     ensures sound { IfOk result (λ n. IsSoundNext largest bytes.now n) }
 
     // What is refused stays refused, whatever follows, and as long as fewer bytes than are lacking follow, the rest is lacking.
-    ensures for_good { IfErr result (λ e. (more : List ℕ) → next largest (bytes.now ++ more) ≡ Err e) }
+    ensures for_good { IfErr result
+        (λ e. (more : List ℕ) → next largest (bytes.now ++ more) ≡ Err e) }
     ensures waits { IfOk result (λ n. (more : List ℕ) → Waits largest bytes.now more n) }
 {
     first_frame(bytes, largest)

@@ -25,19 +25,19 @@ const PRIORITY_SIZE: usize = 5;
 /// +-+-------------------------------------------------------------+
 /// ```
 #[derive(Clone, Copy)]
-pub struct Head {
+pub(crate) struct Head {
     /// The bytes of the payload.
-    pub size: usize,
-    pub kind: Kind,
-    pub flags: u8,
+    pub(crate) size: usize,
+    pub(crate) kind: Kind,
+    pub(crate) flags: u8,
     /// 0 is the connection; the reserved bit R isn't part of it.
-    pub stream: u32,
+    pub(crate) stream: u32,
 }
 
 ghost use Rattle.rx_h2frame.specs.HeadView.{head_view};
 
 /// The header that the bytes begin with.
-pub fn head_of(bytes: &[u8]) -> Head
+pub(crate) fn head_of(bytes: &[u8]) -> Head
     requires { 9 ≤ length bytes.now }
     ensures is { head_view result ≡ header_of bytes.now }
     ensures size { result.size < 2 ^ 24 }
@@ -54,7 +54,7 @@ pub fn head_of(bytes: &[u8]) -> Head
 
 impl Head {
     /// Whether the payload begins with the length of its padding.
-    pub fn is_padded(self) -> bool
+    pub(crate) fn is_padded(self) -> bool
         ensures { result ≡ is_padded (head_view self) }
     {
         match self.kind {
@@ -64,14 +64,14 @@ impl Head {
     }
 
     /// The bytes of the padding's length.
-    pub fn pad_length_size(self) -> usize
+    pub(crate) fn pad_length_size(self) -> usize
         ensures { result ≡ pad_length_size (head_view self) }
     {
         if self.is_padded() { 1 } else { 0 }
     }
 
     /// The bytes of priority before the header block.
-    pub fn priority_size(self) -> usize
+    pub(crate) fn priority_size(self) -> usize
         ensures { result ≡ priority_size (head_view self) }
     {
         match self.kind {
@@ -101,7 +101,7 @@ impl Head {
     }
 
     /// Whether the size is past the largest, or none that the frame can have.
-    pub fn is_wrong_size(self, largest: usize) -> bool
+    pub(crate) fn is_wrong_size(self, largest: usize) -> bool
         ensures { result ≡ is_wrong_size largest (head_view self) }
     {
         largest < self.size
@@ -110,7 +110,7 @@ impl Head {
     }
 
     /// Whether a frame of the connection names a stream, or one of a stream names none.
-    pub fn is_wrong_stream(self) -> bool
+    pub(crate) fn is_wrong_stream(self) -> bool
         ensures { result ≡ is_wrong_stream self.kind self.stream }
     {
         match self.kind {

@@ -1,7 +1,7 @@
 //! The bytes of a frame that is sent: without padding and without priority.
 
-ghost use Rattle.std.specs.Prelude.{◌≡◌, ℕ, List, ◌<◌, ◌^◌, ◌++◌, length, drop, OnOk, OnErr};
-ghost use Rattle.rx_h2frame.specs.Write.{out_bytes, out_view, ReadsBack};
+ghost use Rattle.std.specs.Prelude.{◌≡◌, ◌<◌, ◌^◌, ◌++◌, length, drop, OnOk, OnErr};
+ghost use Rattle.rx_h2frame.specs.Write.{out_bytes, out_view, IsReadBack};
 
 use crate::kind::Kind;
 use std::alloc::AllocError;
@@ -51,7 +51,8 @@ pub fn write_frame(frame: &FrameOut, out: &mut Vec<u8>) -> Result<(), AllocError
     ensures err { OnErr result (out.new.items ≡ out.old.items) }
 
     // `next_frame` reads what was written, whatever follows.
-    ensures reads_back { OnOk result ((largest : ℕ) (more : List ℕ) → ReadsBack largest (out_view frame.now) (drop (length out.old.items) out.new.items ++ more)) }
+    ensures reads_back { OnOk result
+        (IsReadBack (out_view frame.now) (drop (length out.old.items) out.new.items)) }
 {
     put_frame(frame, out)
 }
