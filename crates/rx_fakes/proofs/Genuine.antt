@@ -36,11 +36,6 @@ read_content honest holds path entries (Ok read) all is = λ h.
     rw (is.look_is, is.bytes_are) (rw (path-entry_at path entries) at content)
 read_content honest holds path entries (Err e) all is = tt
 
--- one entry more
-pub genuine-more : (honest : Type 0) (holds : List ℕ → Stamp → List ℕ) (entries : List SourceEntry) (entry : SourceEntry) → AreGenuine honest holds entries → IsGenuine honest holds entry → AreGenuine honest holds (entries ++ entry ∷ [])
-genuine-more honest holds [] entry all is = (is, tt)
-genuine-more honest holds (e ∷ es) entry all is = (all.0, genuine-more honest holds es entry all.1 is)
-
 contents_of : (honest : Type 0) (holds : List ℕ → Stamp → List ℕ) (entries : List SourceEntry) → AreGenuine honest holds entries → honest → AllByRecursion (λ entry. GivesContent holds entry.path entry.look entry.bytes) entries
 contents_of honest holds [] all h = tt
 contents_of honest holds (entry ∷ entries) all h = (all.0.content h, contents_of honest holds entries all.1 h)

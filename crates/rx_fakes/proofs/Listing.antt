@@ -3,7 +3,6 @@ use Rattle.std.proofs.Common.{◌≡◌, ℕ, ◌+◌, ◌||◌, Bool, true, fal
 use Rattle.std.specs.List.{take-map}
 use Rattle.rx_base.specs.Paths.{is_below}
 use Rattle.rx_fakes.specs.Found.{found_of}
-use Rattle.rx_world.proofs.PlacedBy.{map-first_placed_by}
 use Rattle.rx_world.specs.declared.sources.Found.{Found}
 use Rattle.rx_world.specs.declared.sources.SourceEntry.{SourceEntry}
 use Rattle.rx_world.specs.Files.{first_placed_by}
@@ -20,11 +19,11 @@ filter-map f p (x ∷ xs) = filter-map_case f (p (f x)) x (filter (λ y. p (f y)
 abbrev lies_under : List ℕ → Found → Bool
 lies_under under found = is_below found.path under || bytes_eq found.path under
 
-pub lists_found : (entries : List SourceEntry) (under : List ℕ) (most : ℕ) → take (most + 1) (filter (λ f. is_below f.path under || bytes_eq f.path under) (filter (λ f. is_file f.look) (first_placed_by (λ f. f.path) (map found_of entries)))) ≡ map found_of (take (most + 1) (files_under under entries))
-lists_found entries under most =
-    let ordered = first_placed_by (λ (e : SourceEntry). e.path) entries in
-    let is_file_found = λ (f : Found). is_file f.look in
-    ap (λ s. take (most + 1) (filter (lies_under under) (filter is_file_found s))) (sym (map-first_placed_by found_of (λ f. f.path) entries))
-    ∙ ap (λ s. take (most + 1) (filter (lies_under under) s)) (filter-map found_of is_file_found ordered)
-    ∙ ap (take (most + 1)) (filter-map found_of (lies_under under) (filter (λ e. is_file e.look) ordered))
+-- the entries are in order already
+pub lists_found : (entries : List SourceEntry) (under : List ℕ) (most : ℕ) → first_placed_by (λ (e : SourceEntry). e.path) entries ≡ entries
+    → take (most + 1) (filter (λ f. is_below f.path under || bytes_eq f.path under) (filter (λ f. is_file f.look) (map found_of entries))) ≡ map found_of (take (most + 1) (files_under under entries))
+lists_found entries under most ordered =
+    ap (λ s. take (most + 1) (filter (lies_under under) s)) (filter-map found_of (λ (f : Found). is_file f.look) entries)
+    ∙ ap (take (most + 1)) (filter-map found_of (lies_under under) (filter (λ e. is_file e.look) entries))
+    ∙ ap (λ s. take (most + 1) (map found_of (filter (λ e. lies_under under (found_of e)) (filter (λ e. is_file e.look) s)))) (sym ordered)
     ∙ take-map found_of (most + 1) (files_under under entries)

@@ -1,34 +1,43 @@
 //! The paths of a source tree in memory.
 
-ghost use Rattle.std.specs.Prelude.{◌≡◌, ◌++◌, ◌∷◌, [], IfOk, MatchOption, None, OnErr, OnOk, Some};
-ghost use Rattle.rx_fakes.specs.Entries.{IsGenuine, file_entry, stamp_of};
-ghost use Rattle.rx_world.specs.declared.looks.Look.TheVariants.{Absent, Dir, Other};
+ghost use Rattle.std.specs.Prelude.{◌≡◌, [], IfOk, None, OnErr, OnOk, Some, map};
+ghost use Rattle.rx_fakes.specs.Entries.{IsGenuine, entry_of, file_entry, stamp_of, with_entry};
+ghost use Rattle.rx_world.specs.declared.looks.Look.TheVariants.{Dir, Other};
 ghost use Rattle.rx_world.specs.Sources.{GivesContent, HasBytes, HoldContent, IsRead, Lists, entry_at};
 
 use crate::found::list_files;
 use rx_base::{Bytes, Items, NoMemory, RelPath, TryClone};
-use rx_world::{Contents, Found, Look, SourceEntry, Stamp};
+use rx_world::{Contents, Found, Look, Stamp};
 use std::alloc::Global;
+use std::collections::BTreeMap;
 use std::marker::{Model, PhantomData};
 
-/// What stands at the paths of a source tree. A caller picks what the world holds: where its stamps
-/// are honest, each file has just the bytes that the world holds under its stamp.
+/// What stands at a path.
+#[derive(Debug, Drop)]
+pub(crate) struct Node {
+    pub look: Look,
+    pub bytes: Bytes,
+}
+
+/// What stands at the paths of a source tree, seen as its entries in the order of their paths. A caller
+/// picks what the world holds: where its stamps are honest, each file has just the bytes that the world
+/// holds under its stamp.
 #[derive(Drop)]
 pub struct SourceEntries<K: Contents> {
-    entries: Vec<SourceEntry>,
+    nodes: BTreeMap<RelPath, Node>,
     contents: PhantomData<K>,
 }
 
 impl<K: Contents> Model for SourceEntries<K> {
-    ghost use Rattle.std.specs.Prelude.{List};
-    ghost use Rattle.rx_fakes.specs.Entries.{AreGenuine};
+    ghost use Rattle.std.specs.Prelude.{List, map};
+    ghost use Rattle.rx_fakes.specs.Entries.{AreEntries, entry_of};
     ghost use Rattle.rx_world.specs.declared.sources.SourceEntry.{SourceEntry};
 
     ghost Value = { List SourceEntry };
 
-    ghost view = { λ e. e.entries.items };
+    ghost view = { λ e. map entry_of e.nodes.entries };
 
-    ghost invariant = { λ e. AreGenuine K.honest K.holds e.entries.items };
+    ghost invariant = { λ e. AreEntries K.honest K.holds e.nodes.entries };
 }
 
 impl<K: Contents> SourceEntries<K> {
@@ -37,7 +46,7 @@ impl<K: Contents> SourceEntries<K> {
         ensures { result ≡ [] }
     {
         SourceEntries {
-            entries: Vec::new(alloc),
+            nodes: BTreeMap::new(alloc),
             contents: PhantomData,
         }
     }
@@ -52,7 +61,7 @@ impl<K: Contents> SourceEntries<K> {
     ) -> Result<(), NoMemory>
         requires { K.honest → bytes ≡ K.holds path (stamp_of bytes mark) }
         ensures ok { OnOk result
-            (self.new ≡ self.old ++ file_entry path (stamp_of bytes mark) executable bytes ∷ []) }
+            (self.new ≡ with_entry (file_entry path (stamp_of bytes mark) executable bytes) self.old) }
         ensures err { OnErr result (self.new ≡ self.old) }
     {
         let stamp = Stamp {
@@ -72,48 +81,45 @@ impl<K: Contents> SourceEntries<K> {
     ) -> Result<(), NoMemory>
         requires { K.honest → bytes ≡ K.holds path stamp }
         ensures ok { OnOk result
-            (self.new ≡ self.old ++ file_entry path stamp executable bytes ∷ []) }
+            (self.new ≡ with_entry (file_entry path stamp executable bytes) self.old) }
         ensures err { OnErr result (self.new ≡ self.old) }
     {
-        self.add(SourceEntry {
-            path,
-            look: Look::File { stamp, executable },
-            bytes,
-        })
+        let look = Look::File { stamp, executable };
+        self.add(path, Node { look, bytes })
     }
 
     /// Adds a directory.
     pub fn add_dir(&mut self, alloc: Global, path: RelPath) -> Result<(), NoMemory>
         ensures ok { OnOk result
-            (self.new ≡ self.old ++ record { path = path; look = Dir; bytes = [] } ∷ []) }
+            (self.new ≡ with_entry (record { path = path; look = Dir; bytes = [] }) self.old) }
         ensures err { OnErr result (self.new ≡ self.old) }
     {
-        self.add(SourceEntry {
-            path,
-            look: Look::Dir,
-            bytes: Bytes::new(alloc),
-        })
+        let bytes = Bytes::new(alloc);
+        let look = Look::Dir;
+        self.add(path, Node { look, bytes })
     }
 
     /// Adds what is neither a file nor a directory.
     pub fn add_other(&mut self, alloc: Global, path: RelPath) -> Result<(), NoMemory>
         ensures ok { OnOk result
-            (self.new ≡ self.old ++ record { path = path; look = Other; bytes = [] } ∷ []) }
+            (self.new ≡ with_entry (record { path = path; look = Other; bytes = [] }) self.old) }
         ensures err { OnErr result (self.new ≡ self.old) }
     {
-        self.add(SourceEntry {
-            path,
-            look: Look::Other,
-            bytes: Bytes::new(alloc),
-        })
+        let bytes = Bytes::new(alloc);
+        let look = Look::Other;
+        self.add(path, Node { look, bytes })
     }
 
-    fn add(&mut self, entry: SourceEntry) -> Result<(), NoMemory>
-        requires { IsGenuine K.honest K.holds entry }
-        ensures ok { OnOk result (self.new ≡ self.old ++ entry ∷ []) }
+    /// Adds a path that is new. Of two the first counts.
+    fn add(&mut self, path: RelPath, node: Node) -> Result<(), NoMemory>
+        requires { IsGenuine K.honest K.holds (entry_of (path, node)) }
+        ensures ok { OnOk result (self.new ≡ with_entry (entry_of (path, node)) self.old) }
         ensures err { OnErr result (self.new ≡ self.old) }
     {
-        self.entries.push(entry)?;
+        if self.nodes.contains_key(&path) {
+            return Ok(());
+        }
+        self.nodes.insert(path, node)?;
         Ok(())
     }
 
@@ -125,7 +131,7 @@ impl<K: Contents> SourceEntries<K> {
         if let Some(other) = other {
             *self = other;
         }
-        let _ = &self.entries;
+        let _ = &self.nodes;
     }
 
     /// What stands at a path.
@@ -133,8 +139,8 @@ impl<K: Contents> SourceEntries<K> {
         ensures look { result ≡ (entry_at path.now self.now).look }
         ensures holds { K.honest → HoldContent K.holds self.now }
     {
-        match find_entry(&self.entries, path) {
-            Some(entry) => entry.look,
+        match self.nodes.get(path) {
+            Some(node) => node.look,
             None => Look::Absent,
         }
     }
@@ -147,7 +153,7 @@ impl<K: Contents> SourceEntries<K> {
             GivesContent K.holds path.now read.0 read.1) }
         ensures holds { K.honest → HoldContent K.holds self.now }
     {
-        read_entry(alloc, &self.entries, path)
+        read_node(alloc, &self.nodes, path)
     }
 
     /// The files at or below a path, in the order of their paths: at most one more than `most`.
@@ -160,33 +166,19 @@ impl<K: Contents> SourceEntries<K> {
         ensures list { IfOk result (Lists (Some self.now) under.now most) }
         ensures holds { K.honest → HoldContent K.holds self.now }
     {
-        list_files(alloc, &self.entries, under, most)
+        list_files(alloc, &self.nodes, under, most)
     }
 }
 
-/// The first entry at a path.
-fn find_entry<'a>(entries: &'a [SourceEntry], path: &RelPath) -> Option<&'a SourceEntry>
-    ensures { MatchOption result
-        (entry_at path.now entries.now ≡ record { path = path.now; look = Absent; bytes = [] })
-        (λ entry. entry_at path.now entries.now ≡ entry.now) }
-{
-    for entry in entries {
-        if entry.path == *path {
-            return Some(entry);
-        }
-    }
-    None
-}
-
-fn read_entry(
+fn read_node(
     alloc: Global,
-    entries: &[SourceEntry],
+    nodes: &BTreeMap<RelPath, Node>,
     path: &RelPath,
 ) -> Result<(Look, Bytes), NoMemory>
-    ensures { IfOk result (λ read. IsRead entries.now path.now read.0 read.1) }
+    ensures { IfOk result (λ read. IsRead (map entry_of nodes.now.entries) path.now read.0 read.1) }
 {
-    match find_entry(entries, path) {
-        Some(entry) => Ok((entry.look, entry.bytes.try_clone(alloc)?)),
+    match nodes.get(path) {
+        Some(node) => Ok((node.look, node.bytes.try_clone(alloc)?)),
         None => Ok((Look::Absent, Bytes::new(alloc))),
     }
 }

@@ -1,47 +1,47 @@
 //! The files of a source tree in memory, as a list of it gives them.
 
-ghost use Rattle.std.specs.Prelude.{◌≡◌, ◌+◌, ◌||◌, [], IfOk, Some, filter, map, take};
+ghost use Rattle.std.specs.Prelude.{◌≡◌, ◌+◌, ◌||◌, IfOk, Some, filter, map, take};
 ghost use Rattle.std.specs.Str.{bytes_eq};
 ghost use Rattle.rx_base.specs.Paths.{is_below};
+ghost use Rattle.rx_base.specs.SortedPaths.{AreSorted};
+ghost use Rattle.rx_fakes.specs.Entries.{entry_of};
 ghost use Rattle.rx_fakes.specs.Found.{found_of};
-ghost use Rattle.rx_world.specs.Files.{first_placed_by};
 ghost use Rattle.rx_world.specs.Sources.{Lists, is_file};
 
-use crate::placing::place_item;
+use crate::entries::Node;
 use rx_base::{Items, NoMemory, RelPath, TryClone};
-use rx_world::{Found, Look, SourceEntry};
+use rx_world::{Found, Look};
 use std::alloc::Global;
+use std::collections::BTreeMap;
 
 /// The files at or below a path, in the order of their paths: at most one more than `most`.
 pub(crate) fn list_files(
     alloc: Global,
-    entries: &[SourceEntry],
+    nodes: &BTreeMap<RelPath, Node>,
     under: &RelPath,
     most: usize,
 ) -> Result<Items<Found>, NoMemory>
-    ensures { IfOk result (Lists (Some entries.now) under.now most) }
+    requires { AreSorted (map (λ pair. pair.0) nodes.now.entries) }
+    ensures { IfOk result (Lists (Some (map entry_of nodes.now.entries)) under.now most) }
 {
-    let mut found = in_order(alloc, entries)?;
+    let mut found = all_found(alloc, nodes)?;
     keep_files(&mut found);
     keep_under(&mut found, under);
     cut(&mut found, most);
     Ok(Items::from_vec(found))
 }
 
-/// All that is found, in the order of the paths. Of two entries at one path the first counts, so they
-/// are placed from the last on.
-fn in_order(alloc: Global, entries: &[SourceEntry]) -> Result<Vec<Found>, NoMemory>
+/// All that is found, in the order of the paths.
+fn all_found(alloc: Global, nodes: &BTreeMap<RelPath, Node>) -> Result<Vec<Found>, NoMemory>
     ensures { IfOk result (λ found.
-        found.items ≡ first_placed_by (λ f. f.path) (map found_of entries.now)) }
+        found.items ≡ map found_of (map entry_of nodes.now.entries)) }
 {
-    let mut found = Vec::new(alloc);
-    for at in (0..entries.len()).rev() {
-        let entry = &entries[at];
-        let next = Found {
-            path: entry.path.try_clone(alloc)?,
-            look: entry.look,
-        };
-        place_item(&mut found, next)?;
+    let mut found = Vec::with_capacity(alloc, nodes.len())?;
+    for (path, node) in nodes {
+        found.push(Found {
+            path: path.try_clone(alloc)?,
+            look: node.look,
+        })?;
     }
     Ok(found)
 }

@@ -5,7 +5,7 @@ ghost use Rattle.rx_fakes.specs.Placing.{IsWithin, with_item};
 ghost use Rattle.rx_world.specs.Files.{placed_by};
 
 use rx_base::{Items, NoMemory, RelPath};
-use rx_world::{FileOut, Found};
+use rx_world::FileOut;
 use std::alloc::Global;
 use std::cmp::Ordering;
 use std::mem::replace;
@@ -28,14 +28,6 @@ impl HasPath for RelPath {
 
 impl HasPath for FileOut {
     ghost path_of = { λ file. file.path };
-
-    fn path(&self) -> &RelPath {
-        &self.path
-    }
-}
-
-impl HasPath for Found {
-    ghost path_of = { λ found. found.path };
 
     fn path(&self) -> &RelPath {
         &self.path
@@ -67,7 +59,7 @@ fn spot_for<T: HasPath>(items: &[T], item: &T) -> Spot
 }
 
 /// Places an item by its path. Where memory is wanting, all stays as it was.
-pub(crate) fn place_item<T: HasPath + Drop>(items: &mut Vec<T>, item: T) -> Result<(), NoMemory>
+fn place_item<T: HasPath + Drop>(items: &mut Vec<T>, item: T) -> Result<(), NoMemory>
     ensures ok { OnOk result (items.new.items ≡ placed_by T.path_of item items.old.items) }
     ensures err { OnErr result (items.new.items ≡ items.old.items) }
 {
