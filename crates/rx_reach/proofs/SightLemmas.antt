@@ -134,6 +134,20 @@ begins-later a b xs ys change n h = record { first_is = first-later a b xs ys ch
 pub differed-later : (a b : Sights) (xs ys : List Given) (change : ChangedInput) → Notes a b xs → HaveDiffered b ys change → HaveDiffered a (xs ++ ys) change
 differed-later a b xs ys change n h = (begins-later a b xs ys change n h.0, (answered-later xs ys change.path change.second.look h.1.0, h.1.1))
 
+-- the look that was seen first is so among more answers
+first-wider : (a : Sights) (xs ys : List Given) (path : List ℕ) (look : Look) → first_seen a xs path ≡ Some look → first_seen a (xs ++ ys) path ≡ Some look
+first-wider a xs ys path look e =
+    ap (λ o. option_or (seen_at a path) o) (first-append path xs ys) ∙ sym (or-assoc (seen_at a path) (first_at path xs) (first_at path ys)) ∙ or-some (first_seen a xs path) (first_at path ys) look e
+
+-- two looks that differ do so among more answers
+pub differed-wider : (a : Sights) (xs ys : List Given) (change : ChangedInput) → HaveDiffered a xs change → HaveDiffered a (xs ++ ys) change
+differed-wider a xs ys change h =
+    let b = h.0 in
+    let f = h.1.0 in (
+      record { first_is = first-wider a xs ys change.path change.first.look b.first_is; first_alone = b.first_alone; second_alone = b.second_alone },
+      ((f.0, Contains-append_left xs ys f.0 f.1, f.2, f.3), h.1.1),
+    )
+
 -- a fault after other answers
 pub blames-later : (a b : Sights) (xs ys : List Given) (before then now : ℕ) (fault : SightFault) → Notes a b xs → before ≤ then → Blames b ys then now fault → Blames a (xs ++ ys) before now fault
 blames-later a b xs ys before then now (SourceFault path) n le e = omega (arith, le, e)
