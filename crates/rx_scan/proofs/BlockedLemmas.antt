@@ -64,7 +64,7 @@ upper-then files first second r none h = rw none h
 
 -- a file above another or above a directory is told before what stands in the way
 pub blames-upper : (command : Command) (files : List SeenFile) (paths dirs : List (List ℕ)) (fault : GatherFault) → (fault ≢ NoMemory → IsUpper files (option_or (upper_among paths paths) (over_among paths dirs)) fault) → BlamesWay command files paths dirs fault
-blames-upper command files paths dirs (InputChanged path first second) h = h (λ e. cc e)
+blames-upper command files paths dirs (InputChanged change) h = h (λ e. cc e)
 blames-upper command files paths dirs (InputMissing path) h = let u = h (λ e. cc e) in absurd (cc u.4)
 blames-upper command files paths dirs (SourceFault path) h = let u = h (λ e. cc e) in absurd (cc u.4)
 blames-upper command files paths dirs (TooLarge limit n path) h = let u = h (λ e. cc e) in absurd (cc u.4)

@@ -4,12 +4,13 @@ use Rattle.std.specs.Borrow.{Bor}
 use Rattle.std.specs.Prelude.{All, Contains, IfSome, Ok, Err, Option, None, Some, Result}
 use Rattle.std.specs.declared.cmp.Ordering.TheVariants.{Equal}
 use Rattle.std.specs.Cmp.Lexicographic.{slice_cmp}
+use Rattle.std.specs.List.{AllByRecursion}
 use Rattle.std.specs.List.Sorted.{IsBinarySearchResult}
 use Rattle.std.specs.Slice.{IsItemAt}
 use Rattle.std.specs.Ordering.{nat_cmp}
 use Rattle.std.specs.Result.{result_ok}
 use Rattle.std.proofs.lemmas.List.{map-append, take_more}
-use Rattle.std.proofs.lemmas.List.Elements.{All-append, All-cons, All-get_or, All-nil, Contains-get_or}
+use Rattle.std.proofs.lemmas.List.Elements.{All-append, All-cons, All-from_recursion, All-get_or, All-nil, All-weaker, Contains-get_or, recursion_from_All}
 use Rattle.std.proofs.lemmas.Map.Lookups.{exact_bytes}
 use Rattle.rx_base.specs.declared.digests.Digest.{Digest}
 use Rattle.rx_base.specs.Digests.{digest_of}
@@ -21,7 +22,7 @@ use Rattle.rx_world.specs.declared.sources.Given.{Given}
 use Rattle.rx_world.specs.Sources.{GivesContent}
 use Rattle.rx_scan.specs.declared.seen_files.SeenFile.{SeenFile}
 use Rattle.rx_scan.specs.Digests.{IsSeen, seen_file}
-use Rattle.rx_reach.specs.Explored.{HaveDigests}
+use Rattle.rx_reach.specs.Explored.{AreSeen, HaveDigests}
 use Rattle.rx_reach.specs.Sights.{Notes, seen_at}
 use Rattle.rx_reach.proofs.SightLemmas.{notes-keep}
 
@@ -69,3 +70,14 @@ honest-more content inputs new input all here after =
     subst (HaveDigests content) (sym after)
     (All-append (λ file. file.digest ≡ digest_of (content file.path file.stamp)) inputs (input ∷ []) all
     (All-cons (λ file. file.digest ≡ digest_of (content file.path file.stamp)) input [] here (All-nil (λ file. file.digest ≡ digest_of (content file.path file.stamp)))))
+
+-- files that were seen are still seen with their digests
+pub inputs-seen : (old new : Sights) (answers : List Given) (inputs : List InputFile) (files : List SeenFile) → map seen_file inputs ≡ files → All (IsSeen old) files → Notes old new answers → AreSeen new inputs
+inputs-seen old new answers inputs files e all n =
+    let later : All (IsSeen new) files = All-weaker (IsSeen old) (IsSeen new) (λ (file : SeenFile) seen. notes-keep old new answers file.path (File file.stamp file.executable) n seen) files all in
+    All-from_recursion (λ (file : InputFile). seen_at new file.path ≡ Some (File file.stamp file.executable)) inputs
+    (each inputs (recursion_from_All (IsSeen new) (map seen_file inputs) (subst (All (IsSeen new)) (sym e) later)))
+  where
+    each : (xs : List InputFile) → AllByRecursion (IsSeen new) (map seen_file xs) → AllByRecursion (λ (file : InputFile). seen_at new file.path ≡ Some (File file.stamp file.executable)) xs
+    each [] a = tt
+    each (x ∷ xs) a = (a.0, each xs a.1)

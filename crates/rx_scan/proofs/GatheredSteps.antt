@@ -1,6 +1,6 @@
 -- All that a command runs on is what a scene has, and can be staged.
 use Rattle.std.proofs.Common.{◌≡◌, ◌≢◌, ℕ, ◌||◌, ◌⊎◌, inl, inr, Bool, true, false, List, [], ◌∷◌, ◌++◌, bytes_eq, get_or, length, map, refl, sym, ap, subst, ◌∙◌, arith, true≢false}
-use Rattle.std.specs.Prelude.{All, Contains, None, Option, Some, ◌↔◌}
+use Rattle.std.specs.Prelude.{All, Contains, None, Ok, Option, Some, ◌↔◌}
 use Rattle.std.specs.Cmp.Lexicographic.{nat_list_cmp_total}
 use Rattle.std.specs.FinMap.{nat_cmp-IsAntisymmetric, slice_cmp-IsAntisymmetric}
 use Rattle.std.specs.List.{AllByRecursion, list_any}
@@ -20,33 +20,32 @@ use Rattle.rx_world.specs.declared.commands.Command.{Command}
 use Rattle.rx_world.specs.declared.input_files.InputFile.{InputFile}
 use Rattle.rx_world.specs.declared.looks.Look.{Look}
 use Rattle.rx_world.specs.declared.looks.Look.TheVariants.{File}
-use Rattle.rx_world.specs.declared.looks.Stamp.{Stamp}
 use Rattle.rx_world.specs.declared.refusals.LocalCause.{LocalCause}
 use Rattle.rx_world.specs.declared.refusals.LocalCause.TheVariants as local
-use Rattle.rx_world.specs.declared.sources.Given.{Given}
-use Rattle.rx_world.specs.declared.sources.SourceEntry.{SourceEntry}
+use Rattle.rx_world.specs.declared.sources.Sources as sources
+use Rattle.rx_world.specs.declared.world.World as world
 use Rattle.rx_world.proofs.Among.{Among, all-among, among-from}
 use Rattle.rx_scan.specs.declared.gathering.Gathered.{Gathered}
 use Rattle.rx_scan.specs.declared.input_trees.InputTree.{InputTree}
 use Rattle.rx_scan.specs.declared.scanned.Scanned.{Scanned}
 use Rattle.rx_scan.specs.declared.seen_files.SeenFile.{SeenFile}
-use Rattle.rx_scan.specs.declared.words.Said.{Said}
+use Rattle.rx_scan.specs.declared.words.WordMeaning.{WordMeaning}
 use Rattle.rx_scan.specs.Digests.{seen_file}
-use Rattle.rx_scan.specs.Gathering.{AreApart, Asked, IsGathered, IsInput, IsInputDir, IsOrderly, IsPlanned, MayKeep, command_asked, plan_of, reading_asked, said_asked}
+use Rattle.rx_scan.specs.Gathering.{AreApart, Asked, Gathers, IsGathered, IsInput, IsInputDir, IsOrderly, IsPlanned, MayKeep, command_asked, plan_of, reading_asked, meaning_asked}
 use Rattle.rx_scan.specs.InputTrees.{IsFilesIf, IsOrderlyTree, cause_of, paths_of}
 use Rattle.rx_scan.specs.Lists.{Learns}
 use Rattle.rx_scan.specs.Scanned.{IsScanOf}
 use Rattle.rx_reach.specs.Scans.{Scans}
-use Rattle.rx_reach.specs.Scenes.{Scene}
+use Rattle.rx_reach.specs.Explored.{AreSeen}
+use Rattle.rx_reach.specs.Scenes.{Always, Scene}
 use Rattle.rx_reach.specs.Sights.{sights_of}
 use Rattle.rx_scan.specs.Ways.{above_among, blocked, blocked_in, over_among, upper_among}
 use Rattle.rx_scan.specs.Whole.{IsSeenIn}
 use Rattle.rx_scan.specs.Words.{search_for, with_outputs, word_for}
 use Rattle.rx_scan.proofs.DeclaredSteps.{any-contains}
 use Rattle.rx_scan.proofs.GatherSteps.{inputs-so, kept-so, within-so}
-use Rattle.rx_scan.proofs.Learning.{learns-join}
+use Rattle.rx_scan.proofs.Learning.{learns-join, learns-scans}
 use Rattle.rx_reach.proofs.OpenedLemmas.{opened-reached}
-use Rattle.rx_scan.proofs.ScanBlames.{learns-scans}
 
 abbrev Sights : Type 0
 Sights = List (List ℕ × Look)
@@ -74,14 +73,14 @@ same-looks scene inputs files e h =
 
 -- ---- in a scene
 
-tree-looks : (scene : Scene) (asked : Asked) (scanned : Scanned) (cause : Option LocalCause) (files : List SeenFile) → IsScanOf scene asked.inputs (said_asked asked) scanned → IsFilesIf scene (command_asked asked).outputs scanned.files (is_some cause) files → All (IsSeenIn scene) files
+tree-looks : (scene : Scene) (asked : Asked) (scanned : Scanned) (cause : Option LocalCause) (files : List SeenFile) → IsScanOf scene asked.inputs (meaning_asked asked) scanned → IsFilesIf scene (command_asked asked).outputs scanned.files (is_some cause) files → All (IsSeenIn scene) files
 tree-looks scene asked scanned None files h f = subst (λ (fs : List SeenFile). All (IsSeenIn scene) fs) (sym f) h.list.looks
 tree-looks scene asked scanned (Some cause) files h f = f.looks
 
 abbrev HasDirs : Command → List (List ℕ) → List (List ℕ) → Type 0
 HasDirs command beside dirs = (path : List ℕ) → Contains dirs path ↔ ((path ≢ []) × (Contains beside path ⊎ (path ≡ command.working_directory)))
 
-dirs-so : (scene : Scene) (asked : Asked) (scanned : Scanned) (dirs : List (List ℕ)) → IsScanOf scene asked.inputs (said_asked asked) scanned → HasDirs (command_asked asked) scanned.dirs dirs → (path : List ℕ) → Contains dirs path ↔ IsInputDir scene asked path
+dirs-so : (scene : Scene) (asked : Asked) (scanned : Scanned) (dirs : List (List ℕ)) → IsScanOf scene asked.inputs (meaning_asked asked) scanned → HasDirs (command_asked asked) scanned.dirs dirs → (path : List ℕ) → Contains dirs path ↔ IsInputDir scene asked path
 dirs-so scene asked scanned dirs h d path = (
   λ c.
       let k = (d path).0 c in (
@@ -103,11 +102,11 @@ dirs-so scene asked scanned dirs h d path = (
   ),
 )
 
-pub gathered-so : (scene : Scene) (asked : Asked) (scanned : Scanned) (files : List SeenFile) (gathered : Gathered) → IsScanOf scene asked.inputs (said_asked asked) scanned
-    → IsFilesIf scene (command_asked asked).outputs scanned.files (is_some (cause_of (said_asked asked).word scanned.hard)) files
-    → plan_of asked.strategy (cause_of (said_asked asked).word scanned.hard) ≡ Some gathered.plan → HasDirs (command_asked asked) scanned.dirs gathered.dirs → map seen_file gathered.files ≡ files → IsGathered scene asked gathered
+pub gathered-so : (scene : Scene) (asked : Asked) (scanned : Scanned) (files : List SeenFile) (gathered : Gathered) → IsScanOf scene asked.inputs (meaning_asked asked) scanned
+    → IsFilesIf scene (command_asked asked).outputs scanned.files (is_some (cause_of (meaning_asked asked).word scanned.hard)) files
+    → plan_of asked.strategy (cause_of (meaning_asked asked).word scanned.hard) ≡ Some gathered.plan → HasDirs (command_asked asked) scanned.dirs gathered.dirs → map seen_file gathered.files ≡ files → IsGathered scene asked gathered
 gathered-so scene asked scanned files gathered h f p d same =
-    let cause = cause_of (said_asked asked).word scanned.hard in
+    let cause = cause_of (meaning_asked asked).word scanned.hard in
     let paths : inputs_of gathered.files ≡ paths_of files = same-paths gathered.files files same in
     let is = inputs-so scene asked scanned cause files h f in
     let to : (path : List ℕ) → Contains (inputs_of gathered.files) path → IsInput scene asked cause path = λ path c. (is path).0 (subst (λ ps. Contains ps path) paths c) in
@@ -240,11 +239,11 @@ may-keep command None hard h = ap (option_map (λ path. local.Path path)) (h ref
 may-keep command (Some (reading.Compile source quote_dirs dirs forced sysroots outputs is_c)) hard h = (hard, refl)
 may-keep command (Some (reading.LocalOnly word)) hard h = refl
 
-pub planned-so : (asked : Asked) (said : Said) (hard : Option (List ℕ)) (cause : Option LocalCause) (plan : Plan) → said ≡ said_asked asked → cause ≡ cause_of (said_asked asked).word hard → (said.search ≡ None → hard ≡ None)
+pub planned-so : (asked : Asked) (meaning : WordMeaning) (hard : Option (List ℕ)) (cause : Option LocalCause) (plan : Plan) → meaning ≡ meaning_asked asked → cause ≡ cause_of (meaning_asked asked).word hard → (meaning.search ≡ None → hard ≡ None)
     → plan_of asked.strategy cause ≡ Some plan → IsPlanned asked plan
-planned-so asked said hard cause plan e k unsought p = (
-  cause_of (said_asked asked).word hard,
-  may-keep asked.command (reading_asked asked) hard (λ none. unsought (ap (λ (s : Said). s.search) e ∙ none)),
+planned-so asked meaning hard cause plan e k unsought p = (
+  cause_of (meaning_asked asked).word hard,
+  may-keep asked.command (reading_asked asked) hard (λ none. unsought (ap (λ (s : WordMeaning). s.search) e ∙ none)),
   subst (λ (o : Option LocalCause). plan_of asked.strategy o ≡ Some plan) k p,
 )
 
@@ -252,24 +251,38 @@ planned-so asked said hard cause plan e k unsought p = (
 
 -- what was scanned, and the files that the tree has
 pub record IsScannedTree (scene : Scene) (asked : Asked) (scanned : Scanned) (command : Command) (cause : Option LocalCause) (files : List SeenFile) : Type 0 where
-  pub scans : IsScanOf scene asked.inputs (said_asked asked) scanned
+  pub scans : IsScanOf scene asked.inputs (meaning_asked asked) scanned
   pub files_are : IsFilesIf scene command.outputs scanned.files (is_some cause) files
 
-module _ {T : Type 0} (listed : T → Option (List SourceEntry)) (keeps : T → Type 0) (given : T → Option (List Given)) (content : List ℕ → Stamp → List ℕ) (honest : Type 0) where
-  pub tree-scanned : (a b c : T) (asked : Asked) (mid new : Sights) (scanned : Scanned) (command : Command) (cause : Option LocalCause) (files : List SeenFile) → Learns listed keeps given content honest a b [] mid (λ scene. IsScanOf scene asked.inputs (said_asked asked) scanned)
-      → Learns listed keeps given content honest b c mid new (λ scene. IsFilesIf scene command.outputs scanned.files (is_some cause) files) → Learns listed keeps given content honest a c [] new (λ scene. IsScannedTree scene asked scanned command cause files)
+module _ {T W : Type 0} (w : world.Ghosts W) (s : sources.Ghosts T W) where
+  pub tree-scanned : (a b c : T) (asked : Asked) (mid new : Sights) (scanned : Scanned) (command : Command) (cause : Option LocalCause) (files : List SeenFile) → Learns w s a b [] mid (λ scene. IsScanOf scene asked.inputs (meaning_asked asked) scanned)
+      → Learns w s b c mid new (λ scene. IsFilesIf scene command.outputs scanned.files (is_some cause) files) → Learns w s a c [] new (λ scene. IsScannedTree scene asked scanned command cause files)
   tree-scanned a b c asked mid new scanned command cause files l m =
-      learns-join listed keeps given content honest a b c [] mid new (λ scene. IsScanOf scene asked.inputs (said_asked asked) scanned) (λ scene. IsFilesIf scene command.outputs scanned.files (is_some cause) files) (λ scene. IsScannedTree scene asked scanned command cause files) l m
+      learns-join w s a b c [] mid new (λ scene. IsScanOf scene asked.inputs (meaning_asked asked) scanned) (λ scene. IsFilesIf scene command.outputs scanned.files (is_some cause) files) (λ scene. IsScannedTree scene asked scanned command cause files) l m
       (λ scene x y. record { scans = x; files_are = y })
 
-  pub all-gathered : (a b c : T) (asked : Asked) (mid new : Sights) (scanned : Scanned) (command : Command) (cause : Option LocalCause) (files : List SeenFile) (gathered : Gathered) → command ≡ command_asked asked → cause ≡ cause_of (said_asked asked).word scanned.hard
-      → Learns listed keeps given content honest a b [] mid (λ scene. IsScannedTree scene asked scanned command cause files) → Scans listed keeps given content honest b c mid new (λ scene. Unit {0})
-      → plan_of asked.strategy cause ≡ Some gathered.plan → HasDirs command scanned.dirs gathered.dirs → map seen_file gathered.files ≡ files → sights_of gathered.view ≡ new
-      → Learns listed keeps given content honest a c [] (sights_of gathered.view) (λ scene. IsGathered scene asked gathered)
-  all-gathered a b c asked mid new scanned command cause files gathered e k l s p d same view =
-      subst (λ (x : Sights). Learns listed keeps given content honest a c [] x (λ scene. IsGathered scene asked gathered)) (sym view)
-      (learns-join listed keeps given content honest a b c [] mid new (λ scene. IsScannedTree scene asked scanned command cause files) (λ scene. Unit {0}) (λ scene. IsGathered scene asked gathered) l
-      (learns-scans listed keeps given content honest b c mid new (λ scene. Unit {0}) s)
+  pub all-learned : (a b c : T) (asked : Asked) (mid new : Sights) (scanned : Scanned) (command : Command) (cause : Option LocalCause) (files : List SeenFile) (gathered : Gathered) → command ≡ command_asked asked → cause ≡ cause_of (meaning_asked asked).word scanned.hard
+      → Learns w s a b [] mid (λ scene. IsScannedTree scene asked scanned command cause files) → Scans w s b c mid new Always
+      → plan_of asked.strategy cause ≡ Some gathered.plan → HasDirs command scanned.dirs gathered.dirs → map seen_file gathered.files ≡ files
+      → Learns w s a c [] new (λ scene. IsGathered scene asked gathered)
+  all-learned a b c asked mid new scanned command cause files gathered e k l m p d same =
+      learns-join w s a b c [] mid new (λ scene. IsScannedTree scene asked scanned command cause files) Always (λ scene. IsGathered scene asked gathered) l
+      (learns-scans w s b c mid new Always m)
       (λ scene h q. gathered-so scene asked scanned files gathered h.scans
       (subst (λ (o : Option LocalCause). IsFilesIf scene (command_asked asked).outputs scanned.files (is_some o) files) k (subst (λ (x : Command). IsFilesIf scene x.outputs scanned.files (is_some cause) files) e h.files_are))
-      (subst (λ (o : Option LocalCause). plan_of asked.strategy o ≡ Some gathered.plan) k p) (subst (λ (x : Command). HasDirs x scanned.dirs gathered.dirs) e d) same))
+      (subst (λ (o : Option LocalCause). plan_of asked.strategy o ≡ Some gathered.plan) k p) (subst (λ (x : Command). HasDirs x scanned.dirs gathered.dirs) e d) same)
+
+  -- what was learned, and then the digests
+  pub learns-scanned : (a b c : T) (old mid new : Sights) (P : Scene → Type 0) (Q : Scene → Type 0) → Learns w s a b old mid P → Scans w s b c mid new Q → Learns w s a c old new P
+  learns-scanned a b c old mid new P Q l m = learns-join w s a b c old mid new P Q P l (learns-scans w s b c mid new Q m) (λ scene x y. x)
+
+  -- it gave this
+  pub all-gathered : (a b : T) (asked : Asked) (new : Sights) (gathered : Gathered) → Learns w s a b [] new (λ scene. IsGathered scene asked gathered) → sights_of gathered.view ≡ new → AreSeen new gathered.files
+      → Gathers w s a b asked (Ok gathered)
+  all-gathered a b asked new gathered l view seen = record {
+    answers = l.answers;
+    lists = l.lists;
+    view = new;
+    tells = l.tells;
+    outcome = record { view_is = view; viewed = l.notes; seen = seen; shown = l.fact };
+  }

@@ -1,33 +1,33 @@
 -- The looks at the declared inputs, one after the other.
-use Rattle.std.proofs.Common.{◌≡◌, ℕ, suc, ◌+◌, ◌<◌, ◌≤◌, Bool, true, false, not, cond, List, [], ◌∷◌, ◌++◌, append-nil, filter, length, get_or, take, drop, refl, sym, ap, ◌∙◌, true≢false}
+use Rattle.std.proofs.Common.{◌≡◌, ℕ, suc, ◌+◌, ◌<◌, ◌≤◌, Bool, true, false, not, cond, List, [], ◌∷◌, ◌++◌, append-nil, filter, length, get_or, take, drop, refl, sym, ap, subst, ◌∙◌, true≢false}
 use Rattle.std.specs.Prelude.{None, Option, Some}
 use Rattle.std.specs.List.{find, list_any}
 use Rattle.std.specs.Option.{is_some}
 use Rattle.rx_base.specs.Paths.{is_below}
 use Rattle.rx_base.specs.SortedPaths.{first_below}
 use Rattle.rx_base.proofs.SortedSearch.{position_is_any}
-use Rattle.std.proofs.lemmas.List.{take-append-drop, take_more}
+use Rattle.std.proofs.lemmas.List.{take-append-drop, take_all, take_more}
 use Rattle.std.proofs.lemmas.List.Elements.{filter-append}
 use Rattle.std.proofs.Math.Seq.{drop-cons}
 use Rattle.rx_world.specs.declared.looks.Look.{Look}
 use Rattle.rx_world.specs.declared.looks.Look.TheVariants.{Absent, Dir, File, Other}
-use Rattle.rx_world.specs.declared.looks.Stamp.{Stamp}
 use Rattle.rx_world.specs.declared.sources.Given.{Given}
-use Rattle.rx_world.specs.declared.sources.SourceEntry.{SourceEntry}
-use Rattle.rx_world.specs.Answers.{Gives}
+use Rattle.rx_world.specs.declared.sources.Sources as sources
+use Rattle.rx_world.specs.declared.world.World as world
 use Rattle.rx_world.specs.Sources.{is_file}
 use Rattle.rx_reach.specs.declared.faults.SightFault.{SightFault}
 use Rattle.rx_reach.specs.declared.faults.SightFault.TheVariants.{InputChanged as Changed, NoMemory as OutOfMemory, SourceFault as Lost}
 use Rattle.rx_scan.specs.declared.gather_fault.GatherFault.TheVariants.{InputMissing, NoMemory}
-use Rattle.rx_scan.specs.declared.inputs.Looked.{Looked}
+use Rattle.rx_scan.specs.declared.inputs.LookedInputs.{LookedInputs}
 use Rattle.rx_reach.specs.Candidates.{is_dir}
 use Rattle.rx_scan.specs.GatherFault.{fault_of}
-use Rattle.rx_scan.specs.Inputs.{BlamesInputs, IsLooked, empty_among, first_missing, is_absent, with_look}
-use Rattle.rx_scan.specs.Lists.{Fails, Learns, Listing}
-use Rattle.rx_reach.specs.Scenes.{Scene}
-use Rattle.rx_reach.specs.Sights.{Blames, Notes, seen_at}
-use Rattle.rx_reach.proofs.SightLemmas.{blames-later}
-use Rattle.rx_scan.proofs.Learning.{fails-after, fails-join, fails-one, learns-join, learns-look, learns-none}
+use Rattle.rx_scan.specs.Inputs.{BlamesInputs, IsLooked, WasMissing, empty_among, is_absent, with_look}
+use Rattle.rx_scan.specs.Lists.{BlamesSight, Fails, Learns, Stretch}
+use Rattle.rx_reach.specs.Scans.{Ends, Scans}
+use Rattle.rx_reach.specs.Scenes.{Always, Scene, Sees}
+use Rattle.rx_reach.specs.Sights.{Notes, seen_at}
+use Rattle.rx_reach.proofs.ScanLemmas.{ends-join, scans-on, scans-sees, sees-later}
+use Rattle.rx_scan.proofs.Learning.{fails-after, fails-always, fails-ends, fails-so, learns-scans}
 
 abbrev Sights : Type 0
 Sights = List (List ℕ × Look)
@@ -62,7 +62,7 @@ not-not false = refl
 
 -- ---- one look more
 
-looked-more : (scene : Scene) (xs : List (List ℕ)) (looked : Looked) (x : List ℕ) (look : Look) → IsLooked scene xs looked → look ≡ scene.look x → is_absent look ≡ false → IsLooked scene (xs ++ x ∷ []) (with_look looked x look)
+looked-more : (scene : Scene) (xs : List (List ℕ)) (looked : LookedInputs) (x : List ℕ) (look : Look) → IsLooked scene xs looked → look ≡ scene.look x → is_absent look ≡ false → IsLooked scene (xs ++ x ∷ []) (with_look looked x look)
 looked-more scene xs looked x Absent h e t = absurd (true≢false t)
 looked-more scene xs looked x (File stamp executable) h e t = record {
   there = find-none_more (λ p. is_absent (scene.look p)) xs x h.there (ap is_absent (sym e));
@@ -93,54 +93,71 @@ empty-more files dirs i dir b empty next h e t before is =
     let here : p dir ≡ b = ap not (sym (position_is_any (λ file. is_below file dir) files) ∙ t) ∙ not-not b in
     is ∙ kept p (take i dirs) dir b empty before here ∙ ap (filter p) (sym (taken dirs i dir h e))
 
--- a fault of a look is one of the inputs
-pub blames-inputs : (sights : Sights) (inputs roots : List (List ℕ)) (before now : ℕ) (fault : SightFault) (answers : List Given) (lists : List Listing) → Blames sights answers before now fault → BlamesInputs sights inputs roots before now (fault_of fault) answers lists
-blames-inputs sights inputs roots before now (Lost path) answers lists h = h
-blames-inputs sights inputs roots before now (Changed path first second) answers lists h = h
-blames-inputs sights inputs roots before now OutOfMemory answers lists h = tt
+-- ---- what was seen of the inputs
 
-module _ {T : Type 0} (listed : T → Option (List SourceEntry)) (keeps : T → Type 0) (given : T → Option (List Given)) (content : List ℕ → Stamp → List ℕ) (honest : Type 0) where
-  abbrev Looks : T → T → Sights → Sights → List ℕ → Look → Type 0
-  Looks a b old new path look = (answers : List Given) × Gives listed keeps given content honest a b answers × (Notes old new answers × (seen_at new path ≡ Some look))
+absent-is : (look : Look) → is_absent look ≡ true → look ≡ Absent
+absent-is Absent t = refl
+absent-is (File stamp executable) t = absurd (true≢false (sym t))
+absent-is Dir t = absurd (true≢false (sym t))
+absent-is Other t = absurd (true≢false (sym t))
 
-  pub look-start : (a : T) (old : Sights) (inputs : List (List ℕ)) (looked : Looked) → looked.files ≡ [] → looked.dirs ≡ [] → Learns listed keeps given content honest a a old old (λ scene. IsLooked scene (take 0 inputs) looked)
-  look-start a old inputs looked f d = learns-none listed keeps given content honest a old (λ scene. IsLooked scene (take 0 inputs) looked) (λ scene right. record { there = refl; files = f; dirs = d })
+pub look-start : (sights : Sights) (inputs : List (List ℕ)) (looked : LookedInputs) → looked.files ≡ [] → looked.dirs ≡ [] → Sees sights (λ scene. IsLooked scene (take 0 inputs) looked)
+look-start sights inputs looked f d scene right = record { there = refl; files = f; dirs = d }
 
-  pub look-more : (a b c : T) (old mid new : Sights) (inputs : List (List ℕ)) (i : ℕ) (input : List ℕ) (looked next : Looked) (look : Look) → i < length inputs → input ≡ get_or inputs i input → is_absent look ≡ false → next ≡ with_look looked input look
-      → Learns listed keeps given content honest a b old mid (λ scene. IsLooked scene (take i inputs) looked) → Looks b c mid new input look
-      → Learns listed keeps given content honest a c old new (λ scene. IsLooked scene (take (i + 1) inputs) next)
-  look-more a b c old mid new inputs i input looked next look h e t is l s =
-      learns-join listed keeps given content honest a b c old mid new (λ scene. IsLooked scene (take i inputs) looked) (λ scene. look ≡ scene.look input) (λ scene. IsLooked scene (take (i + 1) inputs) next) l
-      (learns-look listed keeps given content honest b c mid new input look s)
-      (λ scene before at. rw (taken inputs i input h e, is) (looked-more scene (take i inputs) looked input look before at t))
+pub look-more : (mid new : Sights) (answers : List Given) (inputs : List (List ℕ)) (i : ℕ) (input : List ℕ) (looked next : LookedInputs) (look : Look)
+    → i < length inputs → input ≡ get_or inputs i input → is_absent look ≡ false → next ≡ with_look looked input look
+    → Sees mid (λ scene. IsLooked scene (take i inputs) looked) → Notes mid new answers → seen_at new input ≡ Some look
+    → Sees new (λ scene. IsLooked scene (take (i + 1) inputs) next)
+look-more mid new answers inputs i input looked next look h e t is before n seen scene r =
+    let was = sees-later mid new answers (λ x. IsLooked x (take i inputs) looked) n before scene r in
+    rw (taken inputs i input h e, is) (looked-more scene (take i inputs) looked input look was (r input look seen) t)
 
-  pub look-failed : (a b c : T) (old mid : Sights) (P : Scene → Type 0) (inputs roots : List (List ℕ)) (fa fb fc : ℕ) (fault : SightFault) → fa ≤ fb
-      → Learns listed keeps given content honest a b old mid P → ((answers : List Given) × Gives listed keeps given content honest b c answers × Blames mid answers fb fc fault)
-      → Fails listed keeps given content honest a c (BlamesInputs old inputs roots fa fc (fault_of fault))
-  look-failed a b c old mid P inputs roots fa fb fc fault le l f =
-      fails-join listed keeps given content honest a b c old mid P (λ answers lists. Blames mid answers fb fc fault) (BlamesInputs old inputs roots fa fc (fault_of fault)) l
-      (fails-one listed keeps given content honest b c f.0 (λ answers lists. Blames mid answers fb fc fault) f.1 f.2)
-      (λ xs ys ls ms n p cause. blames-inputs old inputs roots fa fc fault (xs ++ ys) (ls ++ ms) (blames-later old mid xs ys fa fb fc fault n le cause))
-
-  pub look-missing : (a b c : T) (old mid new : Sights) (inputs roots : List (List ℕ)) (i : ℕ) (input path : List ℕ) (looked : Looked) (look : Look) (fa fc : ℕ) → i < length inputs → input ≡ get_or inputs i input → path ≡ input → is_absent look ≡ true
-      → Learns listed keeps given content honest a b old mid (λ scene. IsLooked scene (take i inputs) looked) → Looks b c mid new input look
-      → Fails listed keeps given content honest a c (BlamesInputs old inputs roots fa fc (InputMissing path))
-  look-missing a b c old mid new inputs roots i input path looked look fa fc h e is t l s =
-      let Missing : Scene → Type 0 = λ scene. first_missing scene inputs ≡ Some path in
-      fails-after listed keeps given content honest a c old new Missing (BlamesInputs old inputs roots fa fc (InputMissing path))
-      (learns-join listed keeps given content honest a b c old mid new (λ scene. IsLooked scene (take i inputs) looked) (λ scene. look ≡ scene.look input) Missing l
-      (learns-look listed keeps given content honest b c mid new input look s)
-      (λ scene before at.
+missing-seen : (mid new : Sights) (answers : List Given) (inputs : List (List ℕ)) (i : ℕ) (input path : List ℕ) (looked : LookedInputs) (look : Look)
+    → i < length inputs → input ≡ get_or inputs i input → path ≡ input → is_absent look ≡ true
+    → Sees mid (λ scene. IsLooked scene (take i inputs) looked) → Notes mid new answers → seen_at new input ≡ Some look → WasMissing inputs new path
+missing-seen mid new answers inputs i input path looked look h e is t before n seen = (
+  ap (seen_at new) is ∙ seen ∙ ap Some (absent-is look t),
+  λ scene r.
       let p : List ℕ → Bool = λ x. is_absent (scene.look x) in
-      ap (find p) (split inputs i input h e) ∙ find-here p (take i inputs) (drop (suc i) inputs) input before.there (ap is_absent (sym at) ∙ t) ∙ ap Some (sym is)))
-      (λ xs ls fact. fact)
+      let was = sees-later mid new answers (λ x. IsLooked x (take i inputs) looked) n before scene r in
+      ap (find p) (split inputs i input h e) ∙ find-here p (take i inputs) (drop (suc i) inputs) input was.there (ap is_absent (sym (r input look seen)) ∙ t) ∙ ap Some (sym is),
+)
+
+-- a fault of a look is one of the inputs
+of-sight : (inputs roots : List (List ℕ)) (fault : SightFault) (st : Stretch) → BlamesSight fault st → BlamesInputs inputs roots (fault_of fault) st
+of-sight inputs roots (Lost path) st h = h
+of-sight inputs roots (Changed change) st h = h
+of-sight inputs roots OutOfMemory st h = tt
+
+module _ {T W : Type 0} (w : world.Ghosts W) (s : sources.Ghosts T W) where
+  pub look-failed : (a b c : T) (old mid new : Sights) (P : Scene → Type 0) (inputs roots : List (List ℕ)) (fault : SightFault)
+      → Scans w s a b old mid P → Ends w s b c mid fault → Fails w s a c old new (BlamesInputs inputs roots (fault_of fault))
+  look-failed a b c old mid new P inputs roots fault k e =
+      fails-so w s a c old new (BlamesSight fault) (BlamesInputs inputs roots (fault_of fault))
+      (fails-ends w s a c old new fault (ends-join w s a b c old mid P fault k e)) (λ st h. of-sight inputs roots fault st h)
+
+  pub look-missing : (a b c : T) (old mid new : Sights) (P Q : Scene → Type 0) (inputs roots : List (List ℕ)) (i : ℕ) (input path : List ℕ) (looked : LookedInputs) (look : Look)
+      → i < length inputs → input ≡ get_or inputs i input → path ≡ input → is_absent look ≡ true
+      → Scans w s a b old mid P → Scans w s b c mid new Q → Sees mid (λ scene. IsLooked scene (take i inputs) looked) → seen_at new input ≡ Some look
+      → Fails w s a c old new (BlamesInputs inputs roots (InputMissing path))
+  look-missing a b c old mid new P Q inputs roots i input path looked look h e is t k l before seen =
+      fails-after w s a c old new Always (BlamesInputs inputs roots (InputMissing path))
+      (learns-scans w s a c old new Always (scans-on w s a b c old mid new P Q k l))
+      (λ xs ls n fact. (n, missing-seen mid new l.answers inputs i input path looked look h e is t before l.notes seen))
+
+  -- all of the inputs were looked at
+  pub look-end : (a b : T) (old new : Sights) (P : Scene → Type 0) (inputs : List (List ℕ)) (i : ℕ) (looked : LookedInputs) → length inputs ≤ i
+      → Scans w s a b old new P → Sees new (λ scene. IsLooked scene (take i inputs) looked) → Learns w s a b old new (λ scene. IsLooked scene inputs looked)
+  look-end a b old new P inputs i looked le k seen =
+      learns-scans w s a b old new (λ scene. IsLooked scene inputs looked)
+      (scans-sees w s a b old new P (λ scene. IsLooked scene inputs looked) k (λ scene r. subst (λ xs. IsLooked scene xs looked) (take_all i inputs le) (seen scene r)))
 
   -- memory may run out at any time
-  pub out_of_memory : (a b : T) (old new : Sights) (P : Scene → Type 0) (inputs roots : List (List ℕ)) (fa fb : ℕ) → Learns listed keeps given content honest a b old new P → Fails listed keeps given content honest a b (BlamesInputs old inputs roots fa fb NoMemory)
-  out_of_memory a b old new P inputs roots fa fb l = fails-after listed keeps given content honest a b old new P (BlamesInputs old inputs roots fa fb NoMemory) l (λ xs ls fact. tt)
+  pub out_of_memory : (a b : T) (old mid new : Sights) (P : Scene → Type 0) (inputs roots : List (List ℕ)) → Learns w s a b old mid P → Fails w s a b old new (BlamesInputs inputs roots NoMemory)
+  out_of_memory a b old mid new P inputs roots l = fails-always w s a b old mid new P (BlamesInputs inputs roots NoMemory) l (λ st. tt)
 
   -- the same after one look more
-  pub out_of_memory_then : (a b c : T) (old mid new : Sights) (P : Scene → Type 0) (inputs roots : List (List ℕ)) (path : List ℕ) (look : Look) (fa fc : ℕ) → Learns listed keeps given content honest a b old mid P → Looks b c mid new path look → Fails listed keeps given content honest a c (BlamesInputs old inputs roots fa fc NoMemory)
-  out_of_memory_then a b c old mid new P inputs roots path look fa fc l s =
-      out_of_memory a c old new (λ scene. P scene) inputs roots fa fc
-      (learns-join listed keeps given content honest a b c old mid new P (λ scene. look ≡ scene.look path) P l (learns-look listed keeps given content honest b c mid new path look s) (λ scene before at. before))
+  pub out_of_memory_then : (a b c : T) (old mid new : Sights) (P Q : Scene → Type 0) (inputs roots : List (List ℕ)) → Scans w s a b old mid P → Scans w s b c mid new Q
+      → Fails w s a c old new (BlamesInputs inputs roots NoMemory)
+  out_of_memory_then a b c old mid new P Q inputs roots k l =
+      out_of_memory a c old new new Always inputs roots (learns-scans w s a c old new Always (scans-on w s a b c old mid new P Q k l))

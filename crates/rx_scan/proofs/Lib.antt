@@ -1,4 +1,5 @@
 mod BlockedLemmas
+mod CountLemmas
 mod DeclaredSteps
 mod DigestLemmas
 mod GatherSteps
@@ -7,6 +8,7 @@ mod InputSteps
 mod Learning
 mod LimitLemmas
 mod ListSteps
+mod ListedLemmas
 mod LookSteps
 mod NoReach
 mod PathSteps
@@ -14,7 +16,6 @@ mod ScanBlames
 mod ScannedSteps
 mod SeenAll
 mod SeenSteps
-mod SettleLemmas
 mod TakenSteps
 mod TreeSteps
 mod WholeSteps

@@ -5,23 +5,25 @@ use Rattle.std.specs.List.{AllByRecursion}
 use Rattle.std.specs.List.Sorted.{IsStrictlySortedBy}
 use Rattle.std.specs.Cmp.Lexicographic.{slice_cmp}
 use Rattle.std.proofs.lemmas.List.{map-append, take-append-drop, take_all, take-map, take_more, length-map, length-take}
-use Rattle.std.proofs.lemmas.List.Elements.{All-cons, All-from_recursion, All-head, All-nil, Contains-append_left, recursion_from_All}
+use Rattle.std.proofs.lemmas.List.Elements.{All-cons, All-from_recursion, All-head, All-nil, recursion_from_All}
 use Rattle.rx_base.specs.SortedPaths.{AreSorted}
 use Rattle.rx_world.specs.declared.looks.Look.{Look}
 use Rattle.rx_world.specs.declared.looks.Stamp.{Stamp}
 use Rattle.rx_world.specs.declared.sources.Found.{Found}
 use Rattle.rx_world.specs.declared.sources.Given.{Given}
 use Rattle.rx_world.specs.declared.sources.SourceEntry.{SourceEntry}
+use Rattle.rx_world.specs.declared.sources.Sources as sources
+use Rattle.rx_world.specs.declared.world.World as world
 use Rattle.rx_world.specs.Answers.{Gives, HasContent, IsAnswerOf}
-use Rattle.rx_world.specs.Sources.{Adds, Lists, entry_at, files_under, given_all, given_look, is_file}
+use Rattle.rx_world.specs.Sources.{Adds, HoldContent, Lists, entry_at, files_under, given_all, given_look, is_file}
 use Rattle.rx_world.proofs.Among.{Among, all-among, among-from, among-from_map, among-map, contains-from}
 use Rattle.rx_world.proofs.FilesUnder.{entry_at-path, list-is_right, under-has, under-is, under-only, under-sorted}
 use Rattle.rx_reach.specs.declared.faults.SightFault.{SightFault}
 use Rattle.rx_reach.specs.declared.faults.SightFault.TheVariants.{InputChanged, NoMemory, SourceFault}
 use Rattle.rx_scan.specs.Lists.{IsListed, IsRightList, Learns, is_under, paths_of}
 use Rattle.rx_reach.specs.Scenes.{IsRight, Scene, scene_of}
-use Rattle.rx_reach.specs.Sights.{Blames, Notes, WasSeen}
-use Rattle.rx_reach.proofs.SightLemmas.{blames-later, notes-join}
+use Rattle.rx_reach.specs.Sights.{Blames, Notes}
+use Rattle.rx_reach.proofs.SightLemmas.{blames-later, differed-wider, notes-join}
 use Rattle.rx_scan.proofs.Learning.{RightBy}
 
 abbrev Sights : Type 0
@@ -37,14 +39,10 @@ given-more found i item h e =
 pub note-more : (a b c : Sights) (found : List Found) (i : ℕ) (item : Found) → i < length found → item ≡ get_or found i item → Notes a b (given_all (take i found)) → Notes b c (given_look item.path item.look ∷ []) → Notes a c (given_all (take (i + 1) found))
 note-more a b c found i item h e n m = subst (λ xs. Notes a c xs) (sym (given-more found i item h e)) (notes-join a b c (given_all (take i found)) (given_look item.path item.look ∷ []) n m)
 
-seen-wider : (a : Sights) (xs ys : List Given) (path : List ℕ) (look : Look) → WasSeen a xs path look → WasSeen a (xs ++ ys) path look
-seen-wider a xs ys path look (inl e) = inl e
-seen-wider a xs ys path look (inr f) = inr (f.0, Contains-append_left xs ys f.0 f.1, f.2, f.3)
-
 -- a fault among more answers
 pub blames-wider : (a : Sights) (xs ys : List Given) (before now : ℕ) (fault : SightFault) → Blames a xs before now fault → Blames a (xs ++ ys) before now fault
 blames-wider a xs ys before now (SourceFault path) e = e
-blames-wider a xs ys before now (InputChanged path first second) e = (e.0, e.1, seen-wider a xs ys path first.look e.2, seen-wider a xs ys path second.look e.3, e.4)
+blames-wider a xs ys before now (InputChanged change) e = differed-wider a xs ys change e
 blames-wider a xs ys before now NoMemory e = tt
 
 given-split : (found : List Found) (n : ℕ) → given_all (take n found) ++ given_all (drop n found) ≡ given_all found
@@ -126,30 +124,41 @@ none-right : (o : Option (List SourceEntry)) → IfSome o (λ entries. All (IsAn
 none-right None = tt
 none-right (Some entries) = All-nil (IsAnswerOf entries)
 
-module _ {T : Type 0} (listed : T → Option (List SourceEntry)) (keeps : T → Type 0) (given : T → Option (List Given)) (content : List ℕ → Stamp → List ℕ) (honest : Type 0) where
-  pub gives-list : (a b : T) (under : List ℕ) (most : ℕ) (found : List Found) → Lists (listed a) under most found → (keeps a → keeps b × (listed b ≡ listed a)) → Adds (given a) (given b) (given_all found) → Gives listed keeps given content honest a b (given_all found)
-  gives-list a b under most found l k g = record {
+module _ {T W : Type 0} (w : world.Ghosts W) (s : sources.Ghosts T W) where
+  abbrev Keeps : T → T → Type 0
+  Keeps a b = s.keeps a → s.keeps b × (s.listed b ≡ s.listed a)
+
+  -- where stamps are honest, what is listed afterwards holds the world's contents
+  abbrev Holds : T → Type 0
+  Holds b = w.stamps_honest → IfSome (s.listed b) (HoldContent w.content)
+
+  pub gives-list : (a b : T) (under : List ℕ) (most : ℕ) (found : List Found) → Lists (s.listed a) under most found → Keeps a b → Holds b → Adds (s.given a) (s.given b) (given_all found) → s.faults a ≤ s.faults b
+      → Gives w s a b (given_all found)
+  gives-list a b under most found l k h g later = record {
     told = g;
     kept = k;
-    by_list = λ _. list-is_right (listed a) under most found l;
-    contents = λ _. All-from_recursion (HasContent content) (given_all found) (no_bytes content found);
+    by_list = λ _. list-is_right (s.listed a) under most found l;
+    contents = λ _. All-from_recursion (HasContent w.content) (given_all found) (no_bytes w.content found);
+    holds = λ e keep _. subst (λ o. IfSome o (HoldContent w.content)) (k keep).1 (h e);
+    later = later;
   }
 
-  pub gives-nothing : (a b : T) → (keeps a → keeps b × (listed b ≡ listed a)) → Adds (given a) (given b) [] → Gives listed keeps given content honest a b []
-  gives-nothing a b k g = record {
+  pub gives-nothing : (a b : T) → Keeps a b → Adds (s.given a) (s.given b) [] → s.faults a ≤ s.faults b → Gives w s a b []
+  gives-nothing a b k g later = record {
     told = g;
     kept = k;
-    by_list = λ _. none-right (listed a);
-    contents = λ _. All-nil (HasContent content);
+    by_list = λ _. none-right (s.listed a);
+    contents = λ _. All-nil (HasContent w.content);
+    holds = λ e keep some. absurd (some refl);
+    later = later;
   }
 
-  pub learns-list : (a b : T) (old new : Sights) (under : List ℕ) (most : ℕ) (found : List Found) → Lists (listed a) under most found → (keeps a → keeps b × (listed b ≡ listed a)) → Adds (given a) (given b) (given_all found) → Notes old new (given_all found)
-      → Learns listed keeps given content honest a b old new (λ scene. IsListed scene under most found)
-  learns-list a b old new under most found l k g n = record {
+  pub learns-list : (a b : T) (old new : Sights) (under : List ℕ) (most : ℕ) (found : List Found) → Lists (s.listed a) under most found → Keeps a b → Holds b → Adds (s.given a) (s.given b) (given_all found) → s.faults a ≤ s.faults b
+      → Notes old new (given_all found) → Learns w s a b old new (λ scene. IsListed scene under most found)
+  learns-list a b old new under most found l k h g later n = record {
     answers = given_all found;
     lists = record { under = under; most = most; found = paths_of found } ∷ [];
-    gives = gives-list a b under most found l k g;
-    by_list = λ _. listing-right (listed a) under most found l;
+    tells = record { gives = gives-list a b under most found l k h g later; by_list = λ _. listing-right (s.listed a) under most found l };
     notes = n;
     fact = λ scene shows. record {
       right = All-head (IsRightList scene) (record { under = under; most = most; found = paths_of found }) [] shows.listed;

@@ -14,7 +14,7 @@ use Rattle.rx_reach.specs.declared.reach.Reached.{Reached}
 use Rattle.rx_scan.specs.declared.scanned.ScanPaths.{ScanPaths}
 use Rattle.rx_reach.specs.declared.searches.Search.{Search}
 use Rattle.rx_scan.specs.declared.seen_files.SeenFile.{SeenFile}
-use Rattle.rx_scan.specs.declared.words.Said.{Said}
+use Rattle.rx_scan.specs.declared.words.WordMeaning.{WordMeaning}
 use Rattle.rx_reach.specs.Candidates.{is_dir}
 use Rattle.rx_reach.specs.FileTables.{paths_of}
 use Rattle.rx_scan.specs.Inputs.{IsDeclaredBy}
@@ -22,9 +22,9 @@ use Rattle.rx_scan.specs.Limits.{check_of}
 use Rattle.rx_reach.specs.Reach.{IsHard, IsLeastPath, IsLeft, IsReached, LeadsTo}
 use Rattle.rx_scan.specs.Scanned.{IsDirBy, IsPathsOf, IsReachOf, IsReachedBy, IsScanListBy, IsScanOf, IsScannedBy}
 use Rattle.rx_reach.specs.Scenes.{AreRight, Scene}
-use Rattle.rx_scan.specs.SeenDirs.{IsKnownAt, is_dir_seen}
+use Rattle.rx_scan.specs.SeenDirs.{is_dir_seen}
 use Rattle.rx_scan.specs.SeenFiles.{file_seen}
-use Rattle.rx_reach.specs.Sights.{seen_at}
+use Rattle.rx_reach.specs.Sights.{IsKnownAt, seen_at}
 use Rattle.rx_reach.proofs.LeftLemmas.{left-dir}
 use Rattle.rx_scan.proofs.PathSteps.{in-filter}
 use Rattle.rx_scan.proofs.WholeTaken.{IsKnown, same-looks, same-paths, sorted-seen}
@@ -76,21 +76,21 @@ reach-easy scene None reached h e = h.1
 reach-easy scene (Some s) reached h e = absurd (cc e)
 
 -- a scan's paths, from what is declared and what is reached
-pub paths-of : (scene : Scene) (inputs : List (List ℕ)) (said : Said) (declared : Declared) (reached : Reached) (files dirs : List (List ℕ)) → IsDeclaredBy scene inputs said.roots declared → IsReachOf scene said.search reached → length reached.files ≤ 20000
+pub paths-of : (scene : Scene) (inputs : List (List ℕ)) (meaning : WordMeaning) (declared : Declared) (reached : Reached) (files dirs : List (List ℕ)) → IsDeclaredBy scene inputs meaning.roots declared → IsReachOf scene meaning.search reached → length reached.files ≤ 20000
     → ((path : List ℕ) → Contains files path ↔ (Contains declared.files path ⊎ Contains (paths_of reached.files) path))
     → ((path : List ℕ) → Contains dirs path ↔ ((path ≢ []) × (Contains declared.empty_dirs path ⊎ Contains reached.left path)))
-    → IsPathsOf scene inputs said (record { files = files; dirs = dirs; known = reached.files; hard = reached.hard })
-paths-of scene inputs said declared reached files dirs d r few fs ds = record {
+    → IsPathsOf scene inputs meaning (record { files = files; dirs = dirs; known = reached.files; hard = reached.hard })
+paths-of scene inputs meaning declared reached files dirs d r few fs ds = record {
   there = d.there;
   files = λ path.
-      let h = reach-files scene said.search reached r few path in (
+      let h = reach-files scene meaning.search reached r few path in (
         λ c. elim ((fs path).0 c) [ inl l ↦ inl ((d.files path).0 l) | inr x ↦ inr (h.0 x) ],
         λ s. (fs path).1 (elim s [ inl l ↦ inl ((d.files path).1 l) | inr x ↦ inr (h.1 x) ]),
       );
-  hard = reach-hard scene said.search reached r few;
-  easy = reach-easy scene said.search reached r;
+  hard = reach-hard scene meaning.search reached r few;
+  easy = reach-easy scene meaning.search reached r;
   dirs = λ path.
-      let h = reach-left scene said.search reached r few path in (
+      let h = reach-left scene meaning.search reached r few path in (
         λ c. let k = (ds path).0 c in (k.0, elim k.1 [ inl l ↦ inl ((d.empty path).0 l) | inr x ↦ inr (h.0 x) ]),
         λ s. (ds path).1 (s.0, elim s.1 [ inl l ↦ inl ((d.empty path).1 l) | inr x ↦ inr (h.1 x) ]),
       );
@@ -103,13 +103,13 @@ leads-file scene search [] path (inl h) = h.1
 leads-file scene search [] path (inr h) = h.2.file
 leads-file scene search (before ∷ others) path h = h.1.2.file
 
-scanned-file : (scene : Scene) (inputs : List (List ℕ)) (said : Said) (path : List ℕ) → IsScannedBy scene inputs said path → is_file (scene.look path) ≡ true
-scanned-file scene inputs said path (inl d) = d.0
-scanned-file scene inputs said path (inr r) = leads-file scene r.0 r.2.0 path r.2.1
+scanned-file : (scene : Scene) (inputs : List (List ℕ)) (meaning : WordMeaning) (path : List ℕ) → IsScannedBy scene inputs meaning path → is_file (scene.look path) ≡ true
+scanned-file scene inputs meaning path (inl d) = d.0
+scanned-file scene inputs meaning path (inr r) = leads-file scene r.0 r.2.0 path r.2.1
 
-dir-is : (scene : Scene) (inputs : List (List ℕ)) (said : Said) (path : List ℕ) → IsDirBy scene inputs said path → is_dir (scene.look path) ≡ true
-dir-is scene inputs said path (some, inl e) = e.1
-dir-is scene inputs said path (some, inr l) = left-dir scene l.2.0 path some l.2.2
+dir-is : (scene : Scene) (inputs : List (List ℕ)) (meaning : WordMeaning) (path : List ℕ) → IsDirBy scene inputs meaning path → is_dir (scene.look path) ≡ true
+dir-is scene inputs meaning path (some, inl e) = e.1
+dir-is scene inputs meaning path (some, inr l) = left-dir scene l.2.0 path some l.2.2
 
 known-all : (sights : Sights) (scene : Scene) (paths : List (List ℕ)) → AreRight scene sights → AllByRecursion (IsKnownAt sights) paths → ((path : List ℕ) → Among path paths → is_file (scene.look path) ≡ true) → AllByRecursion (IsKnown sights scene) paths
 known-all sights scene [] r k f = tt
@@ -120,24 +120,24 @@ seen-dir : (sights : Sights) (scene : Scene) (path : List ℕ) → AreRight scen
 seen-dir sights scene path r k t = ap is_dir_seen k.1 ∙ ap is_dir (r path k.0 k.1) ∙ t
 
 -- the files that were seen at a scan's paths are its files
-pub list-of-scan : (scene : Scene) (inputs : List (List ℕ)) (said : Said) (sights : Sights) (paths : ScanPaths) (files : List SeenFile) → IsPathsOf scene inputs said paths → AreRight scene sights → AreSorted paths.files → All (IsKnownAt sights) paths.files
-    → files ≡ filter_map (file_seen sights) paths.files → IsScanListBy scene inputs said files
-list-of-scan scene inputs said sights paths files h r sorted fk fe =
-    let known = known-all sights scene paths.files r (recursion_from_All (IsKnownAt sights) paths.files fk) (λ p a. scanned-file scene inputs said p ((h.files p).0 (contains-from p paths.files a))) in
+pub list-of-scan : (scene : Scene) (inputs : List (List ℕ)) (meaning : WordMeaning) (sights : Sights) (paths : ScanPaths) (files : List SeenFile) → IsPathsOf scene inputs meaning paths → AreRight scene sights → AreSorted paths.files → All (IsKnownAt sights) paths.files
+    → files ≡ filter_map (file_seen sights) paths.files → IsScanListBy scene inputs meaning files
+list-of-scan scene inputs meaning sights paths files h r sorted fk fe =
+    let known = known-all sights scene paths.files r (recursion_from_All (IsKnownAt sights) paths.files fk) (λ p a. scanned-file scene inputs meaning p ((h.files p).0 (contains-from p paths.files a))) in
     let same = same-paths sights scene paths.files known in
-    subst (λ fs. IsScanListBy scene inputs said fs) (sym fe) (record {
+    subst (λ fs. IsScanListBy scene inputs meaning fs) (sym fe) (record {
       sorted = sorted-seen sights paths.files sorted;
       looks = same-looks sights scene paths.files known;
       only = λ path. (λ c. (h.files path).0 (subst (λ ps. Contains ps path) same c), λ d. subst (λ ps. Contains ps path) (sym same) ((h.files path).1 d));
     })
 
 -- what was scanned, from what was seen at a scan's paths
-pub scan-of : (scene : Scene) (inputs : List (List ℕ)) (said : Said) (sights : Sights) (paths : ScanPaths) (files : List SeenFile) (dirs : List (List ℕ)) → IsPathsOf scene inputs said paths → AreRight scene sights → AreSorted paths.files
+pub scan-of : (scene : Scene) (inputs : List (List ℕ)) (meaning : WordMeaning) (sights : Sights) (paths : ScanPaths) (files : List SeenFile) (dirs : List (List ℕ)) → IsPathsOf scene inputs meaning paths → AreRight scene sights → AreSorted paths.files
     → All (IsKnownAt sights) paths.files → All (IsKnownAt sights) paths.dirs → files ≡ filter_map (file_seen sights) paths.files → dirs ≡ filter (λ path. is_dir_seen (seen_at sights path)) paths.dirs → check_of Scan files ≡ Ok tt
-    → IsScanOf scene inputs said (record { files = files; dirs = dirs; known = paths.known; hard = paths.hard })
-scan-of scene inputs said sights paths files dirs h r sorted fk dk fe de fits = record {
+    → IsScanOf scene inputs meaning (record { files = files; dirs = dirs; known = paths.known; hard = paths.hard })
+scan-of scene inputs meaning sights paths files dirs h r sorted fk dk fe de fits = record {
   there = h.there;
-  list = list-of-scan scene inputs said sights paths files h r sorted fk fe;
+  list = list-of-scan scene inputs meaning sights paths files h r sorted fk fe;
   fits = fits;
   hard = h.hard;
   easy = h.easy;
@@ -147,6 +147,6 @@ scan-of scene inputs said sights paths files dirs h r sorted fk dk fe de fits = 
         λ d.
             let has = (h.dirs path).1 d in
             let k = all-among (IsKnownAt sights) path paths.dirs (recursion_from_All (IsKnownAt sights) paths.dirs dk) (among-from path paths.dirs has) in
-            i.1 (seen-dir sights scene path r k (dir-is scene inputs said path d), has),
+            i.1 (seen-dir sights scene path r k (dir-is scene inputs meaning path d), has),
       );
 }

@@ -12,11 +12,12 @@ use Rattle.rx_world.specs.declared.commands.Command.{Command}
 use Rattle.rx_world.specs.declared.commands.Strategy.{Strategy}
 use Rattle.rx_world.specs.declared.looks.Look.{Look}
 use Rattle.rx_world.specs.declared.looks.Look.TheVariants.{Absent, Dir, File}
-use Rattle.rx_world.specs.declared.looks.Seen.{Seen}
+use Rattle.rx_world.specs.declared.looks.ChangedInput.{ChangedInput}
 use Rattle.rx_world.specs.declared.looks.Stamp.{Stamp}
 use Rattle.rx_world.specs.declared.refusals.LocalCause.{LocalCause}
 use Rattle.rx_world.specs.declared.sources.Given.{Given}
-use Rattle.rx_world.specs.declared.sources.SourceEntry.{SourceEntry}
+use Rattle.rx_world.specs.declared.sources.Sources as sources
+use Rattle.rx_world.specs.declared.world.World as world
 use Rattle.rx_world.proofs.Among.{Among, all-among, among-from, among-from_map, contains-from}
 use Rattle.rx_world.proofs.AnswerLemmas.{gives-none}
 use Rattle.rx_scan.specs.declared.gather_fault.GatherFault.{GatherFault}
@@ -25,15 +26,15 @@ use Rattle.rx_scan.specs.declared.seen_files.SeenFile.{SeenFile}
 use Rattle.rx_scan.specs.Digests.{IsSeen}
 use Rattle.rx_scan.specs.Gathering.{plan_of}
 use Rattle.rx_scan.specs.InputTrees.{BlamesTree, BlamesWholeIf, IsFilesIf, paths_of}
-use Rattle.rx_scan.specs.Lists.{Fails, Learns, Listing, Shows}
+use Rattle.rx_scan.specs.Lists.{Fails, Learns, Listing, Shows, Stretch, stretch}
 use Rattle.rx_reach.specs.Scenes.{Scene}
 use Rattle.rx_scan.specs.SeenDirs.{IsDirSeen}
 use Rattle.rx_reach.specs.Sights.{IsChangeFrom, Notes, WasSeen, seen_at}
-use Rattle.rx_scan.specs.Ways.{BlamesWay, above_among, blocked, change_above, over_among, upper_among}
+use Rattle.rx_scan.specs.Ways.{BlamesWay, above_among, blocked, change_above, change_of, over_among, upper_among}
 use Rattle.rx_scan.specs.Whole.{BlamesWhole, IsWholeBy}
 use Rattle.rx_scan.proofs.BlockedLemmas.{or_cases}
-use Rattle.rx_scan.proofs.Learning.{fails-after, fails-one, fails-so, learns-none, learns-so}
-use Rattle.rx_reach.proofs.SightLemmas.{notes-keep, seen-later}
+use Rattle.rx_scan.proofs.Learning.{fails-after, fails-always, fails-one, fails-so, learns-none, learns-so}
+use Rattle.rx_reach.proofs.SightLemmas.{notes-keep, notes-none, seen-later}
 
 abbrev Sights : Type 0
 Sights = List (List ℕ × Look)
@@ -68,14 +69,14 @@ path-there (f ∷ files) zero file e = let same : f ≡ file = cc e in (ap (λ (
 path-there (f ∷ files) (suc at) file e = let h = path-there files at file e in (h.0, inr h.1)
 
 -- something that was seen stands below the path
-pub record HasBelow (sights : Sights) (path : List ℕ) : Type 0 where
+pub record SeenBelow (sights : Sights) (path : List ℕ) : Type 0 where
   pub below : List ℕ
   pub look : Look
   pub under : is_below below path ≡ true
   pub some : look ≢ Absent
   pub seen : seen_at sights below ≡ Some look
 
-below-file : (sights : Sights) (files : List SeenFile) (path upper : List ℕ) → All (IsSeen sights) files → Contains (paths_of files) path → is_below path upper ≡ true → HasBelow sights upper
+below-file : (sights : Sights) (files : List SeenFile) (path upper : List ℕ) → All (IsSeen sights) files → Contains (paths_of files) path → is_below path upper ≡ true → SeenBelow sights upper
 below-file sights files path upper seen has under =
     let a = among-from_map (λ (f : SeenFile). f.path) path files (among-from path (paths_of files) has) in
     let f : SeenFile = a.0 in
@@ -86,7 +87,7 @@ at-or_below : (b : Bool) (dir upper : List ℕ) (c : Bool) → bytes_eq dir uppe
 at-or_below true dir upper c e t = inl ((bytes_eq-Decides dir upper).0 e)
 at-or_below false dir upper c e t = inr t
 
-below-dir : (sights : Sights) (dirs : List (List ℕ)) (dir upper : List ℕ) (stamp : Stamp) (executable : Bool) → All (IsDirSeen sights) dirs → Contains dirs dir → seen_at sights upper ≡ Some (File stamp executable) → (bytes_eq dir upper || is_below dir upper) ≡ true → HasBelow sights upper
+below-dir : (sights : Sights) (dirs : List (List ℕ)) (dir upper : List ℕ) (stamp : Stamp) (executable : Bool) → All (IsDirSeen sights) dirs → Contains dirs dir → seen_at sights upper ≡ Some (File stamp executable) → (bytes_eq dir upper || is_below dir upper) ≡ true → SeenBelow sights upper
 below-dir sights dirs dir upper stamp executable seen has here t =
     let is : seen_at sights dir ≡ Some Dir = all-among (IsDirSeen sights) dir dirs (recursion_from_All (IsDirSeen sights) dirs seen) (among-from dir dirs has) in
     elim (at-or_below (bytes_eq dir upper) dir upper (is_below dir upper) refl t) [
@@ -95,7 +96,7 @@ below-dir sights dirs dir upper stamp executable seen has here t =
     ]
 
 upper-below : (sights : Sights) (files : List SeenFile) (paths dirs : List (List ℕ)) (at : ℕ) (file : SeenFile) → paths ≡ paths_of files → All (IsSeen sights) files → All (IsDirSeen sights) dirs → slice_get files at ≡ Some file
-    → (upper_among paths paths ≡ Some at) ⊎ (over_among paths dirs ≡ Some at) → HasBelow sights file.path
+    → (upper_among paths paths ≡ Some at) ⊎ (over_among paths dirs ≡ Some at) → SeenBelow sights file.path
 upper-below sights files paths dirs at file is fs ds here (inl e) =
     let h = below-upper paths paths at e in
     let p = path-there files at file here in
@@ -108,15 +109,11 @@ upper-below sights files paths dirs at file is fs ds here (inr e) =
     let seen : IsSeen sights file = all-among (IsSeen sights) file files (recursion_from_All (IsSeen sights) files fs) p.1 in
     below-dir sights dirs h.0 file.path file.stamp file.executable ds h.1 seen (subst (λ (q : List ℕ). (bytes_eq h.0 q || is_below h.0 q) ≡ true) there h.2)
 
-change-is : (old new : Sights) (answers : List Given) (file : SeenFile) (path : List ℕ) (first second : Seen) → Notes old new answers → IsSeen new file → HasBelow new file.path → InputChanged path first second ≡ change_above file → IsChangeFrom old answers path first second
-change-is old new answers file path first second n seen b e =
-    let at : path ≡ file.path = cc e in
-    let one : first ≡ record { look = File file.stamp file.executable; digest = None } = cc e in
-    let two : second ≡ record { look = Dir; digest = None } = cc e in
-    subst (λ p. IsChangeFrom old answers p first second) (sym at)
-    (subst (λ (s : Seen). IsChangeFrom old answers file.path s second) (sym one)
-    (subst (λ (s : Seen). IsChangeFrom old answers file.path (record { look = File file.stamp file.executable; digest = None }) s) (sym two)
-    (refl, refl, noted-seen old new answers file.path (File file.stamp file.executable) n seen, inr (refl, refl, (b.below, b.look, b.under, b.some, noted-seen old new answers b.below b.look n b.seen)))))
+change-is : (old new : Sights) (answers : List Given) (file : SeenFile) (change : ChangedInput) → Notes old new answers → IsSeen new file → SeenBelow new file.path → InputChanged change ≡ change_above file → IsChangeFrom old answers change
+change-is old new answers file change n seen b e =
+    let is : change ≡ change_of file = cc e in
+    subst (IsChangeFrom old answers) (sym is)
+    (record { first_is = sym (n.first file.path) ∙ seen; first_alone = refl; second_alone = refl }, inr (refl, refl, (b.below, b.look, b.under, b.some, noted-seen old new answers b.below b.look n b.seen)))
 
 -- ---- refusals by cases
 
@@ -125,81 +122,77 @@ there-is o plan e n = absurd (cc (sym n ∙ e))
 
 of-way : (old new : Sights) (command : Command) (scanned files : List SeenFile) (paths dirs : List (List ℕ)) (cause : Option LocalCause) (strategy : Strategy) (before now : ℕ) (fault : GatherFault) (xs : List Given) (ls : List Listing) → Notes old new xs
     → ((scene : Scene) → Shows scene old xs ls → IsFilesIf scene command.outputs scanned (is_some cause) files) → paths ≡ paths_of files → AreSorted (paths_of files) → All (IsSeen new) files → All (IsDirSeen new) dirs → plan_of strategy cause ≢ None
-    → BlamesWay command files paths dirs fault → BlamesTree old command scanned cause strategy before now fault xs ls
-of-way old new command scanned files paths dirs cause strategy before now (InputChanged path first second) xs ls n fact is sorted fs ds planned h =
+    → BlamesWay command files paths dirs fault → BlamesTree command scanned cause strategy fault (stretch old new before now xs ls)
+of-way old new command scanned files paths dirs cause strategy before now (InputChanged change) xs ls n fact is sorted fs ds planned h =
     let p = path-there files h.0 h.1 h.3 in
     let seen : IsSeen new h.1 = all-among (IsSeen new) h.1 files (recursion_from_All (IsSeen new) files fs) p.1 in
-    change-is old new xs h.1 path first second n seen (upper-below new files paths dirs h.0 h.1 is fs ds h.3 (or_cases (upper_among paths paths) (over_among paths dirs) h.0 h.2)) h.4
+    change-is old new xs h.1 change n seen (upper-below new files paths dirs h.0 h.1 is fs ds h.3 (or_cases (upper_among paths paths) (over_among paths dirs) h.0 h.2)) h.4
 of-way old new command scanned files paths dirs cause strategy before now (Blocked path) xs ls n fact is sorted fs ds planned h =
-    (planned, λ scene shows. (files, fact scene shows, sorted, subst (λ ps. blocked command ps ≡ Some path) is h.2))
+    let blocks = subst (λ ps. blocked command ps ≡ Some path) is h.2 in
+    (planned, n, (files, sorted, fs, blocks), λ scene shows. (files, fact scene shows, sorted, blocks))
 of-way old new command scanned files paths dirs cause strategy before now (InputMissing path) xs ls n fact is sorted fs ds planned h = absurd h
 of-way old new command scanned files paths dirs cause strategy before now (SourceFault path) xs ls n fact is sorted fs ds planned h = absurd h
 of-way old new command scanned files paths dirs cause strategy before now (TooLarge limit m path) xs ls n fact is sorted fs ds planned h = absurd h
 of-way old new command scanned files paths dirs cause strategy before now (NotRemotable kept) xs ls n fact is sorted fs ds planned h = absurd h
 of-way old new command scanned files paths dirs cause strategy before now NoMemory xs ls n fact is sorted fs ds planned h = tt
 
-of-whole : (old : Sights) (command : Command) (scanned : List SeenFile) (cause : Option LocalCause) (strategy : Strategy) (before now : ℕ) (fault : GatherFault) (xs : List Given) (ls : List Listing) → is_some cause ≡ true → plan_of strategy cause ≢ None → BlamesWhole old before now fault xs ls → BlamesTree old command scanned cause strategy before now fault xs ls
-of-whole old command scanned cause strategy before now (TooLarge limit n path) xs ls e planned h = (e, planned, h)
-of-whole old command scanned cause strategy before now (SourceFault path) xs ls e planned h = h
-of-whole old command scanned cause strategy before now (InputChanged path first second) xs ls e planned h = (h.0, h.1, h.2, inl (h.3, h.4))
-of-whole old command scanned cause strategy before now (InputMissing path) xs ls e planned h = absurd h
-of-whole old command scanned cause strategy before now (NotRemotable kept) xs ls e planned h = absurd h
-of-whole old command scanned cause strategy before now (Blocked path) xs ls e planned h = absurd h
-of-whole old command scanned cause strategy before now NoMemory xs ls e planned h = tt
+of-whole : (command : Command) (scanned : List SeenFile) (cause : Option LocalCause) (strategy : Strategy) (fault : GatherFault) (st : Stretch) → is_some cause ≡ true → plan_of strategy cause ≢ None → BlamesWhole fault st → BlamesTree command scanned cause strategy fault st
+of-whole command scanned cause strategy (TooLarge limit n path) st e planned h = (e, planned, h.0, h.1, h.2)
+of-whole command scanned cause strategy (SourceFault path) st e planned h = h
+of-whole command scanned cause strategy (InputChanged change) st e planned h = (h.0, inl h.1)
+of-whole command scanned cause strategy (InputMissing path) st e planned h = absurd h
+of-whole command scanned cause strategy (NotRemotable kept) st e planned h = absurd h
+of-whole command scanned cause strategy (Blocked path) st e planned h = absurd h
+of-whole command scanned cause strategy NoMemory st e planned h = tt
 
-of-whole_if : (b : Bool) (old : Sights) (command : Command) (scanned : List SeenFile) (cause : Option LocalCause) (strategy : Strategy) (before now : ℕ) (fault : GatherFault) (xs : List Given) (ls : List Listing) → is_some cause ≡ b → plan_of strategy cause ≢ None → BlamesWholeIf b old before now fault xs ls → BlamesTree old command scanned cause strategy before now fault xs ls
-of-whole_if true old command scanned cause strategy before now fault xs ls e planned h = of-whole old command scanned cause strategy before now fault xs ls e planned h
-of-whole_if false old command scanned cause strategy before now fault xs ls e planned h = absurd h
+of-whole_if : (b : Bool) (command : Command) (scanned : List SeenFile) (cause : Option LocalCause) (strategy : Strategy) (fault : GatherFault) (st : Stretch) → is_some cause ≡ b → plan_of strategy cause ≢ None → BlamesWholeIf b fault st → BlamesTree command scanned cause strategy fault st
+of-whole_if true command scanned cause strategy fault st e planned h = of-whole command scanned cause strategy fault st e planned h
+of-whole_if false command scanned cause strategy fault st e planned h = absurd h
 
-module _ {T : Type 0} (listed : T → Option (List SourceEntry)) (keeps : T → Type 0) (given : T → Option (List Given)) (content : List ℕ → Stamp → List ℕ) (honest : Type 0) where
+module _ {T W : Type 0} (w : world.Ghosts W) (s : sources.Ghosts T W) where
   -- ---- the files
 
-  pub files-kept : (a b : T) (old new : Sights) (outputs : List (List ℕ)) (scanned files : List SeenFile) (kept : Bool) → kept ≡ true → Learns listed keeps given content honest a b old new (λ scene. IsWholeBy scene outputs files) → Learns listed keeps given content honest a b old new (λ scene. IsFilesIf scene outputs scanned kept files)
+  pub files-kept : (a b : T) (old new : Sights) (outputs : List (List ℕ)) (scanned files : List SeenFile) (kept : Bool) → kept ≡ true → Learns w s a b old new (λ scene. IsWholeBy scene outputs files) → Learns w s a b old new (λ scene. IsFilesIf scene outputs scanned kept files)
   files-kept a b old new outputs scanned files kept e l =
-      learns-so listed keeps given content honest a b old new (λ scene. IsWholeBy scene outputs files) (λ scene. IsFilesIf scene outputs scanned kept files) l (λ scene h. subst (λ k. IsFilesIf scene outputs scanned k files) (sym e) h)
+      learns-so w s a b old new (λ scene. IsWholeBy scene outputs files) (λ scene. IsFilesIf scene outputs scanned kept files) l (λ scene h. subst (λ k. IsFilesIf scene outputs scanned k files) (sym e) h)
 
-  pub files-refused : (a b : T) (old : Sights) (fa fb : ℕ) (fault : GatherFault) (kept : Bool) → kept ≡ true → Fails listed keeps given content honest a b (BlamesWhole old fa fb fault) → Fails listed keeps given content honest a b (BlamesWholeIf kept old fa fb fault)
-  files-refused a b old fa fb fault kept e f =
-      fails-so listed keeps given content honest a b (BlamesWhole old fa fb fault) (BlamesWholeIf kept old fa fb fault) f (λ xs ls h. subst (λ k. BlamesWholeIf k old fa fb fault xs ls) (sym e) h)
+  pub files-refused : (a b : T) (old new : Sights) (fault : GatherFault) (kept : Bool) → kept ≡ true → Fails w s a b old new (BlamesWhole fault) → Fails w s a b old new (BlamesWholeIf kept fault)
+  files-refused a b old new fault kept e f =
+      fails-so w s a b old new (BlamesWhole fault) (BlamesWholeIf kept fault) f (λ st h. subst (λ k. BlamesWholeIf k fault st) (sym e) h)
 
-  pub files-scanned : (a : T) (old : Sights) (outputs : List (List ℕ)) (scanned : List SeenFile) (kept : Bool) → kept ≡ false → Learns listed keeps given content honest a a old old (λ scene. IsFilesIf scene outputs scanned kept scanned)
+  pub files-scanned : (a : T) (old : Sights) (outputs : List (List ℕ)) (scanned : List SeenFile) (kept : Bool) → kept ≡ false → Learns w s a a old old (λ scene. IsFilesIf scene outputs scanned kept scanned)
   files-scanned a old outputs scanned kept e =
-      learns-none listed keeps given content honest a old (λ scene. IsFilesIf scene outputs scanned kept scanned) (λ scene r. subst (λ k. IsFilesIf scene outputs scanned k scanned) (sym e) refl)
+      learns-none w s a old (λ scene. IsFilesIf scene outputs scanned kept scanned) (λ scene r. subst (λ k. IsFilesIf scene outputs scanned k scanned) (sym e) refl)
 
   -- ---- the tree
 
-  pub plan-refused : (a : T) (old : Sights) (command : Command) (scanned : List SeenFile) (cause : Option LocalCause) (strategy : Strategy) (fa fb : ℕ) (fault : GatherFault) → ((kept : LocalCause) × (fault ≡ NotRemotable kept) × (cause ≡ Some kept) × (plan_of strategy cause ≡ None))
-      → Fails listed keeps given content honest a a (BlamesTree old command scanned cause strategy fa fb fault)
-  plan-refused a old command scanned cause strategy fa fb fault h =
-      fails-one listed keeps given content honest a a [] (BlamesTree old command scanned cause strategy fa fb fault) (gives-none listed keeps given content honest a)
-      (subst (λ f. BlamesTree old command scanned cause strategy fa fb f [] []) (sym h.1) (h.2, h.3))
+  pub plan-refused : (a : T) (old : Sights) (command : Command) (scanned : List SeenFile) (cause : Option LocalCause) (strategy : Strategy) (fault : GatherFault) → ((kept : LocalCause) × (fault ≡ NotRemotable kept) × (cause ≡ Some kept) × (plan_of strategy cause ≡ None))
+      → Fails w s a a old old (BlamesTree command scanned cause strategy fault)
+  plan-refused a old command scanned cause strategy fault h =
+      fails-one w s a a old old [] (BlamesTree command scanned cause strategy fault) (gives-none w s a)
+      (subst (λ f. BlamesTree command scanned cause strategy f (stretch old old (s.faults a) (s.faults a) [] [])) (sym h.1) (h.2, h.3, notes-none old))
 
-  pub tree_files-refused : (a b : T) (old : Sights) (command : Command) (scanned : List SeenFile) (cause : Option LocalCause) (strategy : Strategy) (fa fb : ℕ) (fault : GatherFault) (kept : Bool) (plan : Plan) → kept ≡ is_some cause → plan_of strategy cause ≡ Some plan → Fails listed keeps given content honest a b (BlamesWholeIf kept old fa fb fault)
-      → Fails listed keeps given content honest a b (BlamesTree old command scanned cause strategy fa fb fault)
-  tree_files-refused a b old command scanned cause strategy fa fb fault kept plan e p f =
-      fails-so listed keeps given content honest a b (BlamesWholeIf kept old fa fb fault) (BlamesTree old command scanned cause strategy fa fb fault) f (λ xs ls h. of-whole_if kept old command scanned cause strategy fa fb fault xs ls (sym e) (there-is (plan_of strategy cause) plan p) h)
+  pub tree_files-refused : (a b : T) (old new : Sights) (command : Command) (scanned : List SeenFile) (cause : Option LocalCause) (strategy : Strategy) (fault : GatherFault) (kept : Bool) (plan : Plan) → kept ≡ is_some cause → plan_of strategy cause ≡ Some plan → Fails w s a b old new (BlamesWholeIf kept fault)
+      → Fails w s a b old new (BlamesTree command scanned cause strategy fault)
+  tree_files-refused a b old new command scanned cause strategy fault kept plan e p f =
+      fails-so w s a b old new (BlamesWholeIf kept fault) (BlamesTree command scanned cause strategy fault) f (λ st h. of-whole_if kept command scanned cause strategy fault st (sym e) (there-is (plan_of strategy cause) plan p) h)
 
-  pub tree_files-are : (a b : T) (old new : Sights) (command : Command) (scanned files : List SeenFile) (cause : Option LocalCause) (kept : Bool) → kept ≡ is_some cause → Learns listed keeps given content honest a b old new (λ scene. IsFilesIf scene command.outputs scanned kept files)
-      → Learns listed keeps given content honest a b old new (λ scene. IsFilesIf scene command.outputs scanned (is_some cause) files)
+  pub tree_files-are : (a b : T) (old new : Sights) (command : Command) (scanned files : List SeenFile) (cause : Option LocalCause) (kept : Bool) → kept ≡ is_some cause → Learns w s a b old new (λ scene. IsFilesIf scene command.outputs scanned kept files)
+      → Learns w s a b old new (λ scene. IsFilesIf scene command.outputs scanned (is_some cause) files)
   tree_files-are a b old new command scanned files cause kept e l =
-      learns-so listed keeps given content honest a b old new (λ scene. IsFilesIf scene command.outputs scanned kept files) (λ scene. IsFilesIf scene command.outputs scanned (is_some cause) files) l (λ scene h. subst (λ k. IsFilesIf scene command.outputs scanned k files) e h)
+      learns-so w s a b old new (λ scene. IsFilesIf scene command.outputs scanned kept files) (λ scene. IsFilesIf scene command.outputs scanned (is_some cause) files) l (λ scene h. subst (λ k. IsFilesIf scene command.outputs scanned k files) e h)
 
-  pub tree-no_memory : (a b : T) (old new : Sights) (P : Scene → Type 0) (command : Command) (scanned : List SeenFile) (cause : Option LocalCause) (strategy : Strategy) (fa fb : ℕ) → Learns listed keeps given content honest a b old new P
-      → Fails listed keeps given content honest a b (BlamesTree old command scanned cause strategy fa fb NoMemory)
-  tree-no_memory a b old new P command scanned cause strategy fa fb l = fails-after listed keeps given content honest a b old new P (BlamesTree old command scanned cause strategy fa fb NoMemory) l (λ xs ls fact. tt)
+  pub tree-no_memory : (a b : T) (old mid new : Sights) (P : Scene → Type 0) (command : Command) (scanned : List SeenFile) (cause : Option LocalCause) (strategy : Strategy) → Learns w s a b old mid P
+      → Fails w s a b old new (BlamesTree command scanned cause strategy NoMemory)
+  tree-no_memory a b old mid new P command scanned cause strategy l = fails-always w s a b old mid new P (BlamesTree command scanned cause strategy NoMemory) l (λ st. tt)
 
-  pub learned-dirs : (a b : T) (old new : Sights) (P : Scene → Type 0) (dirs : List (List ℕ)) → Learns listed keeps given content honest a b old new P → All (IsDirSeen old) dirs → All (IsDirSeen new) dirs
+  pub learned-dirs : (a b : T) (old new : Sights) (P : Scene → Type 0) (dirs : List (List ℕ)) → Learns w s a b old new P → All (IsDirSeen old) dirs → All (IsDirSeen new) dirs
   learned-dirs a b old new P dirs l h = All-weaker (IsDirSeen old) (IsDirSeen new) (λ dir e. notes-keep old new l.answers dir Dir l.notes e) dirs h
 
-  pub way-refused : (a b : T) (old new : Sights) (command : Command) (scanned files : List SeenFile) (paths dirs : List (List ℕ)) (cause : Option LocalCause) (strategy : Strategy) (plan : Plan) (fa fb : ℕ) (fault : GatherFault) → plan_of strategy cause ≡ Some plan → paths ≡ paths_of files → AreSorted (paths_of files) → All (IsSeen new) files → All (IsDirSeen old) dirs
-      → Learns listed keeps given content honest a b old new (λ scene. IsFilesIf scene command.outputs scanned (is_some cause) files) → BlamesWay command files paths dirs fault
-      → Fails listed keeps given content honest a b (BlamesTree old command scanned cause strategy fa fb fault)
-  way-refused a b old new command scanned files paths dirs cause strategy plan fa fb fault p is sorted fs ds l h =
+  pub way-refused : (a b : T) (old new : Sights) (command : Command) (scanned files : List SeenFile) (paths dirs : List (List ℕ)) (cause : Option LocalCause) (strategy : Strategy) (plan : Plan) (fault : GatherFault) → plan_of strategy cause ≡ Some plan → paths ≡ paths_of files → AreSorted (paths_of files) → All (IsSeen new) files → All (IsDirSeen old) dirs
+      → Learns w s a b old new (λ scene. IsFilesIf scene command.outputs scanned (is_some cause) files) → BlamesWay command files paths dirs fault
+      → Fails w s a b old new (BlamesTree command scanned cause strategy fault)
+  way-refused a b old new command scanned files paths dirs cause strategy plan fault p is sorted fs ds l h =
       let later = learned-dirs a b old new (λ scene. IsFilesIf scene command.outputs scanned (is_some cause) files) dirs l ds in
-      record {
-        answers = l.answers;
-        lists = l.lists;
-        gives = l.gives;
-        by_list = l.by_list;
-        cause = of-way old new command scanned files paths dirs cause strategy fa fb fault l.answers l.lists l.notes l.fact is sorted fs later (there-is (plan_of strategy cause) plan p) h;
-      }
+      fails-after w s a b old new (λ scene. IsFilesIf scene command.outputs scanned (is_some cause) files) (BlamesTree command scanned cause strategy fault) l
+      (λ xs ls n fact. of-way old new command scanned files paths dirs cause strategy (s.faults a) (s.faults b) fault xs ls n fact is sorted fs later (there-is (plan_of strategy cause) plan p) h)

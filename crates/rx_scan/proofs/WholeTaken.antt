@@ -15,10 +15,10 @@ use Rattle.rx_base.specs.SortedPaths.{AreSorted, sorted_paths}
 use Rattle.rx_base.proofs.Orders.{is_sorted_once}
 use Rattle.rx_world.specs.declared.looks.Look.{Look}
 use Rattle.rx_world.specs.declared.looks.Look.TheVariants.{Absent, Dir, File, Other}
-use Rattle.rx_world.specs.declared.looks.Stamp.{Stamp}
 use Rattle.rx_world.specs.declared.sources.Found.{Found}
 use Rattle.rx_world.specs.declared.sources.Given.{Given}
-use Rattle.rx_world.specs.declared.sources.SourceEntry.{SourceEntry}
+use Rattle.rx_world.specs.declared.sources.Sources as sources
+use Rattle.rx_world.specs.declared.world.World as world
 use Rattle.rx_world.specs.Sources.{given_all, is_file}
 use Rattle.rx_world.proofs.Among.{all-among, among-filter, among-from, among-from_filter, contains-from}
 use Rattle.rx_reach.specs.declared.faults.SightFault.{SightFault}
@@ -28,14 +28,15 @@ use Rattle.rx_scan.specs.declared.gather_fault.GatherFault.TheVariants.{Blocked,
 use Rattle.rx_scan.specs.declared.limits.Extent.{Extent}
 use Rattle.rx_scan.specs.declared.limits.Extent.TheVariants.{WholeList}
 use Rattle.rx_scan.specs.declared.seen_files.SeenFile.{SeenFile}
+use Rattle.rx_scan.specs.Digests.{IsSeen}
 use Rattle.rx_scan.specs.GatherFault.{fault_of}
 use Rattle.rx_scan.specs.Limits.{check_of, large_file, most_bytes, most_files, sizes_of, total_size}
-use Rattle.rx_scan.specs.Lists.{Fails, IsListed, Learns, Listing, Shows, is_under, paths_of}
+use Rattle.rx_scan.specs.Lists.{BlamesSight, Fails, HasView, IsListed, Learns, Shown, Stretch, is_under, paths_of, stretch}
 use Rattle.rx_reach.specs.Scenes.{Scene}
 use Rattle.rx_scan.specs.SeenFiles.{file_of_seen, file_seen}
-use Rattle.rx_reach.specs.Sights.{Blames, Notes, seen_at}
+use Rattle.rx_reach.specs.Sights.{Notes, seen_at}
 use Rattle.rx_scan.specs.Whole.{BlamesWhole, IsListOf, IsSeenIn, IsWholeBy, without}
-use Rattle.rx_scan.proofs.Learning.{fails-after, fails-so, learns-so}
+use Rattle.rx_scan.proofs.Learning.{fails-after, fails-always, fails-so, learns-so}
 
 abbrev Sights : Type 0
 Sights = List (List ℕ × Look)
@@ -237,17 +238,17 @@ noted-seen old new found n = All-from_recursion (λ f. seen_at new f.path ≡ So
 
 -- ---- refusals
 
-blames-whole : (sights : Sights) (before now : ℕ) (fault : SightFault) (answers : List Given) (lists : List Listing) → Blames sights answers before now fault → BlamesWhole sights before now (fault_of fault) answers lists
-blames-whole sights before now (Lost path) answers lists h = h
-blames-whole sights before now (Changed path first second) answers lists h = h
-blames-whole sights before now OutOfMemory answers lists h = tt
+blames-whole : (fault : SightFault) (st : Stretch) → BlamesSight fault st → BlamesWhole (fault_of fault) st
+blames-whole (Lost path) st h = h
+blames-whole (Changed change) st h = h
+blames-whole OutOfMemory st h = tt
 
 -- the limits refuse nothing but what is too large
 abbrev pub IsLarge : GatherFault → Type 0
 IsLarge (TooLarge limit n path) = Unit {0}
 IsLarge (InputMissing path) = ⊥
 IsLarge (SourceFault path) = ⊥
-IsLarge (InputChanged path first second) = ⊥
+IsLarge (InputChanged change) = ⊥
 IsLarge (NotRemotable cause) = ⊥
 IsLarge (Blocked path) = ⊥
 IsLarge NoMemory = ⊥
@@ -267,41 +268,41 @@ only-sizes extent files None = only-case (ltb most_bytes (total_size files)) _ (
 pub only-large : (extent : Extent) (files : List SeenFile) (fault : GatherFault) → check_of extent files ≡ Err fault → IsLarge fault
 only-large extent files fault e = subst OnlyLarge e (only-case (ltb (most_files extent) (length files)) _ (sizes_of extent files (large_file files)) tt (only-sizes extent files (large_file files)))
 
-blames-large : (sights : Sights) (before now : ℕ) (files : List SeenFile) (fault : GatherFault) (answers : List Given) (lists : List Listing) → (fault ≢ NoMemory → check_of WholeList files ≡ Err fault)
-    → ((scene : Scene) → Shows scene sights answers lists → IsListOf scene files) → BlamesWhole sights before now fault answers lists
-blames-large sights before now files (TooLarge limit n path) answers lists h f = λ scene shows. (files, f scene shows, h (λ e. cc e))
-blames-large sights before now files (InputMissing path) answers lists h f = absurd (only-large WholeList files (InputMissing path) (h (λ e. cc e)))
-blames-large sights before now files (SourceFault path) answers lists h f = absurd (only-large WholeList files (SourceFault path) (h (λ e. cc e)))
-blames-large sights before now files (InputChanged path first second) answers lists h f = absurd (only-large WholeList files (InputChanged path first second) (h (λ e. cc e)))
-blames-large sights before now files (NotRemotable cause) answers lists h f = absurd (only-large WholeList files (NotRemotable cause) (h (λ e. cc e)))
-blames-large sights before now files (Blocked path) answers lists h f = absurd (only-large WholeList files (Blocked path) (h (λ e. cc e)))
-blames-large sights before now files NoMemory answers lists h f = tt
+blames-large : (files : List SeenFile) (fault : GatherFault) (st : Stretch) → (fault ≢ NoMemory → check_of WholeList files ≡ Err fault) → HasView st → AreSorted (map path_of files) → All (IsSeen st.new) files
+    → Shown st (λ scene. IsListOf scene files) → BlamesWhole fault st
+blames-large files (TooLarge limit n path) st h view sorted seen f = ((files, sorted, seen, h (λ e. cc e)), view, λ scene shows. (files, f scene shows, h (λ e. cc e)))
+blames-large files (InputMissing path) st h view sorted seen f = absurd (only-large WholeList files (InputMissing path) (h (λ e. cc e)))
+blames-large files (SourceFault path) st h view sorted seen f = absurd (only-large WholeList files (SourceFault path) (h (λ e. cc e)))
+blames-large files (InputChanged change) st h view sorted seen f = absurd (only-large WholeList files (InputChanged change) (h (λ e. cc e)))
+blames-large files (NotRemotable cause) st h view sorted seen f = absurd (only-large WholeList files (NotRemotable cause) (h (λ e. cc e)))
+blames-large files (Blocked path) st h view sorted seen f = absurd (only-large WholeList files (Blocked path) (h (λ e. cc e)))
+blames-large files NoMemory st h view sorted seen f = tt
 
-module _ {T : Type 0} (listed : T → Option (List SourceEntry)) (keeps : T → Type 0) (given : T → Option (List Given)) (content : List ℕ → Stamp → List ℕ) (honest : Type 0) where
-  pub whole-failed : (a b : T) (old : Sights) (fa fb : ℕ) (fault : SightFault) → Fails listed keeps given content honest a b (λ answers lists. Blames old answers fa fb fault) → Fails listed keeps given content honest a b (BlamesWhole old fa fb (fault_of fault))
-  whole-failed a b old fa fb fault f =
-      fails-so listed keeps given content honest a b (λ answers lists. Blames old answers fa fb fault) (BlamesWhole old fa fb (fault_of fault)) f (λ xs ls h. blames-whole old fa fb fault xs ls h)
+module _ {T W : Type 0} (w : world.Ghosts W) (s : sources.Ghosts T W) where
+  pub whole-failed : (a b : T) (old new : Sights) (fault : SightFault) → Fails w s a b old new (BlamesSight fault) → Fails w s a b old new (BlamesWhole (fault_of fault))
+  whole-failed a b old new fault f = fails-so w s a b old new (BlamesSight fault) (BlamesWhole (fault_of fault)) f (λ st h. blames-whole fault st h)
 
   -- memory may run out at any time
-  pub whole-no_memory : (a b : T) (old new : Sights) (P : Scene → Type 0) (fa fb : ℕ) → Learns listed keeps given content honest a b old new P → Fails listed keeps given content honest a b (BlamesWhole old fa fb NoMemory)
-  whole-no_memory a b old new P fa fb l = fails-after listed keeps given content honest a b old new P (BlamesWhole old fa fb NoMemory) l (λ xs ls fact. tt)
+  pub whole-no_memory : (a b : T) (old mid new : Sights) (P : Scene → Type 0) → Learns w s a b old mid P → Fails w s a b old new (BlamesWhole NoMemory)
+  whole-no_memory a b old mid new P l = fails-always w s a b old mid new P (BlamesWhole NoMemory) l (λ st. tt)
 
   -- the list is in each scene that shows it
   pub whole-known : (a b : T) (old new : Sights) (root : List ℕ) (start all paths : List (List ℕ)) (found : List Found) → root ≡ [] → start ≡ [] → all ≡ start ++ paths_of found → paths ≡ sorted_paths all
-      → All (λ f. seen_at new f.path ≡ Some f.look) found → Learns listed keeps given content honest a b old new (λ scene. IsListed scene root 50000 found)
-      → Learns listed keeps given content honest a b old new (λ scene. IsKnownList new scene paths)
-  whole-known a b old new root start all paths found r s e is seen l =
-      learns-so listed keeps given content honest a b old new (λ scene. IsListed scene root 50000 found) (λ scene. IsKnownList new scene paths) l
-      (λ scene h. known-sorted new scene found paths (is ∙ ap sorted_paths (e ∙ ap (λ (ps : List (List ℕ)). ps ++ paths_of found) s)) (subst (λ (p : List ℕ). IsListed scene p 50000 found) r h) seen)
+      → All (λ f. seen_at new f.path ≡ Some f.look) found → Learns w s a b old new (λ scene. IsListed scene root 50000 found)
+      → Learns w s a b old new (λ scene. IsKnownList new scene paths)
+  whole-known a b old new root start all paths found r e i is seen l =
+      learns-so w s a b old new (λ scene. IsListed scene root 50000 found) (λ scene. IsKnownList new scene paths) l
+      (λ scene h. known-sorted new scene found paths (is ∙ ap sorted_paths (i ∙ ap (λ (ps : List (List ℕ)). ps ++ paths_of found) e)) (subst (λ (p : List ℕ). IsListed scene p 50000 found) r h) seen)
 
-  pub whole-large : (a b : T) (old new : Sights) (paths : List (List ℕ)) (files : List SeenFile) (fa fb : ℕ) (fault : GatherFault) → files ≡ filter_map (file_seen new) paths → (fault ≢ NoMemory → check_of WholeList files ≡ Err fault)
-      → Learns listed keeps given content honest a b old new (λ scene. IsKnownList new scene paths) → Fails listed keeps given content honest a b (BlamesWhole old fa fb fault)
-  whole-large a b old new paths files fa fb fault e h l =
-      fails-after listed keeps given content honest a b old new (λ scene. IsKnownList new scene paths) (BlamesWhole old fa fb fault) l
-      (λ xs ls fact. blames-large old fa fb files fault xs ls h (λ scene shows. subst (λ (fs : List SeenFile). IsListOf scene fs) (sym e) (list-of new scene paths (fact scene shows))))
+  pub whole-large : (a b : T) (old new : Sights) (paths : List (List ℕ)) (files : List SeenFile) (fault : GatherFault) → files ≡ filter_map (file_seen new) paths → (fault ≢ NoMemory → check_of WholeList files ≡ Err fault)
+      → AreSorted paths → All (IsSeen new) files → Learns w s a b old new (λ scene. IsKnownList new scene paths) → Fails w s a b old new (BlamesWhole fault)
+  whole-large a b old new paths files fault e h sorted seen l =
+      fails-after w s a b old new (λ scene. IsKnownList new scene paths) (BlamesWhole fault) l
+      (λ xs ls n fact. blames-large files fault (stretch old new (s.faults a) (s.faults b) xs ls) h n (seen-sorted new paths files e sorted) seen
+      (λ scene shows. subst (λ (fs : List SeenFile). IsListOf scene fs) (sym e) (list-of new scene paths (fact scene shows))))
 
   pub whole-taken : (a b : T) (old new : Sights) (paths outputs left : List (List ℕ)) (files inputs : List SeenFile) → files ≡ filter_map (file_seen new) paths → check_of WholeList files ≡ Ok tt → left ≡ without paths outputs → inputs ≡ filter_map (file_seen new) left
-      → Learns listed keeps given content honest a b old new (λ scene. IsKnownList new scene paths) → Learns listed keeps given content honest a b old new (λ scene. IsWholeBy scene outputs inputs)
+      → Learns w s a b old new (λ scene. IsKnownList new scene paths) → Learns w s a b old new (λ scene. IsWholeBy scene outputs inputs)
   whole-taken a b old new paths outputs left files inputs e fits t is l =
-      learns-so listed keeps given content honest a b old new (λ scene. IsKnownList new scene paths) (λ scene. IsWholeBy scene outputs inputs) l
+      learns-so w s a b old new (λ scene. IsKnownList new scene paths) (λ scene. IsWholeBy scene outputs inputs) l
       (λ scene h. subst (λ (fs : List SeenFile). IsWholeBy scene outputs fs) (sym (is ∙ ap (filter_map (file_seen new)) t)) (whole-by new scene paths outputs h (ap (check_of WholeList) (sym e) ∙ fits)))

@@ -7,5 +7,5 @@ use Rattle.rx_scan.specs.declared.gather_fault.GatherFault.TheVariants.{InputCha
 -- a scan's fault as one of the gathering
 abbrev pub fault_of : SightFault → GatherFault
 fault_of (Lost path) = SourceFault path
-fault_of (Changed path first second) = InputChanged path first second
+fault_of (Changed change) = InputChanged change
 fault_of OutOfMemory = NoMemory

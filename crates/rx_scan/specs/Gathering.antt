@@ -1,5 +1,5 @@
 -- What gathering gives: the command with all its outputs, the files and directories that it runs on, and its plan; or why not.
-use Rattle.std.specs.Prelude.{◌≡◌, ◌≢◌, ◌⊎◌, ◌↔◌, ◌≤◌, ℕ, true, List, [], Option, None, Some, Ok, Err, All, Contains, length, map}
+use Rattle.std.specs.Prelude.{◌≡◌, ◌≢◌, ◌⊎◌, ◌↔◌, ◌≤◌, ℕ, true, List, [], Option, None, Some, Result, Ok, All, Contains, MatchResult, length, map}
 use Rattle.std.specs.Option.{option_map}
 use Rattle.rx_base.specs.Paths.{is_below}
 use Rattle.rx_base.specs.SortedPaths.{AreSorted}
@@ -8,12 +8,14 @@ use Rattle.rx_world.specs.declared.attempts.Plan.{Plan}
 use Rattle.rx_world.specs.declared.commands.Command.{Command}
 use Rattle.rx_world.specs.declared.commands.Kind.{Kind}
 use Rattle.rx_world.specs.declared.commands.Strategy.{Strategy}
+use Rattle.rx_world.specs.declared.looks.Look.{Look}
 use Rattle.rx_world.specs.declared.looks.Look.TheVariants.{File}
-use Rattle.rx_world.specs.declared.looks.Seen.{Seen}
 use Rattle.rx_world.specs.declared.refusals.Limit.{Limit}
 use Rattle.rx_world.specs.declared.refusals.LocalCause.{LocalCause}
 use Rattle.rx_world.specs.declared.refusals.LocalCause.TheVariants as local
 use Rattle.rx_world.specs.declared.sources.Given.{Given}
+use Rattle.rx_world.specs.declared.sources.Sources as sources
+use Rattle.rx_world.specs.declared.world.World as world
 use Rattle.rx_world.specs.Causes.{Rose}
 use Rattle.rx_world.specs.Sources.{is_file}
 use Rattle.rx_scan.specs.declared.gathering.Gathered.{Gathered}
@@ -22,19 +24,20 @@ use Rattle.rx_scan.specs.declared.gather_fault.GatherFault.TheVariants.{Blocked,
 use Rattle.rx_scan.specs.declared.limits.Extent.TheVariants.{Scan, WholeList}
 use Rattle.rx_reach.specs.declared.searches.Search.{Search}
 use Rattle.rx_scan.specs.declared.seen_files.SeenFile.{SeenFile}
-use Rattle.rx_scan.specs.declared.words.Said.{Said}
-use Rattle.rx_scan.specs.Inputs.{IsEmptyDir, first_missing}
-use Rattle.rx_scan.specs.Limits.{check_of}
-use Rattle.rx_scan.specs.Lists.{Listing, Shows}
+use Rattle.rx_scan.specs.declared.words.WordMeaning.{WordMeaning}
+use Rattle.rx_scan.specs.Inputs.{IsEmptyDir, WasMissing, first_missing}
+use Rattle.rx_scan.specs.Limits.{HasPassed, check_of}
+use Rattle.rx_scan.specs.Lists.{HasView, Listing, Shown, Stretch, Tells, stretch}
+use Rattle.rx_reach.specs.Explored.{AreSeen}
 use Rattle.rx_reach.specs.Opened.{IsOpened}
 use Rattle.rx_scan.specs.Plans.{local_plan, ordinary_plan}
 use Rattle.rx_reach.specs.Reach.{IsHard, IsLeastPath, IsLeft}
-use Rattle.rx_scan.specs.Scanned.{IsScanListBy, IsScannedBy, PassesScanBy}
+use Rattle.rx_scan.specs.Scanned.{IsScanListBy, IsScannedBy, PassesScanBy, WasLimited}
 use Rattle.rx_reach.specs.Scenes.{Scene}
-use Rattle.rx_reach.specs.Sights.{IsChangeFrom}
-use Rattle.rx_scan.specs.Ways.{blocked}
-use Rattle.rx_scan.specs.Whole.{IsListOf}
-use Rattle.rx_scan.specs.Words.{outputs_for, reading_for, said_by, search_for, with_outputs, word_for, word_in}
+use Rattle.rx_reach.specs.Sights.{IsChangeFrom, IsKnownAt, sights_of}
+use Rattle.rx_scan.specs.Ways.{WasBlocked, blocked}
+use Rattle.rx_scan.specs.Whole.{IsListOf, PassesWhole}
+use Rattle.rx_scan.specs.Words.{outputs_for, reading_for, meaning_of, search_for, with_outputs, word_for, word_in}
 
 -- ---- what is asked for
 
@@ -45,6 +48,9 @@ pub record Asked : Type 0 where
   pub inputs : List (List ℕ)
   pub strategy : Strategy
 
+abbrev pub asked_for : Command → Kind → List (List ℕ) → Strategy → Asked
+asked_for command kind inputs strategy = record { command = command; kind = kind; inputs = inputs; strategy = strategy }
+
 abbrev pub reading_asked : Asked → Option Reading
 reading_asked asked = reading_for asked.kind asked.command asked.inputs
 
@@ -52,8 +58,8 @@ abbrev pub search_asked : Asked → Option Search
 search_asked asked = search_for asked.command (reading_asked asked)
 
 -- all that its words say
-abbrev pub said_asked : Asked → Said
-said_asked asked = said_by asked.command (reading_asked asked)
+abbrev pub meaning_asked : Asked → WordMeaning
+meaning_asked asked = meaning_of asked.command (reading_asked asked)
 
 -- the command with all its outputs, in order
 abbrev pub command_asked : Asked → Command
@@ -63,7 +69,7 @@ command_asked asked = with_outputs asked.command (outputs_for (reading_asked ask
 
 -- a declared file, or one that an include can reach
 abbrev pub IsScanned : Scene → Asked → List ℕ → Type 0
-IsScanned scene asked path = IsScannedBy scene asked.inputs (said_asked asked) path
+IsScanned scene asked path = IsScannedBy scene asked.inputs (meaning_asked asked) path
 
 -- What keeps the command on this machine: a word, else the least path at which its includes can't be followed.
 pub record IsKept (scene : Scene) (asked : Asked) (cause : Option LocalCause) : Type 0 where
@@ -108,17 +114,17 @@ IsInputDir scene asked path =
 
 -- just the files of the scan, in order, each as the scene has it
 abbrev pub IsScanList : Scene → Asked → List SeenFile → Type 0
-IsScanList scene asked all = IsScanListBy scene asked.inputs (said_asked asked) all
+IsScanList scene asked all = IsScanListBy scene asked.inputs (meaning_asked asked) all
 
 -- the files of the scan pass this limit first
 abbrev pub PassesScan : Scene → Asked → Limit → ℕ → Option (List ℕ) → Type 0
-PassesScan scene asked limit n path = PassesScanBy scene asked.inputs (said_asked asked) limit n path
+PassesScan scene asked limit n path = PassesScanBy scene asked.inputs (meaning_asked asked) limit n path
 
 -- the command is kept here, and the whole list passes this limit first
 abbrev pub PassesList : Scene → Asked → Limit → ℕ → Option (List ℕ) → Type 0
 PassesList scene asked limit n path =
     ((cause : LocalCause) × IsKept scene asked (Some cause))
-    × ((all : List SeenFile) × IsListOf scene all × (check_of WholeList all ≡ Err (TooLarge limit n path)))
+    × PassesWhole scene limit n path
 
 -- the files of the scan pass no limit
 abbrev pub IsWithinScan : Scene → Asked → Type 0
@@ -188,32 +194,64 @@ pub record HasPlan (scene : Scene) (asked : Asked) : Type 0 where
   pub planned : (cause : LocalCause) → IsKept scene asked (Some cause) → plan_of asked.strategy (Some cause) ≢ None
 
 -- what went before a command is refused that is to run remotely: where a word keeps it here nothing was asked of the source tree, and
--- where a path does the scan went well
-abbrev pub IsKeptAfter : Asked → LocalCause → List Given → List Listing → Type 0
-IsKeptAfter asked (local.Word word) answers lists = (answers ≡ []) × (lists ≡ [])
-IsKeptAfter asked (local.Path path) answers lists = (scene : Scene) → Shows scene [] answers lists → FitsScan scene asked
+-- where a path does it was looked at, and the scan went well
+abbrev pub IsKeptAfter : Asked → LocalCause → Stretch → Type 0
+IsKeptAfter asked (local.Word word) st = (st.answers ≡ []) × (st.lists ≡ [])
+IsKeptAfter asked (local.Path path) st = IsKnownAt st.new path × Shown st (λ scene. FitsScan scene asked)
 
 -- ---- refusals
 
--- two looks that differ; or a file, and something that was seen below it, so that it counts as a directory
-abbrev pub IsChangeOf : List Given → List ℕ → Seen → Seen → Type 0
-IsChangeOf answers path first second = IsChangeFrom [] answers path first second
+-- a count of declared files, or files that were seen, pass this limit of a scan or of a whole list first
+abbrev pub IsLimited : List (List ℕ × Look) → Limit → ℕ → Option (List ℕ) → Type 0
+IsLimited view limit n path = WasLimited view limit n path ⊎ HasPassed WholeList view limit n path
 
--- Each refusal only for its cause, in each scene that shows what was told, and only where the steps before it went well. A fault of the
--- source tree and a path that was seen in two ways are refused wherever they are met.
-abbrev pub BlamesGather : Asked → ℕ → ℕ → GatherFault → List Given → List Listing → Type 0
-BlamesGather asked before now (InputMissing path) answers lists =
-    AllowsWords asked × ((scene : Scene) → Shows scene [] answers lists → first_missing scene asked.inputs ≡ Some path)
-BlamesGather asked before now (SourceFault path) answers lists = Rose before now
-BlamesGather asked before now (TooLarge limit n path) answers lists =
-    (scene : Scene) → Shows scene [] answers lists →
+-- the files of the scan pass this limit first, or those of the whole list, where the command is kept here and has a plan
+abbrev pub PassesLimit : Scene → Asked → Limit → ℕ → Option (List ℕ) → Type 0
+PassesLimit scene asked limit n path =
     (HasInputs scene asked × PassesScan scene asked limit n path) ⊎ (HasPlan scene asked × PassesList scene asked limit n path)
-BlamesGather asked before now (InputChanged path first second) answers lists = IsChangeOf answers path first second
-BlamesGather asked before now (NotRemotable cause) answers lists =
-    (plan_of asked.strategy (Some cause) ≡ None) × IsKeptAfter asked cause answers lists
-    × ((scene : Scene) → Shows scene [] answers lists → IsKept scene asked (Some cause))
-BlamesGather asked before now (Blocked path) answers lists =
-    (scene : Scene) → Shows scene [] answers lists →
-    (cause : Option LocalCause) × (files : List (List ℕ)) × IsKept scene asked cause × HasPlan scene asked × IsWithin scene asked cause × AreSorted files
-    × ((file : List ℕ) → Contains files file ↔ IsInput scene asked cause file) × (blocked (command_asked asked) files ≡ Some path)
-BlamesGather asked before now NoMemory answers lists = Unit {0}
+
+-- the steps before went well, and of just the input tree's files this stands in the way
+pub record HasInWay (scene : Scene) (asked : Asked) (path : List ℕ) : Type 0 where
+  pub cause : Option LocalCause
+  pub files : List (List ℕ)
+  pub kept : IsKept scene asked cause
+  pub planned : HasPlan scene asked
+  pub within : IsWithin scene asked cause
+  pub sorted : AreSorted files
+  pub each : (file : List ℕ) → Contains files file ↔ IsInput scene asked cause file
+  pub blocks : blocked (command_asked asked) files ≡ Some path
+
+-- Each refusal only for its cause: by the first look at each path, from which no answer differs, and in each scene that shows what was
+-- told; and only where the steps before it went well. A fault of the source tree and a path that was seen in two ways are refused
+-- wherever they are met.
+abbrev pub BlamesGather : Asked → GatherFault → Stretch → Type 0
+BlamesGather asked (InputMissing path) st = AllowsWords asked × HasView st × WasMissing asked.inputs st.new path
+BlamesGather asked (SourceFault path) st = Rose st.before st.now
+BlamesGather asked (TooLarge limit n path) st =
+    HasView st × IsLimited st.new limit n path × Shown st (λ scene. PassesLimit scene asked limit n path)
+BlamesGather asked (InputChanged change) st = IsChangeFrom st.old st.answers change
+BlamesGather asked (NotRemotable cause) st =
+    (plan_of asked.strategy (Some cause) ≡ None) × HasView st × IsKeptAfter asked cause st × Shown st (λ scene. IsKept scene asked (Some cause))
+BlamesGather asked (Blocked path) st =
+    HasView st × WasBlocked (command_asked asked) st.new path × Shown st (λ scene. HasInWay scene asked path)
+BlamesGather asked NoMemory st = Unit {0}
+
+-- ---- the whole
+
+-- What was gathered is what was told: its view is the first look at each path, its files are among it, and it is right in each scene
+-- that shows all that was told.
+pub record IsGatheredBy (asked : Asked) (gathered : Gathered) (st : Stretch) : Type 0 where
+  pub view_is : sights_of gathered.view ≡ st.new
+  pub viewed : HasView st
+  pub seen : AreSeen st.new gathered.files
+  pub shown : Shown st (λ scene. IsGathered scene asked gathered)
+
+-- What gathering gave of what a source tree told between two of its states, or why it gave nothing. The view is the first look at each path.
+pub record Gathers {T W : Type 0} (w : world.Ghosts W) (s : sources.Ghosts T W) (before after : T) (asked : Asked) (result : Result Gathered GatherFault) : Type 0 where
+  pub answers : List Given
+  pub lists : List Listing
+  pub view : List (List ℕ × Look)
+  pub tells : Tells w s before after answers lists
+  pub outcome : MatchResult result
+      (λ gathered. IsGatheredBy asked gathered (stretch [] view (s.faults before) (s.faults after) answers lists))
+      (λ fault. BlamesGather asked fault (stretch [] view (s.faults before) (s.faults after) answers lists))

@@ -1,13 +1,11 @@
 -- The input tree of a command, before the digests of its files are known.
-use Rattle.std.specs.Prelude.{◌≡◌, ◌≢◌, ◌⊎◌, ◌↔◌, ◌≤◌, ℕ, Bool, true, false, List, [], Option, None, Some, Err, Contains, length, map}
+use Rattle.std.specs.Prelude.{◌≡◌, ◌≢◌, ◌⊎◌, ◌↔◌, ◌≤◌, ℕ, Bool, true, false, List, [], Option, None, Some, Contains, length, map}
 use Rattle.std.specs.Option.{is_some, option_map}
 use Rattle.rx_base.specs.SortedPaths.{AreSorted}
 use Rattle.rx_world.specs.declared.commands.Command.{Command}
 use Rattle.rx_world.specs.declared.commands.Strategy.{Strategy}
-use Rattle.rx_world.specs.declared.looks.Look.{Look}
 use Rattle.rx_world.specs.declared.refusals.LocalCause.{LocalCause}
 use Rattle.rx_world.specs.declared.refusals.LocalCause.TheVariants as local
-use Rattle.rx_world.specs.declared.sources.Given.{Given}
 use Rattle.rx_world.specs.Causes.{Rose}
 use Rattle.rx_scan.specs.declared.gather_fault.GatherFault.{GatherFault}
 use Rattle.rx_scan.specs.declared.gather_fault.GatherFault.TheVariants.{Blocked, InputChanged, InputMissing, NoMemory, NotRemotable, SourceFault, TooLarge}
@@ -15,12 +13,12 @@ use Rattle.rx_scan.specs.declared.input_trees.InputTree.{InputTree}
 use Rattle.rx_scan.specs.declared.limits.Extent.TheVariants.{WholeList}
 use Rattle.rx_scan.specs.declared.seen_files.SeenFile.{SeenFile}
 use Rattle.rx_scan.specs.Gathering.{plan_of}
-use Rattle.rx_scan.specs.Limits.{check_of}
-use Rattle.rx_scan.specs.Lists.{Listing, Shows}
+use Rattle.rx_scan.specs.Limits.{HasPassed}
+use Rattle.rx_scan.specs.Lists.{HasView, Shown, Stretch}
 use Rattle.rx_reach.specs.Scenes.{Scene}
 use Rattle.rx_reach.specs.Sights.{IsChangeFrom}
-use Rattle.rx_scan.specs.Ways.{blocked, over_among, upper_among}
-use Rattle.rx_scan.specs.Whole.{BlamesWhole, IsListOf, IsWholeBy}
+use Rattle.rx_scan.specs.Ways.{WasBlocked, blocked, over_among, upper_among}
+use Rattle.rx_scan.specs.Whole.{BlamesWhole, IsWholeBy, PassesWhole}
 
 abbrev pub paths_of : List SeenFile → List (List ℕ)
 paths_of files = map (λ file. file.path) files
@@ -36,9 +34,9 @@ IsFilesIf scene outputs scanned false files = files ≡ scanned
 IsFilesIf scene outputs scanned true files = IsWholeBy scene outputs files
 
 -- the refusals of a whole list, which is asked for where the command is kept here
-abbrev pub BlamesWholeIf : Bool → List (List ℕ × Look) → ℕ → ℕ → GatherFault → List Given → List Listing → Type 0
-BlamesWholeIf false sights before now fault answers lists = ⊥
-BlamesWholeIf true sights before now fault answers lists = BlamesWhole sights before now fault answers lists
+abbrev pub BlamesWholeIf : Bool → GatherFault → Stretch → Type 0
+BlamesWholeIf false fault st = ⊥
+BlamesWholeIf true fault st = BlamesWhole fault st
 
 -- The tree can be staged, whatever the source tree told.
 pub record IsOrderlyTree (command : Command) (beside : List (List ℕ)) (tree : InputTree) : Type 0 where
@@ -50,17 +48,20 @@ pub record IsOrderlyTree (command : Command) (beside : List (List ℕ)) (tree : 
   pub clear : over_among (paths_of tree.files) beside ≡ None
   pub free : blocked command (paths_of tree.files) ≡ None
 
+-- files of the tree are in the way of the command
+abbrev pub HasBlocked : Scene → Command → List SeenFile → Option LocalCause → List ℕ → Type 0
+HasBlocked scene command scanned cause path =
+    (files : List SeenFile) × IsFilesIf scene command.outputs scanned (is_some cause) files × AreSorted (paths_of files) × (blocked command (paths_of files) ≡ Some path)
+
 -- each refusal of the tree only for its cause; those that come after the choice of a plan tell that there is one
-abbrev pub BlamesTree : List (List ℕ × Look) → Command → List SeenFile → Option LocalCause → Strategy → ℕ → ℕ → GatherFault → List Given → List Listing → Type 0
-BlamesTree sights command scanned cause strategy before now (InputMissing path) answers lists = ⊥
-BlamesTree sights command scanned cause strategy before now (SourceFault path) answers lists = Rose before now
-BlamesTree sights command scanned cause strategy before now (InputChanged path first second) answers lists = IsChangeFrom sights answers path first second
-BlamesTree sights command scanned cause strategy before now (TooLarge limit n path) answers lists =
+abbrev pub BlamesTree : Command → List SeenFile → Option LocalCause → Strategy → GatherFault → Stretch → Type 0
+BlamesTree command scanned cause strategy (InputMissing path) st = ⊥
+BlamesTree command scanned cause strategy (SourceFault path) st = Rose st.before st.now
+BlamesTree command scanned cause strategy (InputChanged change) st = IsChangeFrom st.old st.answers change
+BlamesTree command scanned cause strategy (TooLarge limit n path) st =
     (is_some cause ≡ true) × (plan_of strategy cause ≢ None)
-    × ((scene : Scene) → Shows scene sights answers lists → (all : List SeenFile) × IsListOf scene all × (check_of WholeList all ≡ Err (TooLarge limit n path)))
-BlamesTree sights command scanned cause strategy before now (NotRemotable kept) answers lists = (cause ≡ Some kept) × (plan_of strategy cause ≡ None)
-BlamesTree sights command scanned cause strategy before now (Blocked path) answers lists =
-    (plan_of strategy cause ≢ None)
-    × ((scene : Scene) → Shows scene sights answers lists →
-    (files : List SeenFile) × IsFilesIf scene command.outputs scanned (is_some cause) files × AreSorted (paths_of files) × (blocked command (paths_of files) ≡ Some path))
-BlamesTree sights command scanned cause strategy before now NoMemory answers lists = Unit {0}
+    × HasPassed WholeList st.new limit n path × HasView st × Shown st (λ scene. PassesWhole scene limit n path)
+BlamesTree command scanned cause strategy (NotRemotable kept) st = (cause ≡ Some kept) × (plan_of strategy cause ≡ None) × HasView st
+BlamesTree command scanned cause strategy (Blocked path) st =
+    (plan_of strategy cause ≢ None) × HasView st × WasBlocked command st.new path × Shown st (λ scene. HasBlocked scene command scanned cause path)
+BlamesTree command scanned cause strategy NoMemory st = Unit {0}

@@ -5,19 +5,18 @@ use Rattle.rx_base.specs.Paths.{is_below}
 use Rattle.rx_base.specs.SortedPaths.{AreSorted, HasSameMembers}
 use Rattle.rx_world.specs.declared.looks.Look.{Look}
 use Rattle.rx_world.specs.declared.looks.Look.TheVariants.{Absent, Dir, File, Other}
-use Rattle.rx_world.specs.declared.sources.Given.{Given}
 use Rattle.rx_world.specs.Causes.{Rose}
 use Rattle.rx_world.specs.Sources.{is_file}
-use Rattle.rx_reach.specs.declared.faults.SightFault.TheVariants.{InputChanged as Changed}
 use Rattle.rx_scan.specs.declared.gather_fault.GatherFault.{GatherFault}
 use Rattle.rx_scan.specs.declared.gather_fault.GatherFault.TheVariants.{Blocked, InputChanged, InputMissing, NoMemory, NotRemotable, SourceFault, TooLarge}
+use Rattle.rx_world.specs.declared.refusals.Limit.{Limit}
 use Rattle.rx_world.specs.declared.refusals.Limit.TheVariants.{ScanFiles}
 use Rattle.rx_scan.specs.declared.inputs.Declared.{Declared}
-use Rattle.rx_scan.specs.declared.inputs.Looked.{Looked}
+use Rattle.rx_scan.specs.declared.inputs.LookedInputs.{LookedInputs}
 use Rattle.rx_reach.specs.Candidates.{is_dir}
-use Rattle.rx_scan.specs.Lists.{Listing, Shows, is_under}
-use Rattle.rx_reach.specs.Scenes.{Scene}
-use Rattle.rx_reach.specs.Sights.{Blames}
+use Rattle.rx_scan.specs.Lists.{HasView, Shown, Stretch, is_under}
+use Rattle.rx_reach.specs.Scenes.{Scene, Sees}
+use Rattle.rx_reach.specs.Sights.{HaveDiffered, seen_at}
 
 abbrev pub is_absent : Look → Bool
 is_absent Absent = true
@@ -57,29 +56,36 @@ pub record IsDeclaredBy (scene : Scene) (inputs roots : List (List ℕ)) (declar
 abbrev pub HasTooMany : (List ℕ → Type 0) → Type 0
 HasTooMany P = (files : List (List ℕ)) × AreSorted files × (20000 < length files) × All P files
 
+-- the limit on the files of a scan, which their count alone passes
+abbrev pub IsTooMany : Limit → ℕ → Option (List ℕ) → Type 0
+IsTooMany limit n path = (limit ≡ ScanFiles) × (n ≡ 20001) × (path ≡ None)
+
+-- by what was seen nothing stands at the path, which is the first such of the inputs
+abbrev pub WasMissing : List (List ℕ) → List (List ℕ × Look) → List ℕ → Type 0
+WasMissing inputs view path = (seen_at view path ≡ Some Absent) × Sees view (λ scene. first_missing scene inputs ≡ Some path)
+
 -- each refusal of the declared inputs only for its cause; too many are refused only where none is missing
-abbrev pub BlamesInputs : List (List ℕ × Look) → List (List ℕ) → List (List ℕ) → ℕ → ℕ → GatherFault → List Given → List Listing → Type 0
-BlamesInputs sights inputs roots before now (InputMissing path) answers lists =
-    (scene : Scene) → Shows scene sights answers lists → first_missing scene inputs ≡ Some path
-BlamesInputs sights inputs roots before now (SourceFault path) answers lists = Rose before now
-BlamesInputs sights inputs roots before now (InputChanged path first second) answers lists = Blames sights answers before now (Changed path first second)
-BlamesInputs sights inputs roots before now (TooLarge limit n path) answers lists =
-    (limit ≡ ScanFiles) × (n ≡ 20001) × (path ≡ None)
-    × ((scene : Scene) → Shows scene sights answers lists → (first_missing scene inputs ≡ None) × HasTooMany (IsDeclared scene inputs roots))
-BlamesInputs sights inputs roots before now (NotRemotable cause) answers lists = ⊥
-BlamesInputs sights inputs roots before now (Blocked path) answers lists = ⊥
-BlamesInputs sights inputs roots before now NoMemory answers lists = Unit {0}
+abbrev pub BlamesInputs : List (List ℕ) → List (List ℕ) → GatherFault → Stretch → Type 0
+BlamesInputs inputs roots (InputMissing path) st = HasView st × WasMissing inputs st.new path
+BlamesInputs inputs roots (SourceFault path) st = Rose st.before st.now
+BlamesInputs inputs roots (InputChanged change) st = HaveDiffered st.old st.answers change
+BlamesInputs inputs roots (TooLarge limit n path) st =
+    IsTooMany limit n path × HasView st
+    × Shown st (λ scene. (first_missing scene inputs ≡ None) × HasTooMany (IsDeclared scene inputs roots))
+BlamesInputs inputs roots (NotRemotable cause) st = ⊥
+BlamesInputs inputs roots (Blocked path) st = ⊥
+BlamesInputs inputs roots NoMemory st = Unit {0}
 
 -- ---- the looks at them
 
 -- the inputs that are files and those that are directories, in order
-pub record IsLooked (scene : Scene) (inputs : List (List ℕ)) (looked : Looked) : Type 0 where
+pub record IsLooked (scene : Scene) (inputs : List (List ℕ)) (looked : LookedInputs) : Type 0 where
   pub there : first_missing scene inputs ≡ None
   pub files : looked.files ≡ filter (λ input. is_file (scene.look input)) inputs
   pub dirs : looked.dirs ≡ filter (λ input. is_dir (scene.look input)) inputs
 
 -- one look more
-abbrev pub with_look : Looked → List ℕ → Look → Looked
+abbrev pub with_look : LookedInputs → List ℕ → Look → LookedInputs
 with_look looked path Absent = looked
 with_look looked path (File stamp executable) = record { files = looked.files ++ path ∷ []; dirs = looked.dirs }
 with_look looked path Dir = record { files = looked.files; dirs = looked.dirs ++ path ∷ [] }
@@ -105,10 +111,10 @@ IsOver files found = (20000 < length found) ⊎ AreOver (files ++ found)
 
 -- no refusal but that of too many files, which are so many, and want of memory
 abbrev pub OnlyTooMany : Type 0 → GatherFault → Type 0
-OnlyTooMany Over (TooLarge limit n path) = (limit ≡ ScanFiles) × (n ≡ 20001) × (path ≡ None) × Over
+OnlyTooMany Over (TooLarge limit n path) = IsTooMany limit n path × Over
 OnlyTooMany Over (InputMissing path) = ⊥
 OnlyTooMany Over (SourceFault path) = ⊥
-OnlyTooMany Over (InputChanged path first second) = ⊥
+OnlyTooMany Over (InputChanged change) = ⊥
 OnlyTooMany Over (NotRemotable cause) = ⊥
 OnlyTooMany Over (Blocked path) = ⊥
 OnlyTooMany Over NoMemory = Unit {0}
@@ -122,13 +128,12 @@ abbrev pub HasListed : Scene → List (List ℕ) → List (List ℕ) → List (L
 HasListed scene files roots all = (path : List ℕ) → Contains all path ↔ (Contains files path ⊎ IsUnderOne scene roots path)
 
 -- each refusal of the lists only for its cause
-abbrev pub BlamesLists : List (List ℕ × Look) → List (List ℕ) → List (List ℕ) → ℕ → ℕ → GatherFault → List Given → List Listing → Type 0
-BlamesLists sights files roots before now (InputMissing path) answers lists = ⊥
-BlamesLists sights files roots before now (SourceFault path) answers lists = Rose before now
-BlamesLists sights files roots before now (InputChanged path first second) answers lists = Blames sights answers before now (Changed path first second)
-BlamesLists sights files roots before now (TooLarge limit n path) answers lists =
-    (limit ≡ ScanFiles) × (n ≡ 20001) × (path ≡ None)
-    × ((scene : Scene) → Shows scene sights answers lists → HasTooMany (λ file. Contains files file ⊎ IsUnderOne scene roots file))
-BlamesLists sights files roots before now (NotRemotable cause) answers lists = ⊥
-BlamesLists sights files roots before now (Blocked path) answers lists = ⊥
-BlamesLists sights files roots before now NoMemory answers lists = Unit {0}
+abbrev pub BlamesLists : List (List ℕ) → List (List ℕ) → GatherFault → Stretch → Type 0
+BlamesLists files roots (InputMissing path) st = ⊥
+BlamesLists files roots (SourceFault path) st = Rose st.before st.now
+BlamesLists files roots (InputChanged change) st = HaveDiffered st.old st.answers change
+BlamesLists files roots (TooLarge limit n path) st =
+    IsTooMany limit n path × HasView st × Shown st (λ scene. HasTooMany (λ file. Contains files file ⊎ IsUnderOne scene roots file))
+BlamesLists files roots (NotRemotable cause) st = ⊥
+BlamesLists files roots (Blocked path) st = ⊥
+BlamesLists files roots NoMemory st = Unit {0}

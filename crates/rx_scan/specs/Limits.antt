@@ -1,6 +1,8 @@
 -- The limits on the files of a command.
-use Rattle.std.specs.Prelude.{ℕ, ◌+◌, List, Option, None, Some, Result, Ok, Err, length, nat_lt, sum_by, if◌then◌else◌}
+use Rattle.std.specs.Prelude.{◌≡◌, ℕ, ◌+◌, List, Option, None, Some, Result, Ok, Err, All, length, map, nat_lt, sum_by, if◌then◌else◌}
 use Rattle.std.specs.List.{find}
+use Rattle.rx_base.specs.SortedPaths.{AreSorted}
+use Rattle.rx_world.specs.declared.looks.Look.{Look}
 use Rattle.rx_scan.specs.declared.gather_fault.GatherFault.{GatherFault}
 use Rattle.rx_scan.specs.declared.gather_fault.GatherFault.TheVariants.{TooLarge}
 use Rattle.rx_world.specs.declared.refusals.Limit.{Limit}
@@ -8,6 +10,7 @@ use Rattle.rx_world.specs.declared.refusals.Limit.TheVariants.{FileBytes, ListBy
 use Rattle.rx_scan.specs.declared.limits.Extent.{Extent}
 use Rattle.rx_scan.specs.declared.limits.Extent.TheVariants.{Scan, WholeList}
 use Rattle.rx_scan.specs.declared.seen_files.SeenFile.{SeenFile}
+use Rattle.rx_scan.specs.Digests.{IsSeen}
 use Rattle.rx_reach.specs.Searches.{most_file_bytes}
 
 -- how many files there may be, and how many bytes they may have together
@@ -47,3 +50,8 @@ abbrev pub check_of : Extent → List SeenFile → Result (Unit {0}) GatherFault
 check_of extent files =
     if nat_lt (most_files extent) (length files) then Err (TooLarge (files_limit extent) (most_files extent + 1) None)
     else sizes_of extent files (large_file files)
+
+-- files that were seen, in order, pass this limit first
+abbrev pub HasPassed : Extent → List (List ℕ × Look) → Limit → ℕ → Option (List ℕ) → Type 0
+HasPassed extent view limit n path =
+    (all : List SeenFile) × AreSorted (map (λ file. file.path) all) × All (IsSeen view) all × (check_of extent all ≡ Err (TooLarge limit n path))

@@ -5,10 +5,6 @@ use Rattle.rx_world.specs.declared.looks.Look.TheVariants.{Dir}
 use Rattle.rx_reach.specs.Candidates.{is_dir}
 use Rattle.rx_reach.specs.Sights.{seen_at}
 
--- something was seen at the path, or that nothing is there
-abbrev pub IsKnownAt : List (List ℕ × Look) → List ℕ → Type 0
-IsKnownAt sights path = (look : Look) × (seen_at sights path ≡ Some look)
-
 abbrev pub is_dir_seen : Option Look → Bool
 is_dir_seen None = false
 is_dir_seen (Some look) = is_dir look

@@ -8,7 +8,7 @@ use Rattle.rx_world.specs.declared.commands.Command.{Command}
 use Rattle.rx_world.specs.declared.commands.Kind.{Kind}
 use Rattle.rx_world.specs.declared.commands.Kind.TheVariants.{Compile, Tool}
 use Rattle.rx_reach.specs.declared.searches.Search.{Search}
-use Rattle.rx_scan.specs.declared.words.Said.{Said}
+use Rattle.rx_scan.specs.declared.words.WordMeaning.{WordMeaning}
 
 -- how the words are read; those of a tool aren't
 abbrev pub reading_for : Kind → Command → List (List ℕ) → Option Reading
@@ -59,8 +59,8 @@ word_for None = None
 word_for (Some read) = word_in read
 
 -- all that the words say
-abbrev pub said_by : Command → Option Reading → Said
-said_by command read = record { search = search_for command read; roots = roots_for read; outputs = outputs_for read; word = word_for read }
+abbrev pub meaning_of : Command → Option Reading → WordMeaning
+meaning_of command read = record { search = search_for command read; roots = roots_for read; outputs = outputs_for read; word = word_for read }
 
 -- the command with these outputs besides its own, in order
 abbrev pub with_outputs : Command → List (List ℕ) → Command

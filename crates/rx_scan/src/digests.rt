@@ -8,6 +8,7 @@ ghost use Rattle.rx_base.specs.Digests.{digest_of};
 ghost use Rattle.rx_scan.specs.Digests.{IsKnownOf, IsSeen, seen_file};
 ghost use Rattle.rx_reach.specs.Explored.{HaveDigests};
 ghost use Rattle.rx_reach.specs.Scans.{Ends, Scans};
+ghost use Rattle.rx_reach.specs.Scenes.{Always};
 
 use crate::seen_files::SeenFile;
 use rx_base::{Digest, Items, RelPath, TryClone, digest_of};
@@ -52,10 +53,11 @@ fn read_digest<W: World, S: Sources<W>>(
     file: &SeenFile,
 ) -> Result<Digest, SightFault>
     requires { IsSeen sights.old file.now }
-    ensures ok { IfOk result (λ digest. Scans S.listed S.keeps S.given W.content W.stamps_honest sources.old sources.new sights.old sights.new (λ scene. Unit {0})) }
-    ensures honest { IfOk result (λ digest. W.stamps_honest → digest ≡ digest_of (W.content file.now.path file.now.stamp)) }
-    ensures err { IfErr result (Ends S.listed S.keeps S.given W.content W.stamps_honest sources.old sources.new sights.old (S.faults sources.old) (S.faults sources.new)) }
-    ensures later { S.faults sources.old ≤ S.faults sources.new }
+    ensures ok { IfOk result (λ digest. Scans W.World S.Sources
+        sources.old sources.new sights.old sights.new Always) }
+    ensures honest { IfOk result (λ digest. W.stamps_honest →
+        digest ≡ digest_of (W.content file.now.path file.now.stamp)) }
+    ensures err { IfErr result (Ends W.World S.Sources sources.old sources.new sights.old) }
 {
     let (_, bytes) = read_file::<W, S>(alloc, sources, sights, &file.path)?;
     let digest = digest_of(bytes.as_slice());
@@ -75,10 +77,11 @@ fn find_digest<W: World, S: Sources<W>>(
     known: &[InputFile],
 ) -> Result<Digest, SightFault>
     requires { IsSeen sights.old file.now }
-    ensures ok { IfOk result (λ digest. Scans S.listed S.keeps S.given W.content W.stamps_honest sources.old sources.new sights.old sights.new (λ scene. Unit {0})) }
-    ensures honest { IfOk result (λ digest. W.stamps_honest → HaveDigests W.content known.now → digest ≡ digest_of (W.content file.now.path file.now.stamp)) }
-    ensures err { IfErr result (Ends S.listed S.keeps S.given W.content W.stamps_honest sources.old sources.new sights.old (S.faults sources.old) (S.faults sources.new)) }
-    ensures later { S.faults sources.old ≤ S.faults sources.new }
+    ensures ok { IfOk result (λ digest. Scans W.World S.Sources
+        sources.old sources.new sights.old sights.new Always) }
+    ensures honest { IfOk result (λ digest. W.stamps_honest → HaveDigests W.content known.now →
+        digest ≡ digest_of (W.content file.now.path file.now.stamp)) }
+    ensures err { IfErr result (Ends W.World S.Sources sources.old sources.new sights.old) }
 {
     if let Some(digest) = known_digest(known, file) {
         return Ok(digest);
@@ -100,11 +103,12 @@ pub(crate) fn with_digests<W: World, S: Sources<W>>(
     known: &[InputFile],
 ) -> Result<Items<InputFile>, SightFault>
     requires seen { All (IsSeen sights.old) files.now }
-    ensures ok { IfOk result (λ inputs. Scans S.listed S.keeps S.given W.content W.stamps_honest sources.old sources.new sights.old sights.new (λ scene. Unit {0})) }
+    ensures ok { IfOk result (λ inputs. Scans W.World S.Sources
+        sources.old sources.new sights.old sights.new Always) }
     ensures same { IfOk result (λ inputs. map seen_file inputs ≡ files.now) }
-    ensures digests { IfOk result (λ inputs. W.stamps_honest → HaveDigests W.content known.now → HaveDigests W.content inputs) }
-    ensures err { IfErr result (Ends S.listed S.keeps S.given W.content W.stamps_honest sources.old sources.new sights.old (S.faults sources.old) (S.faults sources.new)) }
-    ensures later { S.faults sources.old ≤ S.faults sources.new }
+    ensures digests { IfOk result (λ inputs. W.stamps_honest → HaveDigests W.content known.now →
+        HaveDigests W.content inputs) }
+    ensures err { IfErr result (Ends W.World S.Sources sources.old sources.new sights.old) }
 {
     let mut inputs = Items::new(alloc);
     for file in files {

@@ -6,7 +6,7 @@ ghost use Rattle.rx_scan.specs.GatherFault.{fault_of};
 
 use rx_base::RelPath;
 use rx_reach::SightFault;
-use rx_world::{Limit, LocalCause, Seen};
+use rx_world::{ChangedInput, Limit, LocalCause};
 use std::alloc::{AllocError, AllocFailed};
 use thiserror::Error;
 
@@ -33,11 +33,7 @@ pub enum GatherFault {
     },
     /// Two values of one path that differ: two looks, two contents, or a file with something below.
     #[error("an input changed")]
-    InputChanged {
-        path: RelPath,
-        first: Seen,
-        second: Seen,
-    },
+    InputChanged(ChangedInput),
     /// The command is to run remotely alone, and can't.
     #[error("the command can't run remotely")]
     NotRemotable {
@@ -74,15 +70,7 @@ impl From<SightFault> for GatherFault {
     fn from(fault: SightFault) -> GatherFault {
         match fault {
             SightFault::SourceFault { path } => GatherFault::SourceFault { path },
-            SightFault::InputChanged {
-                path,
-                first,
-                second,
-            } => GatherFault::InputChanged {
-                path,
-                first,
-                second,
-            },
+            SightFault::InputChanged(change) => GatherFault::InputChanged(change),
             SightFault::NoMemory => GatherFault::NoMemory,
         }
     }

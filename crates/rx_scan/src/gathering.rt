@@ -1,13 +1,12 @@
 //! The top of the crate: all that a command runs on, gathered from a source tree.
 
-ghost use Rattle.std.specs.Prelude.{◌≡◌, ◌≢◌, ◌≤◌, ℕ, [], IfErr, IfOk, List, MatchResult, OnOk};
+ghost use Rattle.std.specs.Prelude.{◌≡◌, ◌≢◌, ℕ, All, IfErr, IfOk, IfSome, List, None, OnOk, Some};
 ghost use Rattle.rx_world.specs.declared.refusals.LocalCause.TheVariants.{Word as word_cause};
 ghost use Rattle.rx_scan.specs.declared.gather_fault.GatherFault.TheVariants.{NoMemory as no_memory, NotRemotable as not_remotable};
 ghost use Rattle.rx_reach.specs.Explored.{HaveDigests};
-ghost use Rattle.rx_scan.specs.Gathering.{Asked, BlamesGather, IsGathered, IsOrderly};
-ghost use Rattle.rx_scan.specs.Lists.{Fails, Learns};
+ghost use Rattle.rx_scan.specs.Digests.{IsAsListed};
+ghost use Rattle.rx_scan.specs.Gathering.{Gathers, IsOrderly, asked_for};
 ghost use Rattle.rx_scan.specs.Plans.{local_plan};
-ghost use Rattle.rx_reach.specs.Sights.{sights_of};
 
 use crate::digests::with_digests;
 use crate::gather_fault::GatherFault;
@@ -61,23 +60,24 @@ pub fn gather<W: World, S: Sources<W>>(
     sources: &mut S,
     cache: &DigestCache<W>,
 ) -> Result<Gathered, GatherFault>
-    // In each scene that shows what the source tree told, this is what the command runs on, or why not.
-    ensures gathered { MatchResult result
-        (λ gathered. Learns S.listed S.keeps S.given W.content W.stamps_honest sources.old sources.new [] (sights_of gathered.view)
-        (λ scene. IsGathered scene (record { command = command.now; kind = kind; inputs = inputs.now; strategy = strategy }) gathered))
-        (λ fault. Fails S.listed S.keeps S.given W.content W.stamps_honest sources.old sources.new
-        (BlamesGather (record { command = command.now; kind = kind; inputs = inputs.now; strategy = strategy }) (S.faults sources.old) (S.faults sources.new) fault)) }
+    // By what the source tree told this is what the command runs on, or why not.
+    ensures gathered { Gathers W.World S.Sources sources.old sources.new
+        (asked_for command.now kind inputs.now strategy) result }
     // It can be staged, whatever the source tree told.
-    ensures orderly { IfOk result (IsOrderly (record { command = command.now; kind = kind; inputs = inputs.now; strategy = strategy })) }
-    ensures digests { IfOk result (λ gathered. W.stamps_honest → HaveDigests W.content gathered.files) }
-    ensures later { S.faults sources.old ≤ S.faults sources.new }
+    ensures orderly { IfOk result
+        (IsOrderly (asked_for command.now kind inputs.now strategy)) }
+    ensures digests { IfOk result (λ gathered. W.stamps_honest →
+        HaveDigests W.content gathered.files) }
+    // Of a source tree that tells its paths and keeps them, each file is as it is listed.
+    ensures listed { IfOk result (λ gathered. W.stamps_honest → S.keeps sources.old →
+        IfSome (S.listed sources.old) (λ entries. All (IsAsListed entries) gathered.files)) }
 {
-    let said = read_words(alloc, command, kind, inputs)?;
-    refuse_word(alloc, strategy, &said.word)?;
-    let command = with_outputs(alloc, command, said.outputs.as_slice())?;
+    let meaning = read_words(alloc, command, kind, inputs)?;
+    refuse_word(alloc, strategy, &meaning.word)?;
+    let command = with_outputs(alloc, command, meaning.outputs.as_slice())?;
     let mut sights = Sights::new(alloc);
-    let scanned = scan(rt, alloc, sources, &mut sights, cache, inputs, &said)?;
-    let cause = cause_of(said.word, scanned.hard);
+    let scanned = scan(rt, alloc, sources, &mut sights, cache, inputs, &meaning)?;
+    let cause = cause_of(meaning.word, scanned.hard);
     let tree = take_tree::<W, S>(
         alloc,
         sources,
@@ -110,7 +110,9 @@ pub fn gather<W: World, S: Sources<W>>(
 /// Refuses a command that is to run remotely and has a word that keeps it here.
 fn refuse_word(alloc: Global, strategy: Strategy, word: &Option<Text>) -> Result<(), GatherFault>
     ensures ok { OnOk result ((text : List ℕ) → word.now ≡ Some text → local_plan strategy ≢ None) }
-    ensures err { IfErr result (λ fault. fault ≢ no_memory → (text : List ℕ) × (word.now ≡ Some text) × (fault ≡ not_remotable (word_cause text)) × (local_plan strategy ≡ None)) }
+    ensures err { IfErr result (λ fault. fault ≢ no_memory → (text : List ℕ)
+        × (word.now ≡ Some text) × (fault ≡ not_remotable (word_cause text))
+        × (local_plan strategy ≡ None)) }
 {
     match word {
         Some(word) => match local_plan(strategy) {

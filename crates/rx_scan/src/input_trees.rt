@@ -47,7 +47,8 @@ pub(crate) fn cause_of(word: Option<Text>, hard: Option<RelPath>) -> Option<Loca
 /// The plan of a command that is kept here for this cause, or isn't.
 fn choose_plan(strategy: Strategy, cause: Option<LocalCause>) -> Result<Plan, GatherFault>
     ensures ok { IfOk result (λ plan. plan_of strategy cause ≡ Some plan) }
-    ensures err { IfErr result (λ fault. (kept : LocalCause) × (fault ≡ not_remotable kept) × (cause ≡ Some kept) × (plan_of strategy cause ≡ None)) }
+    ensures err { IfErr result (λ fault. (kept : LocalCause) × (fault ≡ not_remotable kept)
+        × (cause ≡ Some kept) × (plan_of strategy cause ≡ None)) }
 {
     match cause {
         None => Ok(ordinary_plan(strategy)),
@@ -75,9 +76,11 @@ fn tree_files<W: World, S: Sources<W>>(
     ensures sorted { IfOk result (λ files. AreSorted (paths_of files)) }
     ensures seen { IfOk result (All (IsSeen sights.new)) }
     ensures taken { MatchResult result
-        (λ files. Learns S.listed S.keeps S.given W.content W.stamps_honest sources.old sources.new sights.old sights.new (λ scene. IsFilesIf scene outputs.now scanned kept files))
-        (λ fault. Fails S.listed S.keeps S.given W.content W.stamps_honest sources.old sources.new (BlamesWholeIf kept sights.old (S.faults sources.old) (S.faults sources.new) fault)) }
-    ensures later { S.faults sources.old ≤ S.faults sources.new }
+        (λ files. Learns W.World S.Sources
+        sources.old sources.new sights.old sights.new
+        (λ scene. IsFilesIf scene outputs.now scanned kept files))
+        (λ fault. Fails W.World S.Sources
+        sources.old sources.new sights.old sights.new (BlamesWholeIf kept fault)) }
 {
     if !kept {
         return Ok(scanned);
@@ -107,9 +110,12 @@ pub(crate) fn take_tree<W: World, S: Sources<W>>(
     ensures plan { IfOk result (λ tree. plan_of strategy cause ≡ Some tree.plan) }
     ensures seen { IfOk result (λ tree. All (IsSeen sights.new) tree.files) }
     ensures taken { MatchResult result
-        (λ tree. Learns S.listed S.keeps S.given W.content W.stamps_honest sources.old sources.new sights.old sights.new (λ scene. IsFilesIf scene command.now.outputs scanned (is_some cause) tree.files))
-        (λ fault. Fails S.listed S.keeps S.given W.content W.stamps_honest sources.old sources.new (BlamesTree sights.old command.now scanned cause strategy (S.faults sources.old) (S.faults sources.new) fault)) }
-    ensures later { S.faults sources.old ≤ S.faults sources.new }
+        (λ tree. Learns W.World S.Sources
+        sources.old sources.new sights.old sights.new
+        (λ scene. IsFilesIf scene command.now.outputs scanned (is_some cause) tree.files))
+        (λ fault. Fails W.World S.Sources
+        sources.old sources.new sights.old sights.new
+        (BlamesTree command.now scanned cause strategy fault)) }
 {
     let kept = cause.is_some();
     let plan = choose_plan(strategy, cause)?;

@@ -16,7 +16,7 @@ use std::alloc::Global;
 
 /// The declared inputs that are files, and those that are directories, each in order.
 #[derive(Debug, Drop)]
-pub(crate) struct Looked {
+pub(crate) struct LookedInputs {
     pub files: Items<RelPath>,
     pub dirs: Items<RelPath>,
 }
@@ -30,7 +30,7 @@ pub(crate) struct Declared {
     pub empty_dirs: Items<RelPath>,
 }
 
-impl Looked {
+impl LookedInputs {
     fn add(&mut self, alloc: Global, path: &RelPath, look: Look) -> Result<(), NoMemory>
         ensures { OnOk result (self.new ≡ with_look self.old path.now look) }
     {
@@ -58,13 +58,14 @@ fn look_all<W: World, S: Sources<W>>(
     sources: &mut S,
     sights: &mut Sights,
     inputs: &[RelPath],
-) -> Result<Looked, GatherFault>
+) -> Result<LookedInputs, GatherFault>
     ensures looked { MatchResult result
-        (λ looked. Learns S.listed S.keeps S.given W.content W.stamps_honest sources.old sources.new sights.old sights.new (λ scene. IsLooked scene inputs.now looked))
-        (λ fault. Fails S.listed S.keeps S.given W.content W.stamps_honest sources.old sources.new (BlamesInputs sights.old inputs.now [] (S.faults sources.old) (S.faults sources.new) fault)) }
-    ensures later { S.faults sources.old ≤ S.faults sources.new }
+        (λ looked. Learns W.World S.Sources
+        sources.old sources.new sights.old sights.new (λ scene. IsLooked scene inputs.now looked))
+        (λ fault. Fails W.World S.Sources
+        sources.old sources.new sights.old sights.new (BlamesInputs inputs.now [] fault)) }
 {
-    let mut looked = Looked {
+    let mut looked = LookedInputs {
         files: Items::new(alloc),
         dirs: Items::new(alloc),
     };
@@ -90,9 +91,11 @@ fn list_all<W: World, S: Sources<W>>(
     roots: &[RelPath],
 ) -> Result<Items<RelPath>, GatherFault>
     ensures listed { MatchResult result
-        (λ all. Learns S.listed S.keeps S.given W.content W.stamps_honest sources.old sources.new sights.old sights.new (λ scene. HasListed scene files roots.now all))
-        (λ fault. Fails S.listed S.keeps S.given W.content W.stamps_honest sources.old sources.new (BlamesLists sights.old files roots.now (S.faults sources.old) (S.faults sources.new) fault)) }
-    ensures later { S.faults sources.old ≤ S.faults sources.new }
+        (λ all. Learns W.World S.Sources
+        sources.old sources.new sights.old sights.new
+        (λ scene. HasListed scene files roots.now all))
+        (λ fault. Fails W.World S.Sources
+        sources.old sources.new sights.old sights.new (BlamesLists files roots.now fault)) }
 {
     for root in roots {
         let found = list_noted::<W, S>(alloc, sources, sights, root, MAX_SCAN_FILES)?;
@@ -108,14 +111,15 @@ fn add_found(
     files: Items<RelPath>,
     found: &[Found],
 ) -> Result<Items<RelPath>, GatherFault>
-    ensures whole { IfOk result (λ all. (length found.now ≤ 20000) × HasSameMembers (files ++ paths_of found.now) all) }
+    ensures whole { IfOk result (λ all. (length found.now ≤ 20000)
+        × HasSameMembers (files ++ paths_of found.now) all) }
     ensures many { IfErr result (OnlyTooMany (IsOver files (paths_of found.now))) }
 {
     if found.len() > MAX_SCAN_FILES {
         return Err(too_many());
     }
     let all = with_found(alloc, files, found)?;
-    settle(all)
+    limit_count(all)
 }
 
 /// The paths with those of a list behind them.
@@ -133,8 +137,8 @@ pub(crate) fn with_found(
 }
 
 /// Leaves each path once where there are more than a scan may have.
-fn settle(files: Items<RelPath>) -> Result<Items<RelPath>, GatherFault>
-    ensures same { IfOk result (λ settled. HasSameMembers files settled) }
+fn limit_count(files: Items<RelPath>) -> Result<Items<RelPath>, GatherFault>
+    ensures same { IfOk result (λ counted. HasSameMembers files counted) }
     ensures many { IfErr result (OnlyTooMany (AreOver files)) }
 {
     if files.len() <= MAX_SCAN_FILES {
@@ -169,12 +173,14 @@ pub(crate) fn take_inputs<W: World, S: Sources<W>>(
 ) -> Result<Declared, GatherFault>
     ensures sorted { IfOk result (λ declared. AreSorted declared.files) }
     ensures taken { MatchResult result
-        (λ declared. Learns S.listed S.keeps S.given W.content W.stamps_honest sources.old sources.new sights.old sights.new (λ scene. IsDeclaredBy scene inputs.now roots.now declared))
-        (λ fault. Fails S.listed S.keeps S.given W.content W.stamps_honest sources.old sources.new (BlamesInputs sights.old inputs.now roots.now (S.faults sources.old) (S.faults sources.new) fault)) }
-    ensures later { S.faults sources.old ≤ S.faults sources.new }
+        (λ declared. Learns W.World S.Sources
+        sources.old sources.new sights.old sights.new
+        (λ scene. IsDeclaredBy scene inputs.now roots.now declared))
+        (λ fault. Fails W.World S.Sources
+        sources.old sources.new sights.old sights.new (BlamesInputs inputs.now roots.now fault)) }
 {
     let looked = look_all::<W, S>(alloc, sources, sights, inputs)?;
-    let Looked { files, dirs } = looked;
+    let LookedInputs { files, dirs } = looked;
     let listed = list_all::<W, S>(alloc, sources, sights, files, dirs.as_slice())?;
     let all = list_all::<W, S>(alloc, sources, sights, listed, roots)?;
     let files = sort_paths(all)?;

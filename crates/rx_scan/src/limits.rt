@@ -80,7 +80,8 @@ pub(crate) fn check_limits(
 /// Checks how large each of the files is, and all of them.
 fn check_sizes(alloc: Global, extent: Extent, files: &[SeenFile]) -> Result<(), GatherFault>
     requires { length files.now ≤ 50000 }
-    ensures { Gives no_memory (λ checked. checked) result (sizes_of extent files.now (large_file files.now)) }
+    ensures { Gives no_memory
+        (λ checked. checked) result (sizes_of extent files.now (large_file files.now)) }
 {
     match large_file(files) {
         Some(file) => Err(GatherFault::TooLarge {

@@ -2,7 +2,7 @@
 
 ghost use Rattle.std.specs.Prelude.{◌≡◌, ◌≤◌, ℕ, ◌∷◌, [], All, IfErr, IfOk, MatchResult, OnOk, Some};
 ghost use Rattle.rx_world.specs.Sources.{given_all};
-ghost use Rattle.rx_scan.specs.Lists.{Fails, IsListed, Learns};
+ghost use Rattle.rx_scan.specs.Lists.{BlamesSight, Fails, IsListed, Learns};
 ghost use Rattle.rx_reach.specs.Sights.{Blames, Notes, seen_at};
 
 use rx_base::{Items, RelPath, TryClone};
@@ -19,10 +19,12 @@ pub(crate) fn list_noted<W: World, S: Sources<W>>(
     most: usize,
 ) -> Result<Items<Found>, SightFault>
     ensures listed { MatchResult result
-        (λ found. Learns S.listed S.keeps S.given W.content W.stamps_honest sources.old sources.new sights.old sights.new (λ scene. IsListed scene under.now most found))
-        (λ fault. Fails S.listed S.keeps S.given W.content W.stamps_honest sources.old sources.new (λ answers lists. Blames sights.old answers (S.faults sources.old) (S.faults sources.new) fault)) }
+        (λ found. Learns W.World S.Sources
+        sources.old sources.new sights.old sights.new
+        (λ scene. IsListed scene under.now most found))
+        (λ fault. Fails W.World S.Sources
+        sources.old sources.new sights.old sights.new (BlamesSight fault)) }
     ensures seen { IfOk result (λ found. All (λ f. seen_at sights.new f.path ≡ Some f.look) found) }
-    ensures later { S.faults sources.old ≤ S.faults sources.new }
 {
     match sources.list(under, most) {
         Ok(found) => {
@@ -39,7 +41,8 @@ pub(crate) fn list_noted<W: World, S: Sources<W>>(
 /// Notes each of these.
 fn note_all(alloc: Global, sights: &mut Sights, found: &[Found]) -> Result<(), SightFault>
     ensures noted { OnOk result (Notes sights.old sights.new (given_all found.now)) }
-    ensures changed { IfErr result (λ fault. (before now : ℕ) → Blames sights.old (given_all found.now) before now fault) }
+    ensures changed { IfErr result (λ fault. (before now : ℕ) →
+        Blames sights.old (given_all found.now) before now fault) }
 {
     for item in found {
         sights.note(alloc, &item.path, item.look)?;

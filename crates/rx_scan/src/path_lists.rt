@@ -69,7 +69,8 @@ pub(crate) fn join_files(
     files: &[InputFile],
 ) -> Result<Items<RelPath>, NoMemory>
     ensures sorted { IfOk result AreSorted }
-    ensures members { IfOk result (λ all. (path : List ℕ) → Contains all path ↔ (Contains paths path ⊎ Contains (paths_of files.now) path)) }
+    ensures members { IfOk result (λ all. (path : List ℕ) → Contains all path ↔ (Contains paths path
+        ⊎ Contains (paths_of files.now) path)) }
 {
     let all = with_files(alloc, paths, files)?;
     let sorted = sort_paths(all)?;
@@ -83,7 +84,8 @@ pub(crate) fn join_dirs(
     others: &[RelPath],
 ) -> Result<Items<RelPath>, NoMemory>
     ensures sorted { IfOk result AreSorted }
-    ensures members { IfOk result (λ all. (path : List ℕ) → Contains all path ↔ ((path ≢ []) × (Contains paths path ⊎ Contains others.now path))) }
+    ensures members { IfOk result (λ all. (path : List ℕ) → Contains all path ↔ ((path ≢ [])
+        × (Contains paths path ⊎ Contains others.now path))) }
 {
     let all = with_paths(alloc, paths, others)?;
     let below = below_root(alloc, all.as_slice())?;
@@ -98,7 +100,8 @@ pub(crate) fn with_directory(
     directory: &RelPath,
 ) -> Result<Items<RelPath>, NoMemory>
     ensures sorted { IfOk result AreSorted }
-    ensures members { IfOk result (λ all. (path : List ℕ) → Contains all path ↔ ((path ≢ []) × (Contains paths path ⊎ (path ≡ directory.now)))) }
+    ensures members { IfOk result (λ all. (path : List ℕ) → Contains all path ↔ ((path ≢ [])
+        × (Contains paths path ⊎ (path ≡ directory.now)))) }
 {
     paths.push(directory.try_clone(alloc)?)?;
     let below = below_root(alloc, paths.as_slice())?;

@@ -1,16 +1,17 @@
 //! The scan of a command: the files that it declares and that its includes reach, and where they
 //! keep it on this machine.
 
-ghost use Rattle.std.specs.Prelude.{◌≡◌, ◌<◌, ◌≤◌, [], All, IfErr, IfOk, MatchResult, None, OnOk, length};
+ghost use Rattle.std.specs.Prelude.{◌≡◌, ◌<◌, ◌≤◌, [], All, IfErr, IfOk, IfSome, MatchResult, None, OnOk, length};
 ghost use Rattle.rx_base.specs.SortedPaths.{AreSorted};
 ghost use Rattle.rx_scan.specs.Digests.{IsSeen};
-ghost use Rattle.rx_reach.specs.Explored.{HaveDigests};
+ghost use Rattle.rx_reach.specs.Explored.{AreSeen, HaveDigests};
 ghost use Rattle.rx_reach.specs.FileTables.{paths_of};
 ghost use Rattle.rx_scan.specs.InputTrees.{paths_of as seen_paths};
 ghost use Rattle.rx_scan.specs.Inputs.{OnlyTooMany};
 ghost use Rattle.rx_scan.specs.Lists.{Fails, Learns};
 ghost use Rattle.rx_scan.specs.Scanned.{BlamesScan, IsPathsOf, IsReachOf, IsScanOf};
 ghost use Rattle.rx_reach.specs.Scans.{Ends, Scans};
+ghost use Rattle.rx_reach.specs.Sights.{IsKnownAt};
 ghost use Rattle.rx_scan.specs.SeenDirs.{IsDirSeen};
 
 use crate::gather_fault::GatherFault;
@@ -19,7 +20,7 @@ use crate::limits::{Extent, MAX_SCAN_FILES, check_limits};
 use crate::path_lists::{join_dirs, join_files};
 use crate::seen_dirs::{dirs_seen, look_at_both};
 use crate::seen_files::{SeenFile, files_seen};
-use crate::words::Said;
+use crate::words::WordMeaning;
 use rx_base::{Items, RelPath};
 use rx_digest_cache::DigestCache;
 use rx_reach::{Reached, Search, SightFault, Sights, reach_files};
@@ -64,12 +65,16 @@ fn reach_from<W: World, S: Sources<W>>(
     cache: &DigestCache<W>,
     search: &Option<Search>,
 ) -> Result<Reached, SightFault>
-    ensures ok { IfOk result (λ reached. Scans S.listed S.keeps S.given W.content W.stamps_honest sources.old sources.new sights.old sights.new (λ scene. IsReachOf scene search.now reached)) }
+    ensures ok { IfOk result (λ reached. Scans W.World S.Sources
+        sources.old sources.new sights.old sights.new
+        (λ scene. IsReachOf scene search.now reached)) }
     ensures sorted { IfOk result (λ reached. AreSorted (paths_of reached.files)) }
     ensures unsought { IfOk result (λ reached. search.now ≡ None → reached.hard ≡ None) }
-    ensures digests { IfOk result (λ reached. W.stamps_honest → HaveDigests W.content reached.files) }
-    ensures err { IfErr result (Ends S.listed S.keeps S.given W.content W.stamps_honest sources.old sources.new sights.old (S.faults sources.old) (S.faults sources.new)) }
-    ensures later { S.faults sources.old ≤ S.faults sources.new }
+    ensures seen { IfOk result (λ reached. AreSeen sights.new reached.files) }
+    ensures known { IfOk result (λ reached. IfSome reached.hard (IsKnownAt sights.new)) }
+    ensures digests { IfOk result (λ reached. W.stamps_honest →
+        HaveDigests W.content reached.files) }
+    ensures err { IfErr result (Ends W.World S.Sources sources.old sources.new sights.old) }
 {
     match search {
         Some(search) => reach_files(rt, alloc, sources, sights, cache, search),
@@ -106,18 +111,21 @@ fn find_paths<W: World, S: Sources<W>>(
     sights: &mut Sights,
     cache: &DigestCache<W>,
     inputs: &[RelPath],
-    said: &Said,
+    meaning: &WordMeaning,
 ) -> Result<ScanPaths, GatherFault>
     ensures sorted { IfOk result (λ paths. AreSorted paths.files × AreSorted paths.dirs) }
-    ensures unsought { IfOk result (λ paths. said.now.search ≡ None → paths.hard ≡ None) }
+    ensures unsought { IfOk result (λ paths. meaning.now.search ≡ None → paths.hard ≡ None) }
+    ensures known { IfOk result (λ paths. IfSome paths.hard (IsKnownAt sights.new)) }
     ensures digests { IfOk result (λ paths. W.stamps_honest → HaveDigests W.content paths.known) }
     ensures found { MatchResult result
-        (λ paths. Learns S.listed S.keeps S.given W.content W.stamps_honest sources.old sources.new sights.old sights.new (λ scene. IsPathsOf scene inputs.now said.now paths))
-        (λ fault. Fails S.listed S.keeps S.given W.content W.stamps_honest sources.old sources.new (BlamesScan sights.old inputs.now said.now (S.faults sources.old) (S.faults sources.new) fault)) }
-    ensures later { S.faults sources.old ≤ S.faults sources.new }
+        (λ paths. Learns W.World S.Sources
+        sources.old sources.new sights.old sights.new
+        (λ scene. IsPathsOf scene inputs.now meaning.now paths))
+        (λ fault. Fails W.World S.Sources
+        sources.old sources.new sights.old sights.new (BlamesScan inputs.now meaning.now fault)) }
 {
-    let declared = take_inputs::<W, S>(alloc, sources, sights, inputs, said.roots.as_slice())?;
-    let reached = reach_from(rt, alloc, sources, sights, cache, &said.search)?;
+    let declared = take_inputs::<W, S>(alloc, sources, sights, inputs, meaning.roots.as_slice())?;
+    let reached = reach_from(rt, alloc, sources, sights, cache, &meaning.search)?;
     let Declared { files, empty_dirs } = declared;
     let Reached {
         files: known,
@@ -144,19 +152,25 @@ pub(crate) fn scan<W: World, S: Sources<W>>(
     sights: &mut Sights,
     cache: &DigestCache<W>,
     inputs: &[RelPath],
-    said: &Said,
+    meaning: &WordMeaning,
 ) -> Result<Scanned, GatherFault>
     ensures few { IfOk result (λ scanned. length scanned.files ≤ 20000) }
-    ensures sorted { IfOk result (λ scanned. AreSorted (seen_paths scanned.files) × AreSorted scanned.dirs) }
-    ensures unsought { IfOk result (λ scanned. said.now.search ≡ None → scanned.hard ≡ None) }
-    ensures seen { IfOk result (λ scanned. All (IsSeen sights.new) scanned.files × All (IsDirSeen sights.new) scanned.dirs) }
-    ensures digests { IfOk result (λ scanned. W.stamps_honest → HaveDigests W.content scanned.known) }
+    ensures sorted { IfOk result (λ scanned. AreSorted (seen_paths scanned.files)
+        × AreSorted scanned.dirs) }
+    ensures unsought { IfOk result (λ scanned. meaning.now.search ≡ None → scanned.hard ≡ None) }
+    ensures seen { IfOk result (λ scanned. All (IsSeen sights.new) scanned.files
+        × All (IsDirSeen sights.new) scanned.dirs) }
+    ensures known { IfOk result (λ scanned. IfSome scanned.hard (IsKnownAt sights.new)) }
+    ensures digests { IfOk result (λ scanned. W.stamps_honest →
+        HaveDigests W.content scanned.known) }
     ensures scanned { MatchResult result
-        (λ scanned. Learns S.listed S.keeps S.given W.content W.stamps_honest sources.old sources.new sights.old sights.new (λ scene. IsScanOf scene inputs.now said.now scanned))
-        (λ fault. Fails S.listed S.keeps S.given W.content W.stamps_honest sources.old sources.new (BlamesScan sights.old inputs.now said.now (S.faults sources.old) (S.faults sources.new) fault)) }
-    ensures later { S.faults sources.old ≤ S.faults sources.new }
+        (λ scanned. Learns W.World S.Sources
+        sources.old sources.new sights.old sights.new
+        (λ scene. IsScanOf scene inputs.now meaning.now scanned))
+        (λ fault. Fails W.World S.Sources
+        sources.old sources.new sights.old sights.new (BlamesScan inputs.now meaning.now fault)) }
 {
-    let found = find_paths(rt, alloc, sources, sights, cache, inputs, said)?;
+    let found = find_paths(rt, alloc, sources, sights, cache, inputs, meaning)?;
     let ScanPaths {
         files,
         dirs,

@@ -3,8 +3,8 @@
 ghost use Rattle.std.specs.Prelude.{◌≡◌, ◌≤◌, All, IfErr, IfOk, OnOk, filter};
 ghost use Rattle.rx_reach.specs.Scans.{Ends, Scans};
 ghost use Rattle.rx_reach.specs.Scenes.{AreRight};
-ghost use Rattle.rx_scan.specs.SeenDirs.{IsKnownAt, is_dir_seen};
-ghost use Rattle.rx_reach.specs.Sights.{seen_at};
+ghost use Rattle.rx_scan.specs.SeenDirs.{is_dir_seen};
+ghost use Rattle.rx_reach.specs.Sights.{AreKnownAt, seen_at};
 
 use rx_base::{Items, NoMemory, RelPath, TryClone};
 use rx_reach::{SightFault, Sights};
@@ -18,10 +18,10 @@ fn look_at_each<W: World, S: Sources<W>>(
     sights: &mut Sights,
     paths: &[RelPath],
 ) -> Result<(), SightFault>
-    ensures ok { OnOk result (Scans S.listed S.keeps S.given W.content W.stamps_honest sources.old sources.new sights.old sights.new (λ scene. AreRight scene sights.new)) }
-    ensures seen { OnOk result (All (IsKnownAt sights.new) paths.now) }
-    ensures err { IfErr result (Ends S.listed S.keeps S.given W.content W.stamps_honest sources.old sources.new sights.old (S.faults sources.old) (S.faults sources.new)) }
-    ensures later { S.faults sources.old ≤ S.faults sources.new }
+    ensures ok { OnOk result (Scans W.World S.Sources
+        sources.old sources.new sights.old sights.new (λ scene. AreRight scene sights.new)) }
+    ensures seen { OnOk result (AreKnownAt sights.new paths.now) }
+    ensures err { IfErr result (Ends W.World S.Sources sources.old sources.new sights.old) }
 {
     for path in paths {
         sights.look::<W, S>(alloc, sources, path)?;
@@ -37,11 +37,11 @@ pub(crate) fn look_at_both<W: World, S: Sources<W>>(
     files: &[RelPath],
     dirs: &[RelPath],
 ) -> Result<(), SightFault>
-    ensures ok { OnOk result (Scans S.listed S.keeps S.given W.content W.stamps_honest sources.old sources.new sights.old sights.new (λ scene. AreRight scene sights.new)) }
-    ensures files { OnOk result (All (IsKnownAt sights.new) files.now) }
-    ensures dirs { OnOk result (All (IsKnownAt sights.new) dirs.now) }
-    ensures err { IfErr result (Ends S.listed S.keeps S.given W.content W.stamps_honest sources.old sources.new sights.old (S.faults sources.old) (S.faults sources.new)) }
-    ensures later { S.faults sources.old ≤ S.faults sources.new }
+    ensures ok { OnOk result (Scans W.World S.Sources
+        sources.old sources.new sights.old sights.new (λ scene. AreRight scene sights.new)) }
+    ensures files { OnOk result (AreKnownAt sights.new files.now) }
+    ensures dirs { OnOk result (AreKnownAt sights.new dirs.now) }
+    ensures err { IfErr result (Ends W.World S.Sources sources.old sources.new sights.old) }
 {
     look_at_each::<W, S>(alloc, sources, sights, files)?;
     look_at_each::<W, S>(alloc, sources, sights, dirs)?;
@@ -54,7 +54,8 @@ pub(crate) fn dirs_seen(
     sights: &Sights,
     paths: &[RelPath],
 ) -> Result<Items<RelPath>, NoMemory>
-    ensures { IfOk result (λ dirs. dirs ≡ filter (λ path. is_dir_seen (seen_at sights.now path)) paths.now) }
+    ensures { IfOk result (λ dirs. dirs ≡ filter
+        (λ path. is_dir_seen (seen_at sights.now path)) paths.now) }
 {
     let mut dirs = Items::new(alloc);
     for path in paths {

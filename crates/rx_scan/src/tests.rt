@@ -100,16 +100,12 @@ fn show_fault(alloc: Global, fault: &GatherFault) -> Result<String, NoMemory> {
             let path = path.as_ref().map_or("alone", |path| path.as_str());
             format!(in alloc; "{} {n} {path}", show_limit(*limit))
         }
-        GatherFault::InputChanged {
-            path,
-            first,
-            second,
-        } => {
-            let first = show_look(first.look);
+        GatherFault::InputChanged(change) => {
+            let first = show_look(change.first.look);
             format!(in alloc;
                 "changed {} {first} {}",
-                path.as_str(),
-                show_look(second.look)
+                change.path.as_str(),
+                show_look(change.second.look)
             )
         }
         GatherFault::NotRemotable { cause } => match cause {

@@ -13,7 +13,7 @@ ghost use Rattle.rx_scan.specs.Ways.{BlamesWay, IsUpper, blocked, change_above, 
 use crate::gather_fault::GatherFault;
 use crate::seen_files::SeenFile;
 use rx_base::{NoMemory, RelPath, TryClone, first_above, first_at_or_above};
-use rx_world::{Command, Look, Seen};
+use rx_world::{ChangedInput, Command, Look, Seen};
 use std::alloc::Global;
 
 /// Which of these sorted files a later path of the list stands below.
@@ -55,7 +55,8 @@ fn is_below_one(path: &RelPath, files: &[RelPath]) -> bool
 #[tactic(auto, using(rx_base::proofs::SortedSearch::position_is_any))]
 fn is_at_or_below_one(path: &RelPath, files: &[RelPath]) -> bool
     requires { AreSorted files.now }
-    ensures { result ≡ list_any (λ file. bytes_eq path.now file || is_below path.now file) files.now }
+    ensures { result ≡ list_any
+        (λ file. bytes_eq path.now file || is_below path.now file) files.now }
 {
     first_at_or_above(files, path).is_some()
 }
@@ -81,14 +82,14 @@ pub(crate) fn blocked_path<'a>(command: &'a Command, files: &[RelPath]) -> Optio
 fn changed_above(alloc: Global, file: &SeenFile) -> Result<GatherFault, NoMemory>
     ensures { IfOk result (λ fault. fault ≡ change_above file.now) }
 {
-    Ok(GatherFault::InputChanged {
+    Ok(GatherFault::InputChanged(ChangedInput {
         path: file.path.try_clone(alloc)?,
         first: Seen::from(Look::File {
             stamp: file.stamp,
             executable: file.executable,
         }),
         second: Seen::from(Look::Dir),
-    })
+    }))
 }
 
 /// Refuses the file at this place, where there is one.
@@ -114,7 +115,9 @@ fn check_upper(
     requires each { map (λ file. file.path) files.now ≡ paths.now }
     ensures apart { OnOk result (upper_among paths.now paths.now ≡ None) }
     ensures clear { OnOk result (over_among paths.now dirs.now ≡ None) }
-    ensures err { IfErr result (λ fault. fault ≢ no_memory → IsUpper files.now (option_or (upper_among paths.now paths.now) (over_among paths.now dirs.now)) fault) }
+    ensures err { IfErr result (λ fault. fault ≢ no_memory →
+        IsUpper files.now (option_or (upper_among paths.now paths.now)
+        (over_among paths.now dirs.now)) fault) }
 {
     refuse_at(alloc, files, upper_index(paths, paths))?;
     refuse_at(alloc, files, over_index(paths, dirs))

@@ -54,9 +54,10 @@ pub(crate) fn take_whole<W: World, S: Sources<W>>(
     ensures few { IfOk result (λ files. length files ≤ 50000) }
     ensures seen { IfOk result (All (IsSeen sights.new)) }
     ensures taken { MatchResult result
-        (λ files. Learns S.listed S.keeps S.given W.content W.stamps_honest sources.old sources.new sights.old sights.new (λ scene. IsWholeBy scene outputs.now files))
-        (λ fault. Fails S.listed S.keeps S.given W.content W.stamps_honest sources.old sources.new (BlamesWhole sights.old (S.faults sources.old) (S.faults sources.new) fault)) }
-    ensures later { S.faults sources.old ≤ S.faults sources.new }
+        (λ files. Learns W.World S.Sources
+        sources.old sources.new sights.old sights.new (λ scene. IsWholeBy scene outputs.now files))
+        (λ fault. Fails W.World S.Sources
+        sources.old sources.new sights.old sights.new (BlamesWhole fault)) }
 {
     let root = RelPath::root(alloc);
     let found = list_noted::<W, S>(alloc, sources, sights, &root, MAX_LIST_FILES)?;

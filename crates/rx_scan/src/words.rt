@@ -3,7 +3,7 @@
 ghost use Rattle.std.specs.Prelude.{◌≡◌, [], IfOk, None, Some};
 ghost use Rattle.std.specs.List.{AllByRecursion};
 ghost use Rattle.rx_cppflags.specs.Readings.{IsSafeOutput, reading_of};
-ghost use Rattle.rx_scan.specs.Words.{reading_for, said_by, with_outputs};
+ghost use Rattle.rx_scan.specs.Words.{reading_for, meaning_of, with_outputs};
 
 use crate::path_lists::with_paths;
 use rx_base::{Items, NoMemory, RelPath, Text, TryClone, sort_paths};
@@ -14,7 +14,7 @@ use std::alloc::Global;
 
 /// What the words of a command say. Those of a tool say nothing.
 #[derive(Debug, Drop)]
-pub(crate) struct Said {
+pub(crate) struct WordMeaning {
     /// Where its includes are sought, of a command whose includes can be followed.
     pub search: Option<Search>,
     /// The system roots, whose files are declared inputs too.
@@ -31,20 +31,22 @@ pub(crate) fn read_words(
     command: &Command,
     kind: Kind,
     inputs: &[RelPath],
-) -> Result<Said, NoMemory>
-    ensures said { IfOk result (λ said. said ≡ said_by command.now (reading_for kind command.now inputs.now)) }
-    ensures safe { IfOk result (λ said. AllByRecursion (IsSafeOutput command.now inputs.now said.outputs) said.outputs) }
+) -> Result<WordMeaning, NoMemory>
+    ensures meaning { IfOk result
+        (λ meaning. meaning ≡ meaning_of command.now (reading_for kind command.now inputs.now)) }
+    ensures safe { IfOk result (λ meaning.
+        AllByRecursion (IsSafeOutput command.now inputs.now meaning.outputs) meaning.outputs) }
 {
     match kind {
-        Kind::Tool => Ok(nothing_said(alloc)),
+        Kind::Tool => Ok(no_meaning(alloc)),
         Kind::Compile => read_compile(alloc, command, inputs),
     }
 }
 
-fn nothing_said(alloc: Global) -> Said
+fn no_meaning(alloc: Global) -> WordMeaning
     ensures { result ≡ record { search = None; roots = []; outputs = []; word = None } }
 {
-    Said {
+    WordMeaning {
         search: None,
         roots: Items::new(alloc),
         outputs: Items::new(alloc),
@@ -52,18 +54,24 @@ fn nothing_said(alloc: Global) -> Said
     }
 }
 
-fn read_compile(alloc: Global, command: &Command, inputs: &[RelPath]) -> Result<Said, NoMemory>
-    ensures said { IfOk result (λ said. said ≡ said_by command.now (Some (reading_of command.now inputs.now))) }
-    ensures safe { IfOk result (λ said. AllByRecursion (IsSafeOutput command.now inputs.now said.outputs) said.outputs) }
+fn read_compile(
+    alloc: Global,
+    command: &Command,
+    inputs: &[RelPath],
+) -> Result<WordMeaning, NoMemory>
+    ensures meaning { IfOk result
+        (λ meaning. meaning ≡ meaning_of command.now (Some (reading_of command.now inputs.now))) }
+    ensures safe { IfOk result (λ meaning.
+        AllByRecursion (IsSafeOutput command.now inputs.now meaning.outputs) meaning.outputs) }
 {
     let reading = read_command(alloc, command, inputs)?;
-    let said = said_by(alloc, command, reading)?;
-    Ok(said)
+    let meaning = meaning_of(alloc, command, reading)?;
+    Ok(meaning)
 }
 
 /// What a reading says.
-fn said_by(alloc: Global, command: &Command, reading: Reading) -> Result<Said, NoMemory>
-    ensures { IfOk result (λ said. said ≡ said_by command.now (Some reading)) }
+fn meaning_of(alloc: Global, command: &Command, reading: Reading) -> Result<WordMeaning, NoMemory>
+    ensures { IfOk result (λ meaning. meaning ≡ meaning_of command.now (Some reading)) }
 {
     match reading {
         Reading::Compile {
@@ -74,7 +82,7 @@ fn said_by(alloc: Global, command: &Command, reading: Reading) -> Result<Said, N
             sysroots,
             outputs,
             is_c,
-        } => Ok(Said {
+        } => Ok(WordMeaning {
             search: Some(Search {
                 working_directory: command.working_directory.try_clone(alloc)?,
                 source,
@@ -87,7 +95,7 @@ fn said_by(alloc: Global, command: &Command, reading: Reading) -> Result<Said, N
             outputs,
             word: None,
         }),
-        Reading::LocalOnly { word } => Ok(Said {
+        Reading::LocalOnly { word } => Ok(WordMeaning {
             search: None,
             roots: Items::new(alloc),
             outputs: Items::new(alloc),

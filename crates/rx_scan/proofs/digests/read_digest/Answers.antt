@@ -1,4 +1,5 @@
 use Rattle.rx_world.specs.declared.looks.Look.TheVariants.{File}
+use Rattle.rx_reach.specs.Scenes.{Always}
 use Rattle.rx_reach.proofs.ScanLemmas.{scans-say}
 use Rattle.rx_scan.proofs.DigestLemmas.{digest-read, seen-again}
 use Rattle.rx_scan.proofs.digests.read_digest.Goals as goal
@@ -11,4 +12,4 @@ keep-requires g c = λ honest.
     digest-read g.W.World.content file.path read.bytes c.as_slice.result.now read.field-0-0 file.stamp file.executable c.digest_of-digest.result is (read.ensures.honest honest) c.as_slice.ensures c.digest_of-digest.ensures
 
 pub returns-clause-ok : goal.returns-clause-ok
-returns-clause-ok g c = scans-say _ _ _ _ _ _ _ _ _ _ (λ scene. Unit {0}) c.in_ok-bytes.ensures.ok (λ scene a. tt)
+returns-clause-ok g c = scans-say _ _ _ _ _ _ _ Always c.in_ok-bytes.ensures.ok (λ scene a. tt)

@@ -1,6 +1,6 @@
 use Rattle.std.proofs.Common.{arith, refl}
 use Rattle.std.proofs.lemmas.Result.{err_from_is_err_and}
-use Rattle.rx_scan.proofs.inputs.settle.Goals as goal
+use Rattle.rx_scan.proofs.inputs.limit_count.Goals as goal
 
 pub returns-then-len-le-MAX_SCAN_FILES-clause-same : goal.returns-then-len-le-MAX_SCAN_FILES-clause-same
 returns-then-len-le-MAX_SCAN_FILES-clause-same c = λ item. (λ h. h, λ h. h)
@@ -17,7 +17,7 @@ returns-in_err-files-clause-many c =
 
 pub returns-then-len-gt-MAX_SCAN_FILES-clause-many : goal.returns-then-len-gt-MAX_SCAN_FILES-clause-many
 returns-then-len-gt-MAX_SCAN_FILES-clause-many c =
-    rw c.too_many.ensures (refl, refl, refl, (c.in_ok-files.files, c.in_ok-files.ensures.ascending, c.in_ok-files.ensures.members, omega arith))
+    rw c.too_many.ensures ((refl, refl, refl), (c.in_ok-files.files, c.in_ok-files.ensures.ascending, c.in_ok-files.ensures.members, omega arith))
 
 pub returns-clause-same : goal.returns-clause-same
 returns-clause-same c = c.in_ok-files.ensures.members

@@ -9,8 +9,8 @@ returns-in_err-check_limits-clause-taken g c =
     let all = rw c.as_slice.ensures at c.in_ok-listed.ensures in
     let files = rw c.as_slice-2.ensures at c.in_ok-files.ensures in
     let large = rw c.as_slice-3.ensures at c.in_err-check_limits.ensures in
-    rw (p.1, p.2) (whole-large _ _ _ _ _ _ _ c.args.sights.now _ _ c.in_ok-files.files _ _ _ files large
-    (whole-known _ _ _ _ _ _ _ _ _ _ _ _ _ _ c.root-root.ensures c.new.ensures all c.in_ok-paths.ensures.sorted c.in_ok-found.ensures.seen c.in_ok-found.ensures.listed))
+    rw (p.1, p.2) (whole-large _ _ _ _ c.args.sights.now _ _ c.in_ok-files.files _ files large c.in_ok-paths.ensures.ascending (all-seen _ _ c.in_ok-files.files files)
+    (whole-known _ _ _ _ _ _ _ _ _ _ _ c.root-root.ensures c.new.ensures all c.in_ok-paths.ensures.sorted c.in_ok-found.ensures.seen c.in_ok-found.ensures.listed))
 
 pub returns-clause-sorted : goal.returns-clause-sorted
 returns-clause-sorted g c =
@@ -33,8 +33,8 @@ returns-clause-taken g c =
     let fits = rw c.as_slice-3.ensures at c.in_ok-check_limits.ensures in
     let left = rw c.as_slice-4.ensures at c.in_ok-left.ensures in
     let inputs = rw c.as_slice-5.ensures at c.in_ok-inputs.ensures in
-    whole-taken _ _ _ _ _ _ _ c.args.sights.now _ _ c.args.outputs.now _ c.in_ok-files.files c.in_ok-inputs.inputs files fits left inputs
-    (whole-known _ _ _ _ _ _ _ _ _ _ _ _ _ _ c.root-root.ensures c.new.ensures all c.in_ok-paths.ensures.sorted c.in_ok-found.ensures.seen c.in_ok-found.ensures.listed)
+    whole-taken _ _ _ _ c.args.sights.now _ _ c.args.outputs.now _ c.in_ok-files.files c.in_ok-inputs.inputs files fits left inputs
+    (whole-known _ _ _ _ _ _ _ _ _ _ _ c.root-root.ensures c.new.ensures all c.in_ok-paths.ensures.sorted c.in_ok-found.ensures.seen c.in_ok-found.ensures.listed)
 
 pub returns-clause-seen : goal.returns-clause-seen
 returns-clause-seen g c =
