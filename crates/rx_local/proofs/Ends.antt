@@ -1,11 +1,12 @@
 -- How an attempt on a fresh bench ends: before the run, with an outcome, and after the run without one.
-use Rattle.std.proofs.Common.{inl, inr, ◌≡◌, ℕ, ◌⊎◌, List, [], ◌∷◌, ◌++◌, ap, append-nil, refl, subst, sym, ◌∙◌, pos}
+use Rattle.std.proofs.Common.{true≢false, inl, inr, ◌≡◌, ℕ, ◌⊎◌, List, [], ◌∷◌, ◌++◌, ap, append-nil, refl, subst, sym, ◌∙◌, pos}
 use Rattle.std.specs.Prelude.{Err, IfErr, IfOk, IfSome, None, Ok, Option, Result, Some}
 use Rattle.rx_base.specs.Told.{Told}
 use Rattle.rx_world.specs.declared.attempts.BenchStep.TheVariants.{Run, Take}
 use Rattle.rx_world.specs.declared.attempts.Cause.{Cause}
 use Rattle.rx_world.specs.declared.attempts.Cause.TheVariants.{BenchFault, InputChanged, NoMemory, OutputMissing, OutputTooLarge, SourceFault, Stopped}
 use Rattle.rx_world.specs.declared.benches.Bench as benches
+use Rattle.rx_world.specs.declared.benches.BenchMaker as makers
 use Rattle.rx_world.specs.declared.benches.BenchRun.{BenchRun}
 use Rattle.rx_world.specs.declared.input_files.InputFile.{InputFile}
 use Rattle.rx_world.specs.declared.outcomes.Exit.{Exit}
@@ -19,7 +20,7 @@ use Rattle.rx_world.specs.Benches.{IsFresh, Runs}
 use Rattle.rx_world.specs.Files.{cut_files}
 use Rattle.rx_world.specs.Outcomes.{IsClean}
 use Rattle.rx_world.specs.Trees.{empty_tree, tree_of, tree_with_directories, tree_with_files, with_parents}
-use Rattle.rx_local.specs.Local.{HasEnded, IfMissing, IsAfterRun, IsBeforeRun, IsCauseOf, IsOnlyRun, IsPrepareCause, IsReadBefore, IsUnmade, Job, LacksOutput, RanAtMostOnce, first_missing, run_of}
+use Rattle.rx_local.specs.Local.{HasAttempted, HasEnded, IfRunsTold, IfMissing, IsAfterRun, IsBeforeRun, IsCauseOf, IsOnlyRun, IsPrepareCause, IsReadBefore, IsUnmade, Job, LacksOutput, RanAtMostOnce, first_missing, run_of}
 use Rattle.rx_local.specs.Stage.{AreStaged, HasFailedStaging, HasRunToZero, HasStaged, IsCutShort, IsStepCause}
 
 -- ---- causes before the run
@@ -246,3 +247,34 @@ module _ {B T W : Type 0} (w : world.Ghosts W) (b : benches.Ghosts B W) (s : sou
       lacks = lacks;
     };
   }
+
+-- ---- an outcome that is let go
+
+told-at-most : {B W : Type 0} (b : benches.Ghosts B W) (made : Option B) (run : BenchRun) → IfRunsTold b made (λ all. all ≡ run ∷ []) → IfRunsTold b made RanAtMostOnce
+told-at-most b None run h = tt
+told-at-most b (Some bench) run h = one-at-most (b.runs bench) run h
+
+-- an attempt whose outcome is let go for want of memory ended as one that memory ran out in
+pub forgets : {M B T W : Type 0} (w : world.Ghosts W) (m : makers.Ghosts M W B) (b : benches.Ghosts B W) (s : sources.Ghosts T W) (j : Job) (benches_before benches_after : M) (before after : T) (outcome : Outcome)
+    → HasAttempted w m b s j benches_before benches_after before after (Ok outcome) → HasAttempted w m b s j benches_before benches_after before after (Err NoMemory)
+forgets w m b s j benches_before benches_after before after outcome h =
+    let run = h.on.ended in
+    record {
+      made = h.made;
+      returned = h.returned;
+      on = record {
+        answers = h.on.answers;
+        gives = h.on.gives;
+        ended = record {
+          caused = all-read j.files h.on.answers run.of.staged run.of.each;
+          not_run = λ x. absurd x;
+          run_once = λ x. absurd x;
+          at_most_once = told-at-most b h.made (run_of j run.of.staged outcome.exit) run.ran;
+          unmade = λ e. absurd (true≢false (rw e at run.made_one));
+          made_none = λ x. absurd x;
+          lacks = tt;
+        };
+      };
+      later = h.later;
+      counted = tt;
+    }

@@ -1,4 +1,4 @@
-mod Ends
+pub mod Ends
 mod HonestRuns
 mod Lacking
 pub mod Staging
