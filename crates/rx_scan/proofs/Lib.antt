@@ -11,7 +11,7 @@ mod ListSteps
 mod ListedLemmas
 mod LookSteps
 mod NoReach
-mod PathSteps
+pub mod PathSteps
 mod ScanBlames
 mod ScannedSteps
 mod SeenAll

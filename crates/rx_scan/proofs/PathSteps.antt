@@ -1,11 +1,16 @@
 -- Lists of paths: filters one path on, and what is in joined lists.
-use Rattle.std.proofs.Common.{◌≡◌, ◌≢◌, ℕ, ◌+◌, ◌<◌, ◌⊎◌, inl, inr, Bool, true, false, cond, not, ◌==◌, List, [], ◌∷◌, ◌++◌, filter, length, get_or, take, refl, sym, ap, subst, ◌∙◌, arith, true≢false}
+use Rattle.std.proofs.Common.{◌≡◌, ◌≢◌, ℕ, ◌+◌, ◌<◌, ◌⊎◌, inl, inr, Bool, true, false, cond, not, ◌==◌, List, [], ◌∷◌, ◌++◌, filter, length, get_or, map, take, refl, sym, ap, subst, ◌∙◌, arith, true≢false}
 use Rattle.std.specs.Prelude.{Contains, ◌↔◌}
 use Rattle.std.proofs.lemmas.Bool.Decides.{nat_tests}
 use Rattle.std.proofs.lemmas.List.Elements.{Contains-append_cases, Contains-append_left, Contains-append_right}
 use Rattle.rx_base.specs.SortedPaths.{HasSameMembers}
 use Rattle.rx_world.proofs.Among.{among-filter, among-from, among-from_filter, contains-from}
 use Rattle.rx_scan.proofs.InputSteps.{kept, taken}
+
+-- the paths of paths are these
+pub map_same : (paths : List (List ℕ)) → map (λ path. path) paths ≡ paths
+map_same [] = refl
+map_same (path ∷ paths) = ap (λ rest. path ∷ rest) (map_same paths)
 
 -- one path more of a filtered list
 pub filter-more : (p : List ℕ → Bool) (xs : List (List ℕ)) (i : ℕ) (x : List ℕ) (b : Bool) (old new : List (List ℕ)) → i < length xs → x ≡ get_or xs i x → p x ≡ b → old ≡ filter p (take i xs) → new ≡ old ++ cond b (x ∷ []) [] → new ≡ filter p (take (i + 1) xs)

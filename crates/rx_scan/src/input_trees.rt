@@ -13,7 +13,7 @@ ghost use Rattle.rx_scan.specs.Lists.{Fails, Learns};
 ghost use Rattle.rx_scan.specs.SeenDirs.{IsDirSeen};
 
 use crate::gather_fault::GatherFault;
-use crate::path_lists::{file_paths, with_directory};
+use crate::path_lists::{with_directory, with_paths};
 use crate::plans::{local_plan, ordinary_plan};
 use crate::seen_files::SeenFile;
 use crate::ways::check_way;
@@ -127,7 +127,7 @@ pub(crate) fn take_tree<W: World, S: Sources<W>>(
         scanned,
         command.outputs.as_slice(),
     )?;
-    let paths = file_paths(alloc, files.as_slice())?;
+    let paths = with_paths(alloc, Items::new(alloc), files.as_slice())?;
     check_way(
         alloc,
         command,

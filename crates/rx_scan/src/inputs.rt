@@ -9,6 +9,7 @@ ghost use Rattle.rx_scan.specs.Lists.{Fails, Learns, paths_of};
 use crate::gather_fault::GatherFault;
 use crate::limits::MAX_SCAN_FILES;
 use crate::lists::list_noted;
+use crate::path_lists::with_paths;
 use rx_base::{Items, NoMemory, RelPath, TryClone, first_below, sort_paths};
 use rx_reach::Sights;
 use rx_world::{Found, Limit, Look, Sources, World};
@@ -118,22 +119,8 @@ fn add_found(
     if found.len() > MAX_SCAN_FILES {
         return Err(too_many());
     }
-    let all = with_found(alloc, files, found)?;
+    let all = with_paths(alloc, files, found)?;
     limit_count(all)
-}
-
-/// The paths with those of a list behind them.
-pub(crate) fn with_found(
-    alloc: Global,
-    mut files: Items<RelPath>,
-    found: &[Found],
-) -> Result<Items<RelPath>, NoMemory>
-    ensures { IfOk result (λ all. all ≡ files ++ paths_of found.now) }
-{
-    for item in found {
-        files.push(item.path.try_clone(alloc)?)?;
-    }
-    Ok(files)
 }
 
 /// Leaves each path once where there are more than a scan may have.

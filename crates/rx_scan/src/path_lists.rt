@@ -3,48 +3,63 @@
 ghost use Rattle.std.specs.Prelude.{◌≡◌, ◌≢◌, ◌↔◌, ◌⊎◌, ◌++◌, ◌==◌, ℕ, [], Contains, IfOk, List, filter, length, map, not};
 ghost use Rattle.rx_base.specs.SortedPaths.{AreSorted};
 ghost use Rattle.rx_reach.specs.FileTables.{paths_of};
-ghost use Rattle.rx_scan.specs.InputTrees.{paths_of as seen_paths};
 
 use crate::seen_files::SeenFile;
 use rx_base::{Items, NoMemory, RelPath, TryClone, sort_paths};
-use rx_world::InputFile;
+use rx_world::{Found, InputFile};
 use std::alloc::Global;
 
-/// These paths, and others behind them.
-pub(crate) fn with_paths(
-    alloc: Global,
-    mut paths: Items<RelPath>,
-    others: &[RelPath],
-) -> Result<Items<RelPath>, NoMemory>
-    ensures { IfOk result (λ all. all ≡ paths ++ others.now) }
-{
-    for other in others {
-        paths.push(other.try_clone(alloc)?)?;
-    }
-    Ok(paths)
+/// What has a path of a source tree.
+pub(crate) trait HasPath {
+    /// Its path.
+    ghost place: { Self → List ℕ };
+
+    fn path(&self) -> &RelPath
+        ensures { result.now ≡ place self.now };
 }
 
-/// These paths, and those of the files behind them.
-fn with_files(
-    alloc: Global,
-    mut paths: Items<RelPath>,
-    files: &[InputFile],
-) -> Result<Items<RelPath>, NoMemory>
-    ensures { IfOk result (λ all. all ≡ paths ++ paths_of files.now) }
-{
-    for file in files {
-        paths.push(file.path.try_clone(alloc)?)?;
+impl HasPath for RelPath {
+    ghost place = { λ path. path };
+
+    fn path(&self) -> &RelPath {
+        self
     }
-    Ok(paths)
 }
 
-/// The paths of the files.
-pub(crate) fn file_paths(alloc: Global, files: &[SeenFile]) -> Result<Items<RelPath>, NoMemory>
-    ensures { IfOk result (λ paths. paths ≡ seen_paths files.now) }
+impl HasPath for Found {
+    ghost place = { λ found. found.path };
+
+    fn path(&self) -> &RelPath {
+        &self.path
+    }
+}
+
+impl HasPath for InputFile {
+    ghost place = { λ file. file.path };
+
+    fn path(&self) -> &RelPath {
+        &self.path
+    }
+}
+
+impl HasPath for SeenFile {
+    ghost place = { λ file. file.path };
+
+    fn path(&self) -> &RelPath {
+        &self.path
+    }
+}
+
+/// These paths, and those of the items behind them.
+pub(crate) fn with_paths<T: HasPath>(
+    alloc: Global,
+    mut paths: Items<RelPath>,
+    items: &[T],
+) -> Result<Items<RelPath>, NoMemory>
+    ensures { IfOk result (λ all. all ≡ paths ++ map T.place items.now) }
 {
-    let mut paths = Items::new(alloc);
-    for file in files {
-        paths.push(file.path.try_clone(alloc)?)?;
+    for item in items {
+        paths.push(item.path().try_clone(alloc)?)?;
     }
     Ok(paths)
 }
@@ -72,7 +87,7 @@ pub(crate) fn join_files(
     ensures members { IfOk result (λ all. (path : List ℕ) → Contains all path ↔ (Contains paths path
         ⊎ Contains (paths_of files.now) path)) }
 {
-    let all = with_files(alloc, paths, files)?;
+    let all = with_paths(alloc, paths, files)?;
     let sorted = sort_paths(all)?;
     Ok(sorted)
 }

@@ -10,9 +10,9 @@ ghost use Rattle.rx_scan.specs.Lists.{Fails, Learns};
 ghost use Rattle.rx_scan.specs.Whole.{BlamesWhole, IsWholeBy, without};
 
 use crate::gather_fault::GatherFault;
-use crate::inputs::with_found;
 use crate::limits::{Extent, MAX_LIST_FILES, check_limits};
 use crate::lists::list_noted;
+use crate::path_lists::with_paths;
 use crate::seen_files::{SeenFile, files_seen};
 use rx_base::{Items, NoMemory, RelPath, TryClone, sort_paths};
 use rx_reach::Sights;
@@ -61,7 +61,7 @@ pub(crate) fn take_whole<W: World, S: Sources<W>>(
 {
     let root = RelPath::root(alloc);
     let found = list_noted::<W, S>(alloc, sources, sights, &root, MAX_LIST_FILES)?;
-    let listed = with_found(alloc, Items::new(alloc), found.as_slice())?;
+    let listed = with_paths(alloc, Items::new(alloc), found.as_slice())?;
     let paths = sort_paths(listed)?;
     let files = files_seen(alloc, sights, paths.as_slice())?;
     check_limits(alloc, Extent::WholeList, files.as_slice())?;

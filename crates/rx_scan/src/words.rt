@@ -105,6 +105,7 @@ fn meaning_of(alloc: Global, command: &Command, reading: Reading) -> Result<Word
 }
 
 /// A copy of the command, with these outputs besides its own, in order.
+#[tactic(auto, using(crate::proofs::PathSteps::map_same))]
 pub(crate) fn with_outputs(
     alloc: Global,
     command: &Command,

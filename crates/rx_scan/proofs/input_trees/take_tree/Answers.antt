@@ -21,7 +21,7 @@ returns-in_err-paths-clause-taken g c =
 pub returns-in_err-check_way-clause-taken : goal.returns-in_err-check_way-clause-taken
 returns-in_err-check_way-clause-taken g c =
     let p = err_from_is_err_and c.from_residual-in_err-check_way.result c.from_residual-in_err-check_way.ensures.1 in
-    let paths = rw c.as_slice-2.ensures at c.in_ok-paths.ensures in
+    let paths = rw (c.as_slice-2.ensures, c.new.ensures) at c.in_ok-paths.ensures in
     let files = rw c.as_slice.ensures at c.in_ok-files.ensures.taken in
     let way = rw (c.as_slice-3.ensures, c.as_slice-4.ensures, c.as_slice-5.ensures) at c.in_err-check_way.ensures.err in
     rw (p.1, p.2) (way-refused _ _ _ _ _ _ c.args.command.now c.args.scanned c.in_ok-files.files c.in_ok-paths.paths c.args.dirs c.args.cause c.args.strategy c.in_ok-plan.plan _ c.in_ok-plan.ensures.ok paths c.in_ok-files.ensures.sorted c.in_ok-files.ensures.seen c.requires.dirs
@@ -34,7 +34,7 @@ returns-in_err-dirs-clause-taken g c =
 
 pub returns-clause-orderly : goal.returns-clause-orderly
 returns-clause-orderly g c =
-    let paths = rw c.as_slice-2.ensures at c.in_ok-paths.ensures in
+    let paths = rw (c.as_slice-2.ensures, c.new.ensures) at c.in_ok-paths.ensures in
     let apart = rw c.as_slice-4.ensures at c.in_ok-check_way.ensures.apart in
     let clear = rw (c.as_slice-4.ensures, c.as_slice-5.ensures) at c.in_ok-check_way.ensures.clear in
     let free = rw c.as_slice-4.ensures at c.in_ok-check_way.ensures.free in

@@ -1,5 +1,5 @@
-use Rattle.std.proofs.Common.{◌≡◌, ◌++◌, take}
+use Rattle.std.proofs.Common.{◌≡◌, ◌++◌, map, take}
 use Rattle.rx_scan.proofs.path_lists.with_paths.Given as goal
 
-abbrev pub invariant-loop-other : goal.invariant-loop-other
-invariant-loop-other l = l.paths ≡ l.fn.paths ++ take l.other-index l.others
+abbrev pub invariant-loop-item : goal.invariant-loop-item
+invariant-loop-item g l = l.paths ≡ l.fn.paths ++ map g.T.HasPath.place (take l.item-index l.items)
