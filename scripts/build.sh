@@ -1,6 +1,64 @@
 # Finds the kit's rt and builds programs. To be sourced.
 # shellcheck shell=sh
 
+# crates_below FILE CRATE: the crates that a crate of this crates.txt stands on, lower ones first, then the crate itself; one a line
+crates_below() {
+    awk -v crate="$2" '
+    function visit(name,    uses, count, i) {
+        if (!(name in line)) return
+        count = split(line[name], uses, " ")
+        delete line[name]
+        for (i = 1; i <= count; i++) visit(uses[i])
+        print name
+    }
+    { sub(/#.*/, "") }
+    /:/ { name = $1; sub(/:.*/, "", name); sub(/^[^:]*:/, ""); line[name] = $0 }
+    END { visit(crate) }' "$1"
+}
+
+# tell CRATE WORD..: a line of progress on standard error: which crate of how many, what is told of it, and the time since the start
+tell() {
+    crate_told=$1
+    shift
+    told_at=$(date +%s)
+    place=$(printf '%s\n' "$crates" | grep -nxF "$crate_told" | cut -d: -f1)
+    elapsed=$((told_at - started_at))
+    printf '[%s of %s] %s: %s (%d min %02d s)\n' "${place:-?}" "$crate_count" "$crate_told" "$*" $((elapsed / 60)) $((elapsed % 60)) >&2
+}
+
+# follow_build LOG: copies what rt writes from standard input to the log, and tells how far the build is: a line as a crate begins
+# and as it is proved, and one in between where 20 seconds passed since the last. It ends with the status in the last line.
+follow_build() {
+    now_built=
+    code=1
+    while IFS= read -r line; do
+        printf '%s\n' "$line" >&3
+        case $line in
+        "rt: chose --jobs "*)
+            now_built=${line##* for }
+            tell "$now_built" "begun"
+            ;;
+        "rt: "*": another copy of the repository is building"*)
+            line=${line#rt: }
+            tell "${line%%:*}" "waiting for another copy of the repository, which builds the same"
+            ;;
+        "so far: "[0-9]*" of "[0-9]*" functions checked"* | "checked "*", "[0-9]*" of "*[0-9])
+            line=${line#so far: }
+            line=${line%% functions*}
+            if [ $(($(date +%s) - told_at)) -ge 20 ]; then
+                tell "$now_built" "${line##*, } functions proved"
+            fi
+            ;;
+        "logic=proved functions="*)
+            line=${line#*functions=}
+            tell "$now_built" "proved, ${line%% *} functions"
+            ;;
+        "rt ended with status "*) code=${line##* } ;;
+        esac
+    done 3> "$1"
+    return "$code"
+}
+
 # build_program TOP CRATE LOG WORD..: proves and builds the program of a crate in the repository at TOP, runs it on these
 # words, which are to ask for next to nothing, and sets `program` to its path.
 build_program() {
@@ -11,8 +69,18 @@ build_program() {
     rt=${RT:-$(command -v rt || echo /opt/rattle/bin/rt)}
     [ -x "$rt" ] || { echo "the kit's rt was not found: put it on the PATH, or name it in RT" >&2; return 1; }
     program=$top_folder/crates/$crate/out/$crate
+    crates=$(crates_below "$top_folder/crates.txt" "$crate")
+    crate_count=$(printf '%s\n' "$crates" | grep -c .)
+    started_at=$(date +%s)
+    told_at=$started_at
+    echo "building $crate and the crates below it, $crate_count in all. Each is proved first: that takes seconds where an earlier build" \
+        "is kept, and up to 20 minutes on four processors where none is. The whole log: $log" >&2
     # rt run proves what isn't proved yet, leaves the program in out/, and runs it
-    if ! (cd "$top_folder/crates/$crate" && "$rt" run -- "$@") > "$log" 2>&1; then
+    if ! {
+        code=0
+        (cd "$top_folder/crates/$crate" && "$rt" run -- "$@") 2>&1 || code=$?
+        echo "rt ended with status $code"
+    } | follow_build "$log"; then
         tail -n 20 "$log" >&2
         echo "$crate was not built; the whole log is $log" >&2
         return 1
