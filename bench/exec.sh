@@ -5,9 +5,9 @@
 #
 # Run by hand, on a machine that does nothing else. Both are measured in one run and by turns: each of ROUNDS rounds (20) times
 # CALLS calls (50) of `true` alone, and then as many of `reproxy exec`, which reads the same Request frame from a file each time.
-# Both are started by this shell, with their streams on files, so that each has the cost of one start in it. Told are the median
-# over the rounds of the time per call, and the median of the rounds' ratios. The request has no inputs and no outputs: what is
-# measured is two processes, a staged directory made and removed, and the frames. The first round warms up and doesn't count.
+# Both are started by this shell, with their streams on files, so that each has the cost of one start in it. The script prints the
+# median over the rounds of the time per call, and the median of the rounds' ratios. The request has no inputs and no outputs, so
+# this measures two processes, a sandbox made and removed, and the frames. The first round warms up and doesn't count.
 set -eu
 export LC_ALL=C
 

@@ -4,10 +4,10 @@
 #   bash bench/gather.sh [ROUNDS]
 #
 # Run by hand, on a machine that does nothing else. The program gather_bench gathers ROUNDS times (9) and times each round by the
-# clock; told is the median. There are 900 headers of some 40,000 bytes, each with ten includes, and a compiler that has four
-# directories to search. A scan reads each file that an include can reach whether or not its digest is kept, and a tool that
-# declares the headers has only those read whose digest isn't: so both are measured with a new cache of digests each time, and
-# with one that has them all. The tree is made before the first round, so that `gather` alone is measured.
+# clock; the script prints the median. There are 900 headers of some 40,000 bytes, each with ten includes, and a compiler that
+# has four directories to search. A scan reads each file that an include can reach, whether or not its digest is kept. Of a tool
+# that declares the headers, only those are read whose digest isn't kept. So both are measured with a new cache of digests each
+# time, and with one that has them all. The tree is made before the first round, so that `gather` alone is measured.
 set -eu
 export LC_ALL=C
 

@@ -3,7 +3,7 @@
 #
 #   bash bench/h2.sh [REPEATS]
 #
-# Run by hand. Each work is done REPEATS times (5) by the program h2_bench, and told is the median by the processor's time in
+# Run by hand. The program h2_bench does each work REPEATS times (5). The script prints the median by the processor's time in
 # user mode, so that other programs on the machine count little. DATA comes in frames of 16,384 bytes and pieces of 8,192, and
 # after each piece the events and the output are taken.
 set -eu

@@ -4,8 +4,8 @@
 #   bash bench/tree.sh [ROUNDS]
 #
 # Run by hand, on a machine that does nothing else. The program tree_bench builds each tree ROUNDS times (9) and times each
-# round by the clock; told is the median. The files lie in a hundred directories of three to six names and come in an order of
-# no directory. The list of files is made before the first round, so that `build` alone is measured.
+# round by the clock; the script prints the median. The files lie in a hundred directories whose paths have three to six names,
+# and come in an order of their own. The list of files is made before the first round, so that `build` alone is measured.
 set -eu
 export LC_ALL=C
 
