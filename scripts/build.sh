@@ -73,8 +73,8 @@ build_program() {
     crate_count=$(printf '%s\n' "$crates" | grep -c .)
     started_at=$(date +%s)
     told_at=$started_at
-    echo "building $crate and the crates below it, $crate_count in all. Each is proved first: that takes seconds where an earlier build" \
-        "is kept, and up to 20 minutes on four processors where none is. The whole log: $log" >&2
+    echo "building $crate: $crate_count crates, each proved before it is built. The whole log is $log" >&2
+    echo "Where earlier builds are kept this takes seconds, and where none is up to 20 minutes on four processors." >&2
     # rt run proves what isn't proved yet, leaves the program in out/, and runs it
     if ! {
         code=0
