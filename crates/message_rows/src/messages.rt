@@ -1,0 +1,86 @@
+//! `message KIND TEXT`: a message that is read from a text's bytes and written again: `same` where that
+//! gives the same bytes, else what it gives.
+
+use rx_base::Digest;
+use rx_messages::{
+    Action, ActionResult, Any, BatchReadBlobsRequest, BatchReadBlobsResponse,
+    BatchUpdateBlobsRequest, BatchUpdateBlobsResponse, BlobRead, BlobUpdate, BlobUpdated, Command,
+    Directory, DirectoryNode, Duration, EnvironmentVariable, FileNode, FindMissingBlobsRequest,
+    FindMissingBlobsResponse, Message, MessageFault, OutputDirectory, OutputFile, OutputSymlink,
+    Platform, Property, Status, SymlinkNode, Tree,
+};
+use rx_rows::{Answer, Row, RowFault};
+use std::alloc::Global;
+
+/// Reads and writes a message of the kind that the next word names.
+pub(crate) fn call(alloc: Global, row: &mut Row<'_>, answer: &mut Answer) -> Result<(), RowFault> {
+    let kind = row.word()?;
+    let bytes = row.text(alloc)?;
+    match kind {
+        b"Digest" => again::<Digest>(alloc, &bytes, answer),
+        b"FileNode" => again::<FileNode>(alloc, &bytes, answer),
+        b"DirectoryNode" => again::<DirectoryNode>(alloc, &bytes, answer),
+        b"SymlinkNode" => again::<SymlinkNode>(alloc, &bytes, answer),
+        b"Directory" => again::<Directory>(alloc, &bytes, answer),
+        b"Tree" => again::<Tree>(alloc, &bytes, answer),
+        b"EnvironmentVariable" => again::<EnvironmentVariable>(alloc, &bytes, answer),
+        b"Property" => again::<Property>(alloc, &bytes, answer),
+        b"Platform" => again::<Platform>(alloc, &bytes, answer),
+        b"Command" => again::<Command>(alloc, &bytes, answer),
+        b"Duration" => again::<Duration>(alloc, &bytes, answer),
+        b"Action" => again::<Action>(alloc, &bytes, answer),
+        b"OutputFile" => again::<OutputFile>(alloc, &bytes, answer),
+        b"OutputDirectory" => again::<OutputDirectory>(alloc, &bytes, answer),
+        b"OutputSymlink" => again::<OutputSymlink>(alloc, &bytes, answer),
+        b"ActionResult" => again::<ActionResult>(alloc, &bytes, answer),
+        b"Any" => again::<Any>(alloc, &bytes, answer),
+        b"Status" => again::<Status>(alloc, &bytes, answer),
+        _ => call_storage(alloc, kind, &bytes, answer),
+    }
+}
+
+/// The same, of the messages of the ContentAddressableStorage service.
+fn call_storage(
+    alloc: Global,
+    kind: &[u8],
+    bytes: &[u8],
+    answer: &mut Answer,
+) -> Result<(), RowFault> {
+    match kind {
+        b"FindMissingBlobsRequest" => again::<FindMissingBlobsRequest>(alloc, bytes, answer),
+        b"FindMissingBlobsResponse" => again::<FindMissingBlobsResponse>(alloc, bytes, answer),
+        b"BlobUpdate" => again::<BlobUpdate>(alloc, bytes, answer),
+        b"BatchUpdateBlobsRequest" => again::<BatchUpdateBlobsRequest>(alloc, bytes, answer),
+        b"BlobUpdated" => again::<BlobUpdated>(alloc, bytes, answer),
+        b"BatchUpdateBlobsResponse" => again::<BatchUpdateBlobsResponse>(alloc, bytes, answer),
+        b"BatchReadBlobsRequest" => again::<BatchReadBlobsRequest>(alloc, bytes, answer),
+        b"BlobRead" => again::<BlobRead>(alloc, bytes, answer),
+        b"BatchReadBlobsResponse" => again::<BatchReadBlobsResponse>(alloc, bytes, answer),
+        _ => Err(RowFault::NoCall),
+    }
+}
+
+/// Reads and writes one message.
+fn again<M: Message>(alloc: Global, bytes: &[u8], answer: &mut Answer) -> Result<(), RowFault> {
+    match M::decode(alloc, bytes) {
+        Ok(message) => {
+            let written = message.encode(alloc)?;
+            write_same(&written, bytes, answer)
+        }
+        Err(MessageFault::NoMemory) => Err(RowFault::NoMemory),
+        Err(fault) => {
+            answer.value(&fault)?;
+            Ok(())
+        }
+    }
+}
+
+/// Writes what was written, or `same`.
+fn write_same(written: &[u8], read: &[u8], answer: &mut Answer) -> Result<(), RowFault> {
+    if written == read {
+        answer.word("same")?;
+    } else {
+        answer.text(written)?;
+    }
+    Ok(())
+}
