@@ -1,144 +1,176 @@
 -- From the steps of an answer to the whole of it.
-use Rattle.std.proofs.Common.{false, true, ◌≡◌, ℕ, List, [], refl, sym}
+use Rattle.std.proofs.Common.{◌≡◌, ℕ, List, [], inl, inr, refl, sym, subst}
 use Rattle.std.proofs.lemmas.List.Elements.{All-nil}
 use Rattle.std.specs.Prelude.{Err, IfOk, IfSome, None, Ok, Option, Result, Some, All}
-use Rattle.rx_board.specs.declared.journal.Entry.{Entry}
-use Rattle.rx_board.specs.declared.journal.Receipt.{Receipt}
 use Rattle.rx_scan.specs.declared.gather_fault.GatherFault.{GatherFault}
-use Rattle.rx_scan.specs.declared.gather_fault.GatherFault.TheVariants.{Blocked, InputChanged, InputMissing, NoMemory, NotRemotable, SourceFault, TooLarge}
+use Rattle.rx_scan.specs.declared.gather_fault.GatherFault.TheVariants as fault
 use Rattle.rx_scan.specs.declared.gathering.Gathered.{Gathered}
 use Rattle.rx_reach.specs.Explored.{HaveDigests}
-use Rattle.rx_scan.specs.Gathering.{Asked, BlamesGather, IsGathered, IsOrderly, plan_of}
-use Rattle.rx_reach.specs.Sights.{sights_of}
-use Rattle.rx_scan.specs.Lists.{IsRightList, Learns}
+use Rattle.rx_scan.specs.Gathering.{Asked, BlamesGather, Gathers, IsGatheredBy, IsOrderly}
+use Rattle.rx_scan.specs.Lists.{IsRightList, Tells, stretch}
 use Rattle.rx_reach.specs.Scenes.{scene_of}
 use Rattle.rx_session.specs.declared.replies.Reply.{Reply}
 use Rattle.rx_session.specs.declared.replies.Reply.TheVariants as reply
 use Rattle.rx_session.specs.declared.requests.Request.{Request}
 use Rattle.rx_session.specs.Jobs.{command_of, declared_of}
+use Rattle.rx_session.specs.Replies.{frame_of}
 use Rattle.rx_world.specs.declared.attempts.Ended.{Ended}
-use Rattle.rx_world.specs.declared.attempts.Plan.{Plan}
-use Rattle.rx_world.specs.declared.attempts.Plan.TheVariants as plans
+use Rattle.rx_world.specs.declared.benches.Bench as benches
+use Rattle.rx_world.specs.declared.benches.BenchMaker as makers
+use Rattle.rx_world.specs.declared.sources.Sources as sources
+use Rattle.rx_world.specs.declared.streams.Sink as sinks
+use Rattle.rx_world.specs.declared.streams.Source as inputs
+use Rattle.rx_world.specs.declared.world.World as world
 use Rattle.rx_world.specs.declared.commands.Command.{Command}
-use Rattle.rx_world.specs.declared.commands.Strategy.{Strategy}
-use Rattle.rx_world.specs.declared.commands.Strategy.TheVariants as strategies
-use Rattle.rx_world.specs.declared.looks.Stamp.{Stamp}
-use Rattle.rx_world.specs.declared.refusals.LocalCause.{LocalCause}
-use Rattle.rx_world.specs.declared.sources.Given.{Given}
 use Rattle.rx_world.specs.declared.sources.SourceEntry.{SourceEntry}
-use Rattle.rx_engine.specs.declared.answers.Answered.{Answered}
-use Rattle.rx_engine.specs.Answered.{AnswersFault}
-use Rattle.rx_engine.specs.Answers.{Answers, HasGathered, IsIdle, RunGrounds, RunsOn, ScanGrounds, Tells, asked_of}
-use Rattle.rx_engine.specs.Journal.{Enters}
 use Rattle.rx_world.proofs.AnswerLemmas.{gives-none}
+use Rattle.rx_engine.specs.declared.answered.Answered.{Answered}
+use Rattle.rx_engine.specs.declared.answers.Handled.{Handled}
+use Rattle.rx_engine.specs.declared.attempts.Won.{Won}
+use Rattle.rx_engine.specs.declared.desk.Parts.{Parts}
+use Rattle.rx_engine.specs.Answered.{AnswersFault, IsPlain, TellsPublication, reply_no_memory}
+use Rattle.rx_engine.specs.Answers.{Answers, Grounds, HasRun, HasWon, IsUnrun, MayHaveRun, asked_of, grounds, stretch_of}
+use Rattle.rx_engine.specs.Attempts.{IsIdle}
+use Rattle.rx_engine.specs.Gathers.{AnswersRun, HasGatheredFor, HasNotGathered, HasRunAndPublished}
+use Rattle.rx_engine.specs.Meanings.{Meanings, meanings}
+use Rattle.rx_engine.specs.Ready.{AnswersAs, HasHandled, IsOrGivenUp}
+use Rattle.rx_engine.proofs.AttemptLemmas.{idle-none}
+use Rattle.rx_engine.proofs.Moves.{attempts-move, idle-move, tells-in, tells-move}
 
-some-inj : {A : Type 0} {a b : A} → Some a ≡ Some b → a ≡ b
-some-inj h = cc
-
-no-lists : (o : Option (List SourceEntry)) → IfSome o (λ entries. All (IsRightList (scene_of entries)) [])
+no-lists : (told : Option (List SourceEntry)) → IfSome told (λ entries. All (IsRightList (scene_of entries)) [])
 no-lists None = tt
 no-lists (Some entries) = All-nil (IsRightList (scene_of entries))
 
 -- nothing is told yet
-pub tells-none : {T : Type 0} (listed : T → Option (List SourceEntry)) (keeps : T → Type 0) (given : T → Option (List Given)) (content : List ℕ → Stamp → List ℕ) (honest : Type 0) (tree : T)
-    → Tells listed keeps given content honest tree tree [] []
-tells-none listed keeps given content honest tree = record {
-  gives = gives-none listed keeps given content honest tree;
-  by_list = λ kept. no-lists (listed tree);
-}
-
--- by the strategy local there is the local attempt alone
-plan-local : (cause : Option LocalCause) (plan : Plan) → plan_of strategies.Local cause ≡ Some plan → plan ≡ plans.LocalOnly
-plan-local None plan h = sym (some-inj h)
-plan-local (Some cause) plan h = sym (some-inj h)
-
-plan-by : (strategy : Strategy) (cause : Option LocalCause) (plan : Plan) → strategy ≡ strategies.Local → plan_of strategy cause ≡ Some plan → plan ≡ plans.LocalOnly
-plan-by strategy cause plan e h = plan-local cause plan (rw e at h)
+pub tells-none : {T W : Type 0} (w : world.Ghosts W) (s : sources.Ghosts T W) (tree : T) → Tells w s tree tree [] []
+tells-none w s tree = record { gives = gives-none w s tree; by_list = λ kept. no-lists (s.listed tree) }
 
 -- what is asked of the gathering is what the request asks for
 pub asked-is : (command : Command) (paths : List (List ℕ)) (request : Request) → command ≡ command_of request → paths ≡ declared_of request
     → record { command = command; kind = request.kind; inputs = paths; strategy = request.strategy } ≡ asked_of request
 asked-is command paths request c p = rw (c, p) refl
 
--- what was learned is what was gathered for the request
-pub has-gathered : {T : Type 0} (listed : T → Option (List SourceEntry)) (keeps : T → Type 0) (given : T → Option (List Given)) (content : List ℕ → Stamp → List ℕ) (honest : Type 0) (a b : T) (asked : Asked) (request : Request) (gathered : Gathered) (before now : ℕ)
-    → asked ≡ asked_of request
-    → (l : Learns listed keeps given content honest a b [] (sights_of gathered.view) (λ scene. IsGathered scene asked gathered))
-    → IsOrderly asked gathered → (honest → HaveDigests content gathered.files)
-    → HasGathered (record { content = content; answers = l.answers; lists = l.lists; before = before; now = now }) honest request gathered
-has-gathered listed keeps given content honest a b asked request gathered before now e l orderly digests = record {
-  shown = λ scene shows. rw e at (l.fact scene shows);
-  viewed = l.notes;
-  orderly = rw e at orderly;
-  digests = digests;
-  plan = λ local. let planned = (rw e at orderly).planned in plan-by request.strategy planned.0 gathered.plan local planned.2;
-}
+-- ---- the replies to attempts
 
--- a run on what was gathered answers the request
-pub runs-answers : (s : ScanGrounds) (r : RunGrounds) (stamps tools : Type 0) (request : Request) (gathered : Gathered) (receipt : Option Receipt) (ends : List Ended) (answer : Reply)
-    → HasGathered s stamps request gathered → RunsOn r tools gathered receipt ends answer
-    → Answers s r stamps tools request receipt ends answer
-runs-answers s r stamps tools request gathered receipt ends (reply.Done exit stdout stderr from number placed) g h =
-    (h.0, record { gathered = gathered; inputs = g; run = h.1 }, h.2, h.3)
-runs-answers s r stamps tools request gathered receipt ends (reply.PlaceFault number placed) g h =
-    (h.0, record { gathered = gathered; inputs = g; run = h.1 }, h.2, h.3)
-runs-answers s r stamps tools request gathered receipt ends reply.JournalFull g h =
-    (h.0, record { gathered = gathered; inputs = g; run = h.1 }, h.2)
-runs-answers s r stamps tools request gathered receipt ends (reply.AllFailed failures) g h =
-    (h.0, record { gathered = gathered; inputs = g; failed = h.1 }, h.2, h.3)
-runs-answers s r stamps tools request gathered receipt ends (reply.NotRemotable why) g h = absurd h
-runs-answers s r stamps tools request gathered receipt ends (reply.InputMissing path) g h = absurd h
-runs-answers s r stamps tools request gathered receipt ends (reply.InputChanged path first second) g h = absurd h
-runs-answers s r stamps tools request gathered receipt ends (reply.SourceFault path) g h = absurd h
-runs-answers s r stamps tools request gathered receipt ends (reply.TooLarge limit n path) g h = absurd h
-runs-answers s r stamps tools request gathered receipt ends (reply.Blocked path) g h = absurd h
-runs-answers s r stamps tools request gathered receipt ends (reply.BadRequest bad) g h = absurd h
-runs-answers s r stamps tools request gathered receipt ends reply.NoMemory g h = absurd h
+module _ {P W B : Type 0} (m : Meanings P W B) (g : Grounds P) (request : Request) (ends : List Ended) where
+  publication-answers : (won : Won) (a : Answered) (answer : Reply) → HasWon m g request ends won → TellsPublication won a answer → Answers m g request a.receipt ends answer
+  publication-answers won a (reply.Done exit stdout stderr from number placed) h tells = (won, h, tells.0, tells.1)
+  publication-answers won a (reply.PlaceFault number placed) h tells = (won, h, tells.0, tells.1)
+  publication-answers won a reply.JournalFull h tells = (won, h, tells)
+  publication-answers won a (reply.AllFailed failures) h tells = absurd tells
+  publication-answers won a (reply.NotRemotable why) h tells = absurd tells
+  publication-answers won a (reply.InputMissing path) h tells = absurd tells
+  publication-answers won a (reply.InputChanged input) h tells = absurd tells
+  publication-answers won a (reply.SourceFault path) h tells = absurd tells
+  publication-answers won a (reply.TooLarge limit n path) h tells = absurd tells
+  publication-answers won a (reply.Blocked path) h tells = absurd tells
+  publication-answers won a (reply.BadRequest bad) h tells = absurd tells
+  publication-answers won a reply.NoMemory h tells = absurd tells
 
--- the refusal of the gathering answers the request
-pub refusal-answers : (s : ScanGrounds) (r : RunGrounds) (stamps tools : Type 0) (request : Request) (why : GatherFault) (a : Answered)
-    → BlamesGather (asked_of request) s.before s.now why s.answers s.lists → IsIdle r → AnswersFault why a
-    → Answers s r stamps tools request a.receipt a.ends a.reply
-refusal-answers s r stamps tools request (NotRemotable cause) a b u h = rw h.reply_is (record { cause = b; idle = u; ends_are = h.ends_are; receipt_is = h.receipt_is })
-refusal-answers s r stamps tools request (InputMissing path) a b u h = rw h.reply_is (record { cause = b; idle = u; ends_are = h.ends_are; receipt_is = h.receipt_is })
-refusal-answers s r stamps tools request (InputChanged path first second) a b u h = rw h.reply_is (record { cause = b; idle = u; ends_are = h.ends_are; receipt_is = h.receipt_is })
-refusal-answers s r stamps tools request (SourceFault path) a b u h = rw h.reply_is (record { cause = b; idle = u; ends_are = h.ends_are; receipt_is = h.receipt_is })
-refusal-answers s r stamps tools request (TooLarge limit n path) a b u h = rw h.reply_is (record { cause = b; idle = u; ends_are = h.ends_are; receipt_is = h.receipt_is })
-refusal-answers s r stamps tools request (Blocked path) a b u h = rw h.reply_is (record { cause = b; idle = u; ends_are = h.ends_are; receipt_is = h.receipt_is })
-refusal-answers s r stamps tools request NoMemory a b u h = absurd h
+  no-memory-answers : (a : Answered) → MayHaveRun m g request ends → IsPlain reply_no_memory a → Answers m g request a.receipt ends a.reply
+  no-memory-answers a run h = rw h.reply_is (run, h.receipt_is)
 
-false-true : false ≡ true → ⊥
-false-true h = cc
+  run-answers : (run : HasRun m g request ends) (answered : Option Answered) → IfSome answered (AnswersRun run.gathered.plan run.attempts ends) → AnswersAs m g request ends answered
+  run-answers run None h = inr run
+  run-answers run (Some a) (inl h) = (h.2.frame, publication-answers h.0 a a.reply (record { run = run; won_is = h.1 }) h.2.tells)
+  run-answers run (Some a) (inr (inl h)) =
+      let plain = h.1.plain in
+      (plain.frame, rw plain.reply_is (record { run = run; none_won = h.0; tellable = h.1.tellable }, refl, plain.receipt_is))
+  run-answers run (Some a) (inr (inr h)) = (h.frame, no-memory-answers a (inr run) h)
 
--- a reply without a receipt, other than a full journal, leaves the journal as it was
-pub enters-nothing : (limit : ℕ) (old : List Entry) (before now session : ℕ) (receipt : Option Receipt) (ends : List Ended) (answer : Option Reply) → receipt ≡ None → (answer ≡ Some reply.JournalFull → ⊥) → Enters limit old old before now session receipt ends answer
-enters-nothing limit old before now session receipt ends answer e other = rw e (record { entry = refl; room = λ h. absurd (false-true h); full = λ f. absurd (other f) })
+  -- ---- the replies to a refused gathering
 
--- a refusal of the gathering enters nothing
-pub refusal-enters : (limit : ℕ) (old : List Entry) (before now session : ℕ) (why : GatherFault) (a : Answered) → AnswersFault why a → Enters limit old old before now session a.receipt a.ends (Some a.reply)
-refusal-enters limit old before now session (NotRemotable cause) a h = enters-nothing limit old before now session a.receipt a.ends (Some a.reply) h.receipt_is (λ e. let q = h.reply_is in cc)
-refusal-enters limit old before now session (InputMissing path) a h = enters-nothing limit old before now session a.receipt a.ends (Some a.reply) h.receipt_is (λ e. let q = h.reply_is in cc)
-refusal-enters limit old before now session (InputChanged path first second) a h = enters-nothing limit old before now session a.receipt a.ends (Some a.reply) h.receipt_is (λ e. let q = h.reply_is in cc)
-refusal-enters limit old before now session (SourceFault path) a h = enters-nothing limit old before now session a.receipt a.ends (Some a.reply) h.receipt_is (λ e. let q = h.reply_is in cc)
-refusal-enters limit old before now session (TooLarge limit_passed n path) a h = enters-nothing limit old before now session a.receipt a.ends (Some a.reply) h.receipt_is (λ e. let q = h.reply_is in cc)
-refusal-enters limit old before now session (Blocked path) a h = enters-nothing limit old before now session a.receipt a.ends (Some a.reply) h.receipt_is (λ e. let q = h.reply_is in cc)
-refusal-enters limit old before now session NoMemory a h = absurd h
+  refusal-answers : (why : GatherFault) (a : Answered) → IsUnrun m g ends → BlamesGather (asked_of request) why (stretch_of m g)
+      → AnswersFault why a → (a.frame.items ≡ frame_of a.reply) × Answers m g request a.receipt ends a.reply
+  refusal-answers (fault.NotRemotable cause) a u blame h = (h.frame, rw h.reply_is (record { cause = blame; unrun = u; receipt_is = h.receipt_is }))
+  refusal-answers (fault.InputMissing path) a u blame h = (h.frame, rw h.reply_is (record { cause = blame; unrun = u; receipt_is = h.receipt_is }))
+  refusal-answers (fault.InputChanged input) a u blame h = (h.frame, rw h.reply_is (record { cause = blame; unrun = u; receipt_is = h.receipt_is }))
+  refusal-answers (fault.SourceFault path) a u blame h = (h.frame, rw h.reply_is (record { cause = blame; unrun = u; receipt_is = h.receipt_is }))
+  refusal-answers (fault.TooLarge limit n path) a u blame h = (h.frame, rw h.reply_is (record { cause = blame; unrun = u; receipt_is = h.receipt_is }))
+  refusal-answers (fault.Blocked path) a u blame h = (h.frame, rw h.reply_is (record { cause = blame; unrun = u; receipt_is = h.receipt_is }))
+  refusal-answers fault.NoMemory a u blame h = absurd h
 
--- the same of a result that may lack memory
-pub ok-answers : {E : Type 0} (s : ScanGrounds) (r : RunGrounds) (stamps tools : Type 0) (request : Request) (gathered : Gathered) (result : Result Answered E)
-    → HasGathered s stamps request gathered
-    → IfOk result (λ a. RunsOn r tools gathered a.receipt a.ends a.reply)
-    → IfOk result (λ a. Answers s r stamps tools request a.receipt a.ends a.reply)
-ok-answers s r stamps tools request gathered (Ok a) g h = runs-answers s r stamps tools request gathered a.receipt a.ends a.reply g h
-ok-answers s r stamps tools request gathered (Err e) g h = tt
+  given-up-answers : (answered : Option Answered) → IsUnrun m g ends → IfSome answered (IsPlain reply_no_memory) → AnswersAs m g request ends answered
+  given-up-answers None u h = inl u
+  given-up-answers (Some a) u h = (h.frame, no-memory-answers a (inl u) h)
 
-pub err-answers : {E : Type 0} (s : ScanGrounds) (r : RunGrounds) (stamps tools : Type 0) (asked : Asked) (request : Request) (why : GatherFault) (result : Result Answered E)
-    → asked ≡ asked_of request → BlamesGather asked s.before s.now why s.answers s.lists → IsIdle r
-    → IfOk result (AnswersFault why)
-    → IfOk result (λ a. Answers s r stamps tools request a.receipt a.ends a.reply)
-err-answers s r stamps tools asked request why (Ok a) e b u h = refusal-answers s r stamps tools request why a (rw e at b) u h
-err-answers s r stamps tools asked request why (Err x) e b u h = tt
+  refused-answers : {E : Type 0} (why : GatherFault) (made : Result Answered E) (answered : Option Answered) → IsUnrun m g ends
+      → BlamesGather (asked_of request) why (stretch_of m g)
+      → IfOk made (AnswersFault why) → IsOrGivenUp made answered → AnswersAs m g request ends answered
+  refused-answers why (Ok a) answered u blame h o = rw o (refusal-answers why a u blame h)
+  refused-answers why (Err e) answered u blame h o = given-up-answers answered u o
 
-pub err-enters : {E : Type 0} (limit : ℕ) (old : List Entry) (before now session : ℕ) (why : GatherFault) (result : Result Answered E) → IfOk result (AnswersFault why) → IfOk result (λ a. Enters limit old old before now session a.receipt a.ends (Some a.reply))
-err-enters limit old before now session why (Ok a) h = refusal-enters limit old before now session why a h
-err-enters limit old before now session why (Err e) h = tt
+-- ---- the whole
+
+module _ {W I O T L M B : Type 0} (w : world.Ghosts W) (i : inputs.Ghosts I) (o : sinks.Ghosts O) (t : sources.Ghosts T W) (l : sources.Ghosts L W) (k : makers.Ghosts M W B) (b : benches.Ghosts B W) where
+  -- what was gathered was run on
+  pub handled-run : (p q r : Parts I O T L M) (request : Request) (gathered : Gathered) (handled : Handled)
+      → q.tree_local ≡ p.tree_local → q.benches ≡ p.benches → r.tree ≡ q.tree
+      → HasGatheredFor (meanings w i o t l k b) request p q gathered → HasRunAndPublished (meanings w i o t l k b) gathered q r handled
+      → HasHandled (meanings w i o t l k b) request p r handled
+  handled-run p q r request gathered handled e f d h run =
+      let inputs = h.inputs in
+      record {
+        answers = h.answers;
+        lists = h.lists;
+        view = h.view;
+        looked = tells-move w i o t l k b p q p r h.answers h.lists refl d h.looked;
+        answered = run-answers (meanings w i o t l k b) (grounds p r h.answers h.lists h.view) request handled.ends
+            (record {
+              gathered = gathered;
+              inputs = record {
+                by = record { view_is = inputs.by.view_is; viewed = inputs.by.viewed; seen = inputs.by.seen; shown = inputs.by.shown };
+                orderly = inputs.orderly;
+                digests = inputs.digests;
+              };
+              attempts = run.attempts;
+              made = attempts-move w i o t l k b q r p r gathered run.attempts (sym e) refl (sym f) refl run.made;
+              ends_are = run.ends_are;
+            })
+            handled.answered run.answered;
+      }
+
+  -- nothing was gathered
+  pub handled-refused : {E : Type 0} (p q : Parts I O T L M) (request : Request) (why : GatherFault) (handled : Handled) (made : Result Answered E)
+      → q.tree_local ≡ p.tree_local → q.benches ≡ p.benches → HasNotGathered (meanings w i o t l k b) request p q why
+      → handled.ends ≡ [] → IfOk made (AnswersFault why) → IsOrGivenUp made handled.answered
+      → HasHandled (meanings w i o t l k b) request p q handled
+  handled-refused p q request why handled made e f h none answers given =
+      let idle : IsIdle (meanings w i o t l k b) p q = idle-move w i o t l k b p p p q refl e refl f (idle-none w i o t l k b p) in
+      record {
+        answers = h.answers;
+        lists = h.lists;
+        view = h.view;
+        looked = h.looked;
+        answered = refused-answers (meanings w i o t l k b) (grounds p q h.answers h.lists h.view) request handled.ends
+            why made handled.answered (record { idle = idle; ends_are = none }) h.cause answers given;
+      }
+
+  -- memory ran out before anything was asked of the source tree
+  pub none-gathered : (p : Parts I O T L M) (request : Request) → HasNotGathered (meanings w i o t l k b) request p p fault.NoMemory
+  none-gathered p request = record {
+    answers = [];
+    lists = [];
+    view = [];
+    looked = tells-in w t (λ (x : Parts I O T L M). x.tree) p p [] [] (tells-none w t p.tree);
+    cause = tt;
+  }
+
+  -- what the gathering gave
+  pub gathered-for : (p : Parts I O T L M) (tree : T) (asked : Asked) (request : Request) (gathered : Gathered) → asked ≡ asked_of request
+      → Gathers w t p.tree tree asked (Ok gathered) → IsOrderly asked gathered → (w.stamps_honest → HaveDigests w.content gathered.files)
+      → HasGatheredFor (meanings w i o t l k b) request p (record p { tree = tree }) gathered
+  gathered-for p tree asked request gathered e h orderly digests =
+      let by : IsGatheredBy (asked_of request) gathered (stretch [] h.view (t.faults p.tree) (t.faults tree) h.answers h.lists) =
+      subst (λ x. IsGatheredBy x gathered (stretch [] h.view (t.faults p.tree) (t.faults tree) h.answers h.lists)) e h.outcome in
+      record {
+        answers = h.answers;
+        lists = h.lists;
+        view = h.view;
+        looked = tells-in w t (λ (x : Parts I O T L M). x.tree) p (record p { tree = tree }) h.answers h.lists h.tells;
+        inputs = record {
+          by = record { view_is = by.view_is; viewed = by.viewed; seen = by.seen; shown = by.shown };
+          orderly = subst (λ x. IsOrderly x gathered) e orderly;
+          digests = digests;
+        };
+      }

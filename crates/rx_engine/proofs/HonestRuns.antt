@@ -6,13 +6,18 @@ use Rattle.std.proofs.lemmas.List.Elements.{All-weaker}
 use Rattle.rx_board.specs.declared.journal.Entry.{Entry}
 use Rattle.rx_local.proofs.Staging.{staged-listed}
 use Rattle.rx_reach.specs.Scenes.{IsRight, scene_of}
+use Rattle.rx_scan.specs.declared.gathering.Gathered.{Gathered}
 use Rattle.rx_scan.specs.Lists.{IsRightList, Shows}
 use Rattle.rx_session.specs.declared.replies.Reply.{Reply}
 use Rattle.rx_session.specs.declared.replies.Reply.TheVariants as reply
 use Rattle.rx_session.specs.declared.requests.Request.{Request}
 use Rattle.rx_session.specs.Frames.{request_of}
+use Rattle.rx_world.specs.declared.attempts.Cause.{Cause}
+use Rattle.rx_world.specs.declared.attempts.End.{End}
+use Rattle.rx_world.specs.declared.attempts.End.TheVariants as ends
 use Rattle.rx_world.specs.declared.attempts.Ended.{Ended}
 use Rattle.rx_world.specs.declared.attempts.Origin.{Origin}
+use Rattle.rx_world.specs.declared.attempts.Plan.{Plan}
 use Rattle.rx_world.specs.declared.looks.Look.{Look}
 use Rattle.rx_world.specs.declared.outcomes.Outcome.{Outcome}
 use Rattle.rx_world.specs.declared.sources.Given.{Given}
@@ -21,15 +26,17 @@ use Rattle.rx_world.specs.Answers.{IsAnswerOf}
 use Rattle.rx_world.specs.Outcomes.{IsClean, listing}
 use Rattle.rx_world.specs.Sources.{entry_at}
 use Rattle.rx_world.specs.Trees.{tree_of}
-use Rattle.rx_engine.specs.declared.desk.Parts.{Parts}
+use Rattle.rx_engine.specs.declared.attempts.Won.{Won}
 use Rattle.rx_engine.specs.declared.transcripts.Ending.{Ending}
 use Rattle.rx_engine.specs.declared.transcripts.Ending.TheVariants.{NoMemory, Replied, SinkLost, SourceLost}
 use Rattle.rx_engine.specs.declared.transcripts.Transcript.{Transcript}
-use Rattle.rx_engine.specs.Answers.{HasRun, RunGrounds, ScanGrounds, asked_of, done_end, done_reply}
-use Rattle.rx_engine.specs.Honest.{IsCleanDone, IsCleanFrom, IsCleanIfDone, IsHonest, whole_entry}
+use Rattle.rx_engine.specs.Answers.{Grounds, HasWon, asked_of, done_reply, grounds}
+use Rattle.rx_engine.specs.Attempts.{Attempts, HasEndedHere, HasLocal, first_done, winner}
+use Rattle.rx_engine.specs.Honest.{IsCleanDone, IsCleanFrom, IsCleanIfDone, IsHonest, listed_tree, whole_entry}
 use Rattle.rx_engine.specs.Journal.{IsEntry, IsJournalled, IsPlaced, files_of}
 use Rattle.rx_engine.specs.Meanings.{Meanings}
-use Rattle.rx_engine.specs.Session.{Grounds, IsCourse, IsSession, Replies, RepliesTo, grounds_of}
+use Rattle.rx_engine.specs.Session.{IsCourse, IsSession, Replies, RepliesTo}
+use Rattle.rx_engine.proofs.AttemptLemmas.{won-files, won-first}
 
 none-some : {A : Type 0} {a : A} → None ≡ Some a → ⊥
 none-some h = cc
@@ -67,99 +74,115 @@ all-right entries answers h = All-weaker (IsAnswerOf entries) (IsRight (scene_of
 nothing-seen : (entries : List SourceEntry) (path : List ℕ) (look : Look) → None ≡ Some look → look ≡ (entry_at path entries).look
 nothing-seen entries path look h = absurd (none-some h)
 
--- Tools are honest, and both source trees told what the list has.
-pub record IsByList (entries : List SourceEntry) (tools : Type 0) (s : ScanGrounds) (r : RunGrounds) : Type 0 where
-  pub tools_hold : tools
-  pub answers : All (IsAnswerOf entries) s.answers
-  pub lists : All (IsRightList (scene_of entries)) s.lists
-  pub again : All (IsAnswerOf entries) r.answers
-
--- the list's scene shows what the gathering was told
-pub shows : (entries : List SourceEntry) (tools : Type 0) (s : ScanGrounds) (r : RunGrounds) → IsByList entries tools s r → Shows (scene_of entries) [] s.answers s.lists
-shows entries tools s r h = record { seen = λ path look e. nothing-seen entries path look e; answered = all-right entries s.answers h.answers; listed = h.lists }
-
 -- of what was told this holds
 told-by : (P : List SourceEntry → Type 0) (o : Option (List SourceEntry)) (entries : List SourceEntry) → o ≡ Some entries → IfSome o P → P entries
 told-by P None entries e h = absurd (none-some e)
 told-by P (Some told) entries e h = let same : told ≡ entries = some-inj e in subst P same h
 
-pub by-list : {I O T L B : Type 0} (m : Meanings I O T L B) (keeps : T → Type 0) (keeps_local : L → Type 0) (stamps tools : Type 0) (root : List ℕ) (before after : Parts I O T L B) (t : Transcript) (bytes : List ℕ) (asked : Request) (entries : List SourceEntry)
-    → (s : IsSession m keeps keeps_local stamps tools root before after t) → IsHonest m keeps keeps_local tools root before bytes asked entries
-    → IsByList entries tools (grounds_of m root before after s.answers s.lists s.local_answers).scan (grounds_of m root before after s.answers s.lists s.local_answers).run
-by-list m keeps keeps_local stamps tools root before after t bytes asked entries s h = record {
+-- what a session did, on which its replies stand
+abbrev pub grounds_of : {P W B : Type 0} (m : Meanings P W B) (root : List ℕ) (before after : P) (t : Transcript) → IsSession m root before after t → Grounds P
+grounds_of m root before after t s = grounds before after s.answers s.lists s.view
+
+-- Tools are honest, and both source trees told what the list has and keep it.
+pub record IsByList {P W B : Type 0} (m : Meanings P W B) (entries : List SourceEntry) (g : Grounds P) : Type 0 where
+  pub tools_hold : m.world.tools_honest
+  pub told : All (IsAnswerOf entries) g.answers
+  pub lists : All (IsRightList (scene_of entries)) g.lists
+  pub local_listed : m.tree_local.listed g.before ≡ Some entries
+  pub local_kept : m.tree_local.keeps g.before
+
+-- the list's scene shows what the gathering was told
+pub shows : {P W B : Type 0} (m : Meanings P W B) (entries : List SourceEntry) (g : Grounds P) → IsByList m entries g → Shows (scene_of entries) [] g.answers g.lists
+shows m entries g h = record { seen = λ path look e. nothing-seen entries path look e; answered = all-right entries g.answers h.told; listed = h.lists }
+
+pub by-list : {P W B : Type 0} (m : Meanings P W B) (root : List ℕ) (before after : P) (t : Transcript) (bytes : List ℕ) (asked : Request) (entries : List SourceEntry)
+    → (s : IsSession m root before after t) → IsHonest m root before bytes asked entries → IsByList m entries (grounds_of m root before after t s)
+by-list m root before after t bytes asked entries s h = record {
   tools_hold = h.tools;
-  answers = told-by (λ entries. All (IsAnswerOf entries) s.answers) (m.listed before.tree) entries h.listed (s.looked.gives.by_list h.kept);
-  lists = told-by (λ entries. All (IsRightList (scene_of entries)) s.lists) (m.listed before.tree) entries h.listed (s.looked.by_list h.kept);
-  again = told-by (λ entries. All (IsAnswerOf entries) s.local_answers) (m.local_listed before.tree_local) entries h.local_listed (s.looked_again.by_list h.local_kept);
+  told = told-by (λ entries. All (IsAnswerOf entries) s.answers) (m.tree.listed before) entries h.listed (s.looked.gives.by_list h.kept_list);
+  lists = told-by (λ entries. All (IsRightList (scene_of entries)) s.lists) (m.tree.listed before) entries h.listed (s.looked.by_list h.kept_list);
+  local_listed = h.local_listed;
+  local_kept = h.local_kept;
 }
+
+-- what the attempt was told when it read the files again
+pub again : {P W B : Type 0} (m : Meanings P W B) (entries : List SourceEntry) (g : Grounds P) (gathered : Gathered) (end : End Outcome Cause) → IsByList m entries g
+    → (h : HasEndedHere m gathered g.before g.after end) → All (IsAnswerOf entries) h.attempted.on.answers
+again m entries g gathered end b h =
+    told-by (λ entries. All (IsAnswerOf entries) h.attempted.on.answers) (m.tree_local.listed g.before) entries b.local_listed (h.attempted.on.gives.by_list b.local_kept)
 
 -- ---- a clean run
 
--- the outcome of an attempt is the clean one, from the list
-clean-from : (entries : List SourceEntry) (stamps tools : Type 0) (s : ScanGrounds) (r : RunGrounds) (asked : Request) (ends : List Ended) (outcome : Outcome)
-    → IsByList entries tools s r → HasRun s r stamps tools asked ends outcome → IsCleanFrom r.tool entries (asked_of asked) outcome
-clean-from entries stamps tools s r asked ends outcome h run = record {
-  gathered = run.gathered;
-  inputs = run.inputs.shown (scene_of entries) (shows entries tools s r h);
-  orderly = run.inputs.orderly;
-  clean = subst (λ copies. IsClean r.tool run.gathered.command (tree_of copies run.gathered.dirs) outcome)
-      (staged-listed entries run.gathered.files r.answers run.run.staged run.run.each h.again) (run.run.clean h.tools_hold);
-}
+abbrev Here : Option (End Outcome Cause) → Attempts
+Here local = record { local = local; remote = None }
 
--- the entry of a session that is done has all files of its outcome
-whole : (limit : ℕ) (old new : List Entry) (pb pn : ℕ) (t : Transcript) (outcome : Outcome) (number : ℕ)
-    → IsJournalled limit old new pb pn t → t.receipt ≡ Some (record { number = number }) → t.reply ≡ Some (done_reply outcome number) → t.ends ≡ done_end outcome
-    → new ≡ old ++ whole_entry number t.number outcome ∷ []
-whole limit old new pb pn t outcome number j receipt answer ends =
-    let entry : IsEntry old new pb pn t.number (record { number = number }) t.ends t.reply =
-    subst (λ o. MatchOption o (new ≡ old) (λ n. IsEntry old new pb pn t.number n t.ends t.reply)) receipt j.entry in
-    let placed : IsPlaced pb pn (length (files_of t.ends)) entry.placed (Some (done_reply outcome number)) =
-    subst (λ o. IsPlaced pb pn (length (files_of t.ends)) entry.placed o) answer entry.placed_is in
-    let files : files_of t.ends ≡ listing outcome.files = ap files_of ends ∙ append-nil (listing outcome.files) in
-    entry.journal
-    ∙ ap (λ p. old ++ record { number = number; session = t.number; files = files_of t.ends; placed = p } ∷ []) (sym placed.0)
-    ∙ ap (λ f. old ++ record { number = number; session = t.number; files = f; placed = length outcome.files } ∷ []) files
+-- the outcome of the local attempt is the clean one, from the list
+clean-here : {P W B : Type 0} (m : Meanings P W B) (entries : List SourceEntry) (g : Grounds P) (gathered : Gathered) (plan : Plan) (local : Option (End Outcome Cause)) (won : Won) → IsByList m entries g
+    → HasLocal m gathered g.before g.after local → winner plan (Here local) ≡ Some won → IsClean m.world.tool gathered.command (listed_tree entries gathered) won.outcome
+clean-here m entries g gathered plan None won b h w = absurd (none-some w)
+clean-here m entries g gathered plan (Some (ends.Failed cause)) won b h w = absurd (none-some w)
+clean-here m entries g gathered plan (Some (ends.Done outcome origin)) won b h w =
+    let of = h.attempted.on.ended.of in
+    let same : outcome ≡ won.outcome = ap (λ (x : Won). x.outcome) (some-inj w) in
+    subst (λ x. IsClean m.world.tool gathered.command (listed_tree entries gathered) x) same
+    (subst (λ copies. IsClean m.world.tool gathered.command (tree_of copies gathered.dirs) outcome)
+    (staged-listed entries gathered.files h.attempted.on.answers of.staged of.each (again m entries g gathered (ends.Done outcome origin) b h)) (of.clean b.tools_hold))
 
-done-at : {I O T L B : Type 0} (m : Meanings I O T L B) (keeps : T → Type 0) (keeps_local : L → Type 0) (stamps tools : Type 0) (root : List ℕ) (before after : Parts I O T L B) (limit : ℕ) (old new : List Entry) (pb pn : ℕ) (t : Transcript) (bytes : List ℕ) (asked : Request) (entries : List SourceEntry)
-    (exit : ℤ) (stdout stderr : List ℕ) (from : Origin) (number placed : ℕ) (answer : Reply)
-    → (s : IsSession m keeps keeps_local stamps tools root before after t) → IsJournalled limit old new pb pn t
-    → IsHonest m keeps keeps_local tools root before bytes asked entries
-    → t.reply ≡ Some answer → t.reply ≡ Some (reply.Done exit stdout stderr from number placed)
-    → Replies (grounds_of m root before after s.answers s.lists s.local_answers) stamps tools t.read t.request t.receipt t.ends answer
-    → IsCleanDone m.tool entries (asked_of asked) old new t number
-done-at m keeps keeps_local stamps tools root before after limit old new pb pn t bytes asked entries exit stdout stderr from number placed answer s j h e is_done replies =
-    let g : Grounds = grounds_of m root before after s.answers s.lists s.local_answers in
-    let done : RepliesTo g stamps tools t.read t.request t.receipt t.ends (reply.Done exit stdout stderr from number placed) =
-    subst (λ a. Replies g stamps tools t.read t.request t.receipt t.ends a) (some-inj (sym e ∙ is_done)) replies in
-    let same : done.0 ≡ asked = same-request root (m.left before.input) (m.left after.input) bytes t.read done.0 asked h.told s.read done.1.ended done.1.decoded h.valid in
-    let run : HasRun g.scan g.run stamps tools asked t.ends done.2.0 = subst (λ x. HasRun g.scan g.run stamps tools x t.ends done.2.0) same done.2.1 in
-    let reply_is : t.reply ≡ Some (done_reply done.2.0 number) = is_done ∙ ap (λ a. Some a) done.2.2 in
+clean-from : {P W B : Type 0} (m : Meanings P W B) (entries : List SourceEntry) (g : Grounds P) (asked : Request) (kept : List Ended) (won : Won)
+    → IsByList m entries g → HasWon m g asked kept won → IsCleanFrom m.world.tool entries (asked_of asked) won.outcome
+clean-from m entries g asked kept won b h =
+    let run = h.run in
+    let w : winner run.gathered.plan (Here run.attempts.local) ≡ Some won = rw run.made.remote at h.won_is in
     record {
-      outcome = done.2.0;
-      clean = clean-from entries stamps tools g.scan g.run asked t.ends done.2.0 (by-list m keeps keeps_local stamps tools root before after t bytes asked entries s h) run;
-      reply_is = reply_is;
-      ends_are = run.run.ends_are;
-      entry = whole limit old new pb pn t done.2.0 number j done.2.3 reply_is run.run.ends_are;
+      gathered = run.gathered;
+      inputs = run.inputs.by.shown (scene_of entries) (shows m entries g b);
+      orderly = run.inputs.orderly;
+      clean = clean-here m entries g run.gathered run.gathered.plan run.attempts.local won b run.made.local w;
     }
 
-done-by : {I O T L B : Type 0} (m : Meanings I O T L B) (keeps : T → Type 0) (keeps_local : L → Type 0) (stamps tools : Type 0) (root : List ℕ) (before after : Parts I O T L B) (limit : ℕ) (old new : List Entry) (pb pn : ℕ) (t : Transcript) (bytes : List ℕ) (asked : Request) (entries : List SourceEntry)
-    (exit : ℤ) (stdout stderr : List ℕ) (from : Origin) (number placed : ℕ) (ending : Ending)
-    → (s : IsSession m keeps keeps_local stamps tools root before after t) → IsJournalled limit old new pb pn t
-    → IsHonest m keeps keeps_local tools root before bytes asked entries
-    → t.reply ≡ Some (reply.Done exit stdout stderr from number placed)
-    → IsCourse (grounds_of m root before after s.answers s.lists s.local_answers) stamps tools t ending
-    → IsCleanDone m.tool entries (asked_of asked) old new t number
-done-by m keeps keeps_local stamps tools root before after limit old new pb pn t bytes asked entries exit stdout stderr from number placed Replied s j h e c =
-    done-at m keeps keeps_local stamps tools root before after limit old new pb pn t bytes asked entries exit stdout stderr from number placed c.0 s j h c.1 e c.3
-done-by m keeps keeps_local stamps tools root before after limit old new pb pn t bytes asked entries exit stdout stderr from number placed SinkLost s j h e c =
-    done-at m keeps keeps_local stamps tools root before after limit old new pb pn t bytes asked entries exit stdout stderr from number placed c.0 s j h c.1 e c.4
-done-by m keeps keeps_local stamps tools root before after limit old new pb pn t bytes asked entries exit stdout stderr from number placed SourceLost s j h e c =
-    absurd (none-some (sym c.0 ∙ e))
-done-by m keeps keeps_local stamps tools root before after limit old new pb pn t bytes asked entries exit stdout stderr from number placed NoMemory s j h e c =
-    absurd (none-some (sym c.0 ∙ e))
+-- the entry of a session that is done has all files of its outcome
+whole : (limit : ℕ) (old new : List Entry) (pb pn : ℕ) (t : Transcript) (won : Won) (number : ℕ)
+    → IsJournalled limit old new pb pn t → t.receipt ≡ Some (record { number = number }) → t.reply ≡ Some (done_reply won number) → files_of t.ends ≡ listing won.outcome.files
+    → new ≡ old ++ whole_entry number t.number won.outcome ∷ []
+whole limit old new pb pn t won number j receipt answer files =
+    let entry : IsEntry old new pb pn t.number (record { number = number }) (files_of t.ends) t.reply =
+    subst (λ o. MatchOption o (new ≡ old) (λ n. IsEntry old new pb pn t.number n (files_of t.ends) t.reply)) receipt j.entry in
+    let placed : IsPlaced pb pn (length (files_of t.ends)) entry.placed (Some (done_reply won number)) =
+    subst (λ o. IsPlaced pb pn (length (files_of t.ends)) entry.placed o) answer entry.placed_is in
+    entry.journal
+    ∙ ap (λ p. old ++ record { number = number; session = t.number; files = files_of t.ends; placed = p } ∷ []) (sym placed.0)
+    ∙ ap (λ f. old ++ record { number = number; session = t.number; files = f; placed = length won.outcome.files } ∷ []) files
 
-pub clean-done : {I O T L B : Type 0} (m : Meanings I O T L B) (keeps : T → Type 0) (keeps_local : L → Type 0) (stamps tools : Type 0) (root : List ℕ) (before after : Parts I O T L B) (limit : ℕ) (old new : List Entry) (pb pn : ℕ) (t : Transcript) (bytes : List ℕ) (asked : Request) (entries : List SourceEntry)
-    → IsSession m keeps keeps_local stamps tools root before after t → IsJournalled limit old new pb pn t → IsHonest m keeps keeps_local tools root before bytes asked entries
-    → IsCleanIfDone m.tool entries (asked_of asked) old new t
-clean-done m keeps keeps_local stamps tools root before after limit old new pb pn t bytes asked entries s j h = λ exit stdout stderr from number placed e.
-    done-by m keeps keeps_local stamps tools root before after limit old new pb pn t bytes asked entries exit stdout stderr from number placed t.ending s j h e s.course
+module _ {P W B : Type 0} (m : Meanings P W B) (root : List ℕ) (before after : P) (limit : ℕ) (old new : List Entry) (pb pn : ℕ) (t : Transcript) (bytes : List ℕ) (asked : Request) (entries : List SourceEntry)
+    (s : IsSession m root before after t) (j : IsJournalled limit old new pb pn t) (h : IsHonest m root before bytes asked entries)
+    (exit : ℤ) (stdout stderr : List ℕ) (from : Origin) (number placed : ℕ) (is_done : t.reply ≡ Some (reply.Done exit stdout stderr from number placed)) where
+  done-at : (answer : Reply) → t.reply ≡ Some answer → Replies m root (grounds_of m root before after t s) t.read t.request t.receipt t.ends answer
+      → IsCleanDone m.world.tool entries (asked_of asked) old new t number
+  done-at answer e replies =
+      let g : Grounds P = grounds_of m root before after t s in
+      let done : RepliesTo m root g t.read t.request t.receipt t.ends (reply.Done exit stdout stderr from number placed) =
+      subst (λ a. Replies m root g t.read t.request t.receipt t.ends a) (some-inj (sym e ∙ is_done)) replies in
+      let same : done.0 ≡ asked = same-request root (m.input.left before) (m.input.left after) bytes t.read done.0 asked h.told s.read done.1.ended done.1.decoded h.valid in
+      let won : Won = done.2.0 in
+      let has : HasWon m g asked t.ends won = subst (λ x. HasWon m g x t.ends won) same done.2.1 in
+      let run = has.run in
+      let reply_is : t.reply ≡ Some (done_reply won number) = is_done ∙ ap (λ a. Some a) done.2.2 in
+      record {
+        won = won;
+        clean = clean-from m entries g asked t.ends won (by-list m root before after t bytes asked entries s h) has;
+        reply_is = reply_is;
+        end_is = ap first_done run.ends_are ∙ won-first run.gathered.plan run.attempts won run.made.remote has.won_is;
+        entry = whole limit old new pb pn t won number j done.2.3 reply_is (won-files run.gathered.plan run.attempts won t.ends run.made.remote has.won_is run.ends_are);
+      }
+
+  done-by : (ending : Ending) → IsCourse m root (grounds_of m root before after t s) t ending → IsCleanDone m.world.tool entries (asked_of asked) old new t number
+  done-by Replied c = done-at c.0 c.1 c.3
+  done-by SinkLost c = done-at c.0 c.1 c.4
+  done-by SourceLost c = absurd (none-some (sym c.0 ∙ is_done))
+  done-by NoMemory c = absurd (none-some (sym c.0 ∙ is_done))
+
+pub clean-done : {P W B : Type 0} (m : Meanings P W B) (root : List ℕ) (before after : P) (limit : ℕ) (old new : List Entry) (pb pn : ℕ) (t : Transcript) (bytes : List ℕ) (asked : Request) (entries : List SourceEntry)
+    → IsSession m root before after t → IsJournalled limit old new pb pn t → IsHonest m root before bytes asked entries
+    → IsCleanIfDone m.world.tool entries (asked_of asked) old new t
+clean-done m root before after limit old new pb pn t bytes asked entries s j h = λ exit stdout stderr from number placed e.
+    done-by m root before after limit old new pb pn t bytes asked entries s j h exit stdout stderr from number placed e t.ending s.course

@@ -3,11 +3,10 @@ use Rattle.std.proofs.Common.{◌≡◌, ℕ, ◌+◌, List, [], ◌∷◌, ◌+
 use Rattle.std.specs.Prelude.{MatchOption, None, Option, Some}
 use Rattle.rx_board.specs.declared.journal.Entry.{Entry}
 use Rattle.rx_board.specs.declared.journal.Receipt.{Receipt}
-use Rattle.rx_world.specs.declared.attempts.Ended.{Ended}
+use Rattle.rx_world.specs.declared.outcomes.Listed.{Listed}
 use Rattle.rx_session.specs.declared.replies.Reply.{Reply}
-use Rattle.rx_engine.specs.declared.desk.Parts.{Parts}
 use Rattle.rx_engine.specs.declared.transcripts.Transcript.{Transcript}
-use Rattle.rx_engine.specs.Journal.{IsEntry, IsJournalled}
+use Rattle.rx_engine.specs.Journal.{IsEntry, IsJournalled, files_of}
 use Rattle.rx_engine.specs.Meanings.{Meanings}
 use Rattle.rx_engine.specs.Proxy.{IsEntryOf, IsLegal, Runs, Served}
 use Rattle.rx_engine.specs.Serves.{Serves}
@@ -18,16 +17,16 @@ record Adds (old new : List Entry) (t : Transcript) : Type 0 where
   journal : new ≡ old ++ added
   entry : IsEntryOf (length old + 1) t added
 
-adds-at : (old new : List Entry) (before now session : ℕ) (t : Transcript) (receipt : Option Receipt) (ends : List Ended) (answer : Option Reply) → t.receipt ≡ receipt → session ≡ t.number → MatchOption receipt (new ≡ old) (λ number. IsEntry old new before now session number ends answer) → Adds old new t
-adds-at old new before now session t None ends answer e s h = record { added = []; journal = h ∙ sym (append-nil old); entry = rw e refl }
-adds-at old new before now session t (Some receipt) ends answer e s h = record {
+adds-at : (old new : List Entry) (before now session : ℕ) (t : Transcript) (receipt : Option Receipt) (files : List Listed) (answer : Option Reply) → t.receipt ≡ receipt → session ≡ t.number → MatchOption receipt (new ≡ old) (λ number. IsEntry old new before now session number files answer) → Adds old new t
+adds-at old new before now session t None files answer e s h = record { added = []; journal = h ∙ sym (append-nil old); entry = rw e refl }
+adds-at old new before now session t (Some receipt) files answer e s h = record {
   added = record { number = receipt.number; session = session; files = _; placed = h.placed } ∷ [];
   journal = h.journal;
   entry = rw e (_, refl, refl, h.number_is, s);
 }
 
 adds : (limit : ℕ) (old new : List Entry) (before now : ℕ) (t : Transcript) → IsJournalled limit old new before now t → Adds old new t
-adds limit old new before now t h = adds-at old new before now t.number t t.receipt t.ends t.reply refl refl h.entry
+adds limit old new before now t h = adds-at old new before now t.number t t.receipt (files_of t.ends) t.reply refl refl h.entry
 
 -- what the sessions from here on added is legal
 legal : {D : Type 0} (S : D → D → List Entry → List Entry → ℕ → ℕ → ℕ → Transcript → Type 0) → ((d e : D) (old new : List Entry) (before now n : ℕ) (t : Transcript) → S d e old new before now n t → Adds old new t) → (n : ℕ) (old new : List Entry) (before now : ℕ) (ds es : List D) (ts : List Transcript) → Served S n old new before now ds es ts → (journal : List Entry) × (new ≡ old ++ journal) × IsLegal (length old + 1) journal ts
@@ -45,7 +44,7 @@ legal S add n old new before now [] [] (z ∷ ts) h = absurd h
 legal S add n old new before now (x ∷ ds) [] ts h = absurd h
 legal S add n old new before now (x ∷ ds) (y ∷ es) [] h = absurd h
 
-pub run_legal : {D I O T L B : Type 0} (a b : Option (List D)) (m : Meanings I O T L B) (keeps : T → Type 0) (keeps_local : L → Type 0) (parts : D → Parts I O T L B) (stamps tools : Type 0) (root : List ℕ) (limit : ℕ) (new : List Entry) (before now : ℕ) (es : List D) (ts : List Transcript) → Runs a b (Serves m keeps keeps_local parts stamps tools root limit) [] new before now es ts → IsLegal 1 new ts
-run_legal a b m keeps keeps_local parts stamps tools root limit new before now es ts h =
-    let found = legal (Serves m keeps keeps_local parts stamps tools root limit) (λ d e old next p q n t s. adds limit old next p q t s.journal) 1 [] new before now h.left es ts h.served in
+pub run_legal : {D P W B : Type 0} (a b : Option (List D)) (m : Meanings P W B) (parts : D → P) (root : List ℕ) (limit : ℕ) (new : List Entry) (before now : ℕ) (es : List D) (ts : List Transcript) → Runs a b (Serves m parts root limit) [] new before now es ts → IsLegal 1 new ts
+run_legal a b m parts root limit new before now es ts h =
+    let found = legal (Serves m parts root limit) (λ d e old next p q n t s. adds limit old next p q t s.journal) 1 [] new before now h.left es ts h.served in
     rw found.1 found.2

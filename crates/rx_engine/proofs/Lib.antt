@@ -1,10 +1,16 @@
 mod AnswerLemmas
+mod AttemptLemmas
 mod CourseLemmas
 mod EachDone
 mod Early
+mod Entries
+mod Failures
 mod HonestRuns
 mod LegalLemmas
+mod Moves
 mod Quiet
 mod ReadyLemmas
+mod ReplyMoves
 mod RunLemmas
 mod Served
+mod SessionSteps

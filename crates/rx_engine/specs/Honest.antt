@@ -1,7 +1,6 @@
 -- Sessions in an honest world, and what a Done says there.
 use Rattle.std.specs.Prelude.{◌≡◌, ℕ, ℤ, List, [], ◌∷◌, ◌++◌, Some, Ok, length, map}
 use Rattle.rx_board.specs.declared.journal.Entry.{Entry}
-use Rattle.rx_local.specs.Local.{listed_copy}
 use Rattle.rx_reach.specs.Scenes.{scene_of}
 use Rattle.rx_scan.specs.declared.gathering.Gathered.{Gathered}
 use Rattle.rx_scan.specs.Gathering.{Asked, IsGathered, IsOrderly}
@@ -13,23 +12,25 @@ use Rattle.rx_world.specs.declared.commands.Command.{Command}
 use Rattle.rx_world.specs.declared.outcomes.Outcome.{Outcome}
 use Rattle.rx_world.specs.declared.sources.SourceEntry.{SourceEntry}
 use Rattle.rx_world.specs.declared.trees.Tree.{Tree}
-use Rattle.rx_world.specs.Outcomes.{IsClean, listing}
+use Rattle.rx_world.specs.Inputs.{listed_copy}
+use Rattle.rx_world.specs.Outcomes.{IsClean, kept, listing}
 use Rattle.rx_world.specs.Trees.{tree_of}
-use Rattle.rx_engine.specs.declared.desk.Parts.{Parts}
+use Rattle.rx_engine.specs.declared.attempts.Won.{Won}
 use Rattle.rx_engine.specs.declared.transcripts.Transcript.{Transcript}
-use Rattle.rx_engine.specs.Answers.{done_end, done_reply}
+use Rattle.rx_engine.specs.Answers.{done_reply}
+use Rattle.rx_engine.specs.Attempts.{first_done}
 use Rattle.rx_engine.specs.Meanings.{Meanings}
 
 -- The tools are honest, the input tells a valid request, and both source trees tell this list and keep it.
-pub record IsHonest {I O T L B : Type 0} (m : Meanings I O T L B) (keeps : T → Type 0) (keeps_local : L → Type 0) (tools_honest : Type 0)
-    (root : List ℕ) (before : Parts I O T L B) (bytes : List ℕ) (asked : Request) (entries : List SourceEntry) : Type 0 where
-  pub tools : tools_honest
-  pub told : m.left before.input ≡ Some bytes
+pub record IsHonest {P W B : Type 0} (m : Meanings P W B) (root : List ℕ) (before : P) (bytes : List ℕ) (asked : Request)
+    (entries : List SourceEntry) : Type 0 where
+  pub tools : m.world.tools_honest
+  pub told : m.input.left before ≡ Some bytes
   pub valid : request_of root bytes ≡ Ok asked
-  pub listed : m.listed before.tree ≡ Some entries
-  pub kept : keeps before.tree
-  pub local_listed : m.local_listed before.tree_local ≡ Some entries
-  pub local_kept : keeps_local before.tree_local
+  pub listed : m.tree.listed before ≡ Some entries
+  pub kept_list : m.tree.keeps before
+  pub local_listed : m.tree_local.listed before ≡ Some entries
+  pub local_kept : m.tree_local.keeps before
 
 -- the tree of what was gathered, with the contents that the list has
 abbrev pub listed_tree : List SourceEntry → Gathered → Tree
@@ -47,13 +48,14 @@ pub record IsCleanFrom (tool : Command → Tree → Outcome) (entries : List Sou
 abbrev pub whole_entry : ℕ → ℕ → Outcome → Entry
 whole_entry number session outcome = record { number = number; session = session; files = listing outcome.files; placed = length outcome.files }
 
--- The reply, the end and the entry of the session are those of such an outcome.
-pub record IsCleanDone (tool : Command → Tree → Outcome) (entries : List SourceEntry) (asked : Asked) (old new : List Entry) (t : Transcript) (number : ℕ) : Type 0 where
-  pub outcome : Outcome
-  pub clean : IsCleanFrom tool entries asked outcome
-  pub reply_is : t.reply ≡ Some (done_reply outcome number)
-  pub ends_are : t.ends ≡ done_end outcome
-  pub entry : new ≡ old ++ whole_entry number t.number outcome ∷ []
+-- The reply, the end that is kept and the entry of the session are those of such an outcome.
+pub record IsCleanDone (tool : Command → Tree → Outcome) (entries : List SourceEntry) (asked : Asked) (old new : List Entry) (t : Transcript)
+    (number : ℕ) : Type 0 where
+  pub won : Won
+  pub clean : IsCleanFrom tool entries asked won.outcome
+  pub reply_is : t.reply ≡ Some (done_reply won number)
+  pub end_is : first_done t.ends ≡ Some (kept won.outcome)
+  pub entry : new ≡ old ++ whole_entry number t.number won.outcome ∷ []
 
 -- where the session is done, it is done so
 abbrev pub IsCleanIfDone : (Command → Tree → Outcome) → List SourceEntry → Asked → List Entry → List Entry → Transcript → Type 0

@@ -5,24 +5,22 @@ use Rattle.rx_board.specs.declared.journal.Receipt.{Receipt}
 use Rattle.rx_board.specs.Board.{State}
 use Rattle.rx_session.specs.declared.replies.Reply.{Reply}
 use Rattle.rx_session.specs.declared.replies.Reply.TheVariants as reply
-use Rattle.rx_world.specs.declared.attempts.End.{End}
-use Rattle.rx_world.specs.declared.attempts.End.TheVariants as end
 use Rattle.rx_world.specs.declared.attempts.Ended.{Ended}
-use Rattle.rx_world.specs.declared.outcomes.FileOut.{FileOut}
+use Rattle.rx_world.specs.declared.places.Place as places
 use Rattle.rx_world.specs.declared.outcomes.KeptOutcome.{KeptOutcome}
 use Rattle.rx_world.specs.declared.outcomes.Listed.{Listed}
 use Rattle.rx_world.specs.Causes.{Rose}
 use Rattle.rx_engine.specs.declared.transcripts.Transcript.{Transcript}
+use Rattle.rx_engine.specs.Attempts.{first_done}
 
--- the files of the outcome that an end has
-abbrev pub files_of_end : End KeptOutcome → List Listed
-files_of_end (end.Done outcome origin) = outcome.files
-files_of_end (end.Failed cause) = []
+-- the files of an outcome, where there is one
+abbrev pub files_in : Option KeptOutcome → List Listed
+files_in (Some outcome) = outcome.files
+files_in None = []
 
--- the files of the outcomes among these ends
+-- the files of the first outcome among these ends
 abbrev pub files_of : List Ended → List Listed
-files_of [] = []
-files_of (ended ∷ others) = files_of_end ended.end ++ files_of others
+files_of ends = files_in (first_done ends)
 
 -- how many of the files were placed: fewer than all only under a place fault, for which the place's count rose
 abbrev pub IsPlaced : ℕ → ℕ → ℕ → ℕ → Option Reply → Type 0
@@ -31,7 +29,7 @@ IsPlaced before now count placed (Some (reply.Done exit stdout stderr from numbe
 IsPlaced before now count placed (Some (reply.BadRequest bad)) = ⊥
 IsPlaced before now count placed (Some (reply.NotRemotable cause)) = ⊥
 IsPlaced before now count placed (Some (reply.InputMissing path)) = ⊥
-IsPlaced before now count placed (Some (reply.InputChanged path first second)) = ⊥
+IsPlaced before now count placed (Some (reply.InputChanged input)) = ⊥
 IsPlaced before now count placed (Some (reply.SourceFault path)) = ⊥
 IsPlaced before now count placed (Some (reply.TooLarge limit n path)) = ⊥
 IsPlaced before now count placed (Some (reply.AllFailed failures)) = ⊥
@@ -40,25 +38,34 @@ IsPlaced before now count placed (Some reply.NoMemory) = ⊥
 IsPlaced before now count placed (Some (reply.Blocked path)) = ⊥
 IsPlaced before now count placed None = ⊥
 
--- one entry more: the listing of the one outcome among the session's ends, with the next number
-pub record IsEntry (old new : List Entry) (before now session : ℕ) (receipt : Receipt) (ends : List Ended) (answer : Option Reply) : Type 0 where
+-- one entry more, of these files and with the next number
+pub record IsEntry (old new : List Entry) (before now session : ℕ) (receipt : Receipt) (files : List Listed) (answer : Option Reply) : Type 0 where
   pub placed : ℕ
   pub number_is : receipt.number ≡ length old + 1
-  pub journal : new ≡ old ++ record { number = receipt.number; session = session; files = files_of ends; placed = placed } ∷ []
-  pub placed_is : IsPlaced before now (length (files_of ends)) placed answer
+  pub journal : new ≡ old ++ record { number = receipt.number; session = session; files = files; placed = placed } ∷ []
+  pub placed_is : IsPlaced before now (length files) placed answer
 
 -- A session with a receipt adds one entry, and each other one leaves the journal as it was. It is full exactly where that is answered.
-pub record Enters (limit : ℕ) (old new : List Entry) (before now session : ℕ) (receipt : Option Receipt) (ends : List Ended) (answer : Option Reply) : Type 0 where
-  pub entry : MatchOption receipt (new ≡ old) (λ number. IsEntry old new before now session number ends answer)
+pub record Enters (limit : ℕ) (old new : List Entry) (before now session : ℕ) (receipt : Option Receipt) (files : List Listed)
+    (answer : Option Reply) : Type 0 where
+  pub entry : MatchOption receipt (new ≡ old) (λ number. IsEntry old new before now session number files answer)
   pub room : IsSome receipt → length old ≢ limit
   pub full : answer ≡ Some reply.JournalFull → length old ≡ limit
 
--- the same of a transcript
+-- the same of a transcript, whose entry has the files of the one outcome among its ends that was published
 abbrev pub IsJournalled : ℕ → List Entry → List Entry → ℕ → ℕ → Transcript → Type 0
-IsJournalled limit old new before now t = Enters limit old new before now t.number t.receipt t.ends t.reply
+IsJournalled limit old new before now t = Enters limit old new before now t.number t.receipt (files_of t.ends) t.reply
+
+-- the same of two states of a board
+abbrev pub EntersBoard : {P : Type 0} → places.Ghosts P → State P → State P → ℕ → Option Receipt → List Listed → Option Reply → Type 0
+EntersBoard p old new session receipt files answer =
+    Enters old.limit old.journal new.journal (p.faults old.place) (p.faults new.place) session receipt files answer
+
+abbrev pub JournalsBoard : {P : Type 0} → places.Ghosts P → State P → State P → Transcript → Type 0
+JournalsBoard p old new t = IsJournalled old.limit old.journal new.journal (p.faults old.place) (p.faults new.place) t
 
 -- the board's limit and the opening contents of its place stay, and the place's count of faults doesn't fall
-pub record IsBoardAfter {P : Type 0} (faults : P → ℕ) (opened : P → Option (List FileOut)) (old new : State P) : Type 0 where
+pub record IsBoardAfter {P : Type 0} (p : places.Ghosts P) (old new : State P) : Type 0 where
   pub limit : new.limit ≡ old.limit
-  pub opening : opened new.place ≡ opened old.place
-  pub later : faults old.place ≤ faults new.place
+  pub opening : p.opening new.place ≡ p.opening old.place
+  pub later : p.faults old.place ≤ p.faults new.place

@@ -1,6 +1,8 @@
 pub mod Answered
 pub mod Answers
+pub mod Attempts
 pub mod Fronts
+pub mod Gathers
 pub mod Honest
 pub mod Journal
 pub mod Meanings

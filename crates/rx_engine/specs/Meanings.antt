@@ -1,47 +1,41 @@
--- What the parts of a desk tell, how often they failed, and the world that they are a part of.
-use Rattle.std.specs.Prelude.{ℕ, List, Option}
-use Rattle.rx_world.specs.declared.commands.Command.{Command}
-use Rattle.rx_world.specs.declared.looks.Stamp.{Stamp}
-use Rattle.rx_world.specs.declared.outcomes.Outcome.{Outcome}
-use Rattle.rx_world.specs.declared.sources.Given.{Given}
-use Rattle.rx_world.specs.declared.sources.SourceEntry.{SourceEntry}
-use Rattle.rx_world.specs.declared.trees.Tree.{Tree}
-use Rattle.rx_world.specs.declared.benches.BenchMaker as maker
-use Rattle.rx_world.specs.declared.sources.Sources as sources
-use Rattle.rx_world.specs.declared.streams.Sink as sink
-use Rattle.rx_world.specs.declared.streams.Source as source
-use Rattle.rx_world.specs.declared.world.World as world
+-- What a session's parts mean: the world that they are a part of, what each of them tells, and how often it failed.
+use Rattle.rx_world.specs.declared.benches.Bench as bench_of
+use Rattle.rx_world.specs.declared.benches.BenchMaker as maker_of
+use Rattle.rx_world.specs.declared.sources.Sources as source_tree
+use Rattle.rx_world.specs.declared.streams.Sink as sink_of
+use Rattle.rx_world.specs.declared.streams.Source as source_of
+use Rattle.rx_world.specs.declared.world.World as world_of
+use Rattle.rx_engine.specs.declared.desk.Parts.{Parts}
 
--- of the two source trees, the one that is gathered from and the one that local attempts read
-pub record Meanings (I O T L B : Type 0) : Type 0 where
-  pub left : I → Option (List ℕ)
-  pub input_faults : I → ℕ
-  pub taken : O → Option (List ℕ)
-  pub output_faults : O → ℕ
-  pub listed : T → Option (List SourceEntry)
-  pub given : T → Option (List Given)
-  pub tree_faults : T → ℕ
-  pub local_listed : L → Option (List SourceEntry)
-  pub local_given : L → Option (List Given)
-  pub local_faults : L → ℕ
-  pub bench_faults : B → ℕ
-  pub content : List ℕ → Stamp → List ℕ
-  pub tool : Command → Tree → Outcome
+-- Each part is seen through the parts as a whole, so a part more is a field more. Of the two source trees, inputs are gathered from the one
+-- and local attempts read the other.
+pub record Meanings (P W B : Type 0) : Type 1 where
+  pub world : world_of.Ghosts W
+  pub input : source_of.Ghosts P
+  pub output : sink_of.Ghosts P
+  pub tree : source_tree.Ghosts P W
+  pub tree_local : source_tree.Ghosts P W
+  pub benches : maker_of.Ghosts P W B
+  pub bench : bench_of.Ghosts B W
 
--- the meanings that a world and the traits of a desk's parts have
-abbrev pub meanings : {W I O T L B C : Type 0} → world.Ghosts W → source.Ghosts I → sink.Ghosts O → sources.Ghosts T W → sources.Ghosts L W → maker.Ghosts B W C → Meanings I O T L B
-meanings w i o t l b = record {
-  left = i.left;
-  input_faults = i.faults;
-  taken = o.taken;
-  output_faults = o.faults;
-  listed = t.listed;
-  given = t.given;
-  tree_faults = t.faults;
-  local_listed = l.listed;
-  local_given = l.given;
-  local_faults = l.faults;
-  bench_faults = b.faults;
-  content = w.content;
-  tool = w.tool;
+-- a source tree that is a part of something
+abbrev pub source_part : {P T W : Type 0} → (P → T) → source_tree.Ghosts T W → source_tree.Ghosts P W
+source_part part s = record {
+  listed = λ p. s.listed (part p);
+  keeps = λ p. s.keeps (part p);
+  given = λ p. s.given (part p);
+  faults = λ p. s.faults (part p);
+}
+
+-- what the parts of a desk mean
+abbrev pub meanings : {W I O T L M B : Type 0} → world_of.Ghosts W → source_of.Ghosts I → sink_of.Ghosts O → source_tree.Ghosts T W → source_tree.Ghosts L W
+    → maker_of.Ghosts M W B → bench_of.Ghosts B W → Meanings (Parts I O T L M) W B
+meanings w i o t l m b = record {
+  world = w;
+  input = record { left = λ p. i.left p.input; faults = λ p. i.faults p.input };
+  output = record { taken = λ p. o.taken p.output; faults = λ p. o.faults p.output };
+  tree = source_part (λ p. p.tree) t;
+  tree_local = source_part (λ p. p.tree_local) l;
+  benches = record { faults = λ p. m.faults p.benches; returned = λ p. m.returned p.benches };
+  bench = b;
 }

@@ -21,7 +21,6 @@ use Rattle.rx_world.specs.declared.sources.SourceEntry.{SourceEntry}
 use Rattle.rx_world.specs.declared.trees.Tree.{Tree}
 use Rattle.rx_world.specs.Causes.{Rose}
 use Rattle.rx_world.specs.Sources.{entry_at, is_file}
-use Rattle.rx_engine.specs.declared.desk.Parts.{Parts}
 use Rattle.rx_engine.specs.declared.transcripts.Ending.{Ending}
 use Rattle.rx_engine.specs.declared.transcripts.Ending.TheVariants.{NoMemory, Replied, SinkLost, SourceLost}
 use Rattle.rx_engine.specs.Answers.{asked_of}
@@ -58,18 +57,17 @@ MakesFrom tool entries asked =
 
 -- The session is honest, stamps are too, what is asked for can be gathered from the list, the clean outcome of its command is proper, and
 -- no count rises.
-pub record IsQuiet {I O T L B : Type 0} (m : Meanings I O T L B) (keeps : T → Type 0) (keeps_local : L → Type 0) (stamps_honest tools_honest : Type 0)
-    (root : List ℕ) (before after : Parts I O T L B) (bytes : List ℕ) (asked : Request) : Type 0 where
+pub record IsQuiet {P W B : Type 0} (m : Meanings P W B) (root : List ℕ) (before after : P) (bytes : List ℕ) (asked : Request) : Type 0 where
   pub entries : List SourceEntry
-  pub honest : IsHonest m keeps keeps_local tools_honest root before bytes asked entries
-  pub stamps : stamps_honest
+  pub honest : IsHonest m root before bytes asked entries
+  pub stamps : m.world.stamps_honest
   pub apart : AreApart entries
   pub gathers : CanGather (scene_of entries) (asked_of asked)
-  pub proper : MakesFrom m.tool entries (asked_of asked)
-  pub input : Rose (m.input_faults before.input) (m.input_faults after.input) → ⊥
-  pub tree : Rose (m.tree_faults before.tree) (m.tree_faults after.tree) → ⊥
-  pub tree_local : Rose (m.local_faults before.tree_local) (m.local_faults after.tree_local) → ⊥
-  pub benches : Rose (m.bench_faults before.benches) (m.bench_faults after.benches) → ⊥
+  pub proper : MakesFrom m.world.tool entries (asked_of asked)
+  pub input : Rose (m.input.faults before) (m.input.faults after) → ⊥
+  pub tree : Rose (m.tree.faults before) (m.tree.faults after) → ⊥
+  pub tree_local : Rose (m.tree_local.faults before) (m.tree_local.faults after) → ⊥
+  pub benches : Rose (m.benches.faults before) (m.benches.faults after) → ⊥
 
 -- the journal takes an entry, and the place doesn't fail
 pub record HasRoom (limit : ℕ) (journal : List Entry) (before now : ℕ) : Type 0 where
@@ -83,7 +81,7 @@ IsDoneReply (Some reply.NoMemory) = Unit {0}
 IsDoneReply (Some (reply.BadRequest bad)) = ⊥
 IsDoneReply (Some (reply.NotRemotable cause)) = ⊥
 IsDoneReply (Some (reply.InputMissing path)) = ⊥
-IsDoneReply (Some (reply.InputChanged path first second)) = ⊥
+IsDoneReply (Some (reply.InputChanged input)) = ⊥
 IsDoneReply (Some (reply.SourceFault path)) = ⊥
 IsDoneReply (Some (reply.TooLarge limit n path)) = ⊥
 IsDoneReply (Some (reply.AllFailed failures)) = ⊥

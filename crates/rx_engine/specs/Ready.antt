@@ -1,42 +1,74 @@
 -- Answers that are ready to be written, and what writing them makes of a transcript.
 use Rattle.std.specs.Prelude.{◌≡◌, ◌⊎◌, ℕ, List, [], Option, None, Some, Result, Ok, Err, IfSome, take}
-use Rattle.rx_board.specs.declared.journal.Entry.{Entry}
+use Rattle.rx_board.specs.Board.{State}
 use Rattle.rx_session.specs.declared.bad.Bad.{Bad}
 use Rattle.rx_session.specs.declared.bad.SessionFault.{SessionFault}
 use Rattle.rx_session.specs.declared.bad.SessionFault.TheVariants as faults
 use Rattle.rx_session.specs.declared.requests.Request.{Request}
-use Rattle.rx_session.specs.Frames.{request_of}
+use Rattle.rx_session.specs.Bad.{Decodes}
+use Rattle.rx_session.specs.Frames.{EndsRead, request_of}
 use Rattle.rx_session.specs.Replies.{frame_of}
-use Rattle.rx_engine.specs.declared.answers.Answered.{Answered}
+use Rattle.rx_scan.specs.Lists.{Listing, Tells}
+use Rattle.rx_world.specs.declared.attempts.Ended.{Ended}
+use Rattle.rx_world.specs.declared.looks.Look.{Look}
+use Rattle.rx_world.specs.declared.places.Place as places
+use Rattle.rx_world.specs.declared.sources.Given.{Given}
+use Rattle.rx_engine.specs.declared.answered.Answered.{Answered}
+use Rattle.rx_engine.specs.declared.answers.Handled.{Handled}
 use Rattle.rx_engine.specs.declared.sessions.Ready.{Ready}
 use Rattle.rx_engine.specs.declared.transcripts.Ending.{Ending}
 use Rattle.rx_engine.specs.declared.transcripts.Ending.TheVariants.{NoMemory, Replied, SinkLost, SourceLost}
 use Rattle.rx_engine.specs.declared.transcripts.Transcript.{Transcript}
 use Rattle.rx_engine.specs.Answered.{IsPlain, bad_request, reply_no_memory}
-use Rattle.rx_engine.specs.Journal.{Enters}
-use Rattle.rx_engine.specs.Session.{Grounds, Replies}
+use Rattle.rx_engine.specs.Answers.{Answers, Grounds, MayHaveRun, grounds}
+use Rattle.rx_engine.specs.Journal.{EntersBoard, files_of}
+use Rattle.rx_engine.specs.Meanings.{Meanings}
+use Rattle.rx_engine.specs.Session.{Replies, WasHandled}
 
 -- the answer that was made or, for want of memory, the one that says so, if there is memory for that
 abbrev pub IsOrGivenUp : {E : Type 0} → Result Answered E → Option Answered → Type 0
 IsOrGivenUp (Ok made) answered = answered ≡ Some made
 IsOrGivenUp (Err e) answered = IfSome answered (IsPlain reply_no_memory)
 
+-- the answer to a request, with its frame; without one, memory ran out
+abbrev pub AnswersAs : {P W B : Type 0} → Meanings P W B → Grounds P → Request → List Ended → Option Answered → Type 0
+AnswersAs m g request ends None = MayHaveRun m g request ends
+AnswersAs m g request ends (Some answered) =
+    (answered.frame.items ≡ frame_of answered.reply) × Answers m g request answered.receipt ends answered.reply
+
+-- Between two states of the parts a request was answered.
+pub record HasHandled {P W B : Type 0} (m : Meanings P W B) (request : Request) (before after : P) (handled : Handled) : Type 0 where
+  pub answers : List Given
+  pub lists : List Listing
+  pub view : List (List ℕ × Look)
+  pub looked : Tells m.world m.tree before after answers lists
+  pub answered : AnswersAs m (grounds before after answers lists view) request handled.ends handled.answered
+
 -- what is ready is a reply to these bytes
-abbrev pub IsReadyAs : Grounds → Type 0 → Type 0 → List ℕ → Option Request → Option Answered → Type 0
-IsReadyAs g stamps tools read request None = IfSome request (λ asked. request_of g.root read ≡ Ok asked)
-IsReadyAs g stamps tools read request (Some answered) =
-    (answered.frame.items ≡ frame_of answered.reply) × Replies g stamps tools read request answered.receipt answered.ends answered.reply
+abbrev pub IsReadyAs : {P W B : Type 0} → Meanings P W B → List ℕ → Grounds P → List ℕ → Option Request → List Ended → Option Answered → Type 0
+IsReadyAs m root g read request ends None = IfSome request (λ asked. request_of root read ≡ Ok asked) × WasHandled m g request ends
+IsReadyAs m root g read request ends (Some answered) =
+    (answered.frame.items ≡ frame_of answered.reply) × Replies m root g read request answered.receipt ends answered.reply
 
-abbrev pub IsReady : Grounds → Type 0 → Type 0 → List ℕ → Ready → Type 0
-IsReady g stamps tools read ready = IsReadyAs g stamps tools read ready.request ready.answered
+abbrev pub IsReady : {P W B : Type 0} → Meanings P W B → List ℕ → Grounds P → List ℕ → Ready → Type 0
+IsReady m root g read ready = IsReadyAs m root g read ready.request ready.handled.ends ready.handled.answered
 
--- what it enters into the journal, and nothing where nothing is ready
-abbrev pub EntersAs : ℕ → List Entry → List Entry → ℕ → ℕ → ℕ → Option Answered → Type 0
-EntersAs limit old new before now session None = new ≡ old
-EntersAs limit old new before now session (Some answered) = Enters limit old new before now session answered.receipt answered.ends (Some answered.reply)
+-- Between two states of the parts an answer was made ready to what was read, which is this request or none.
+pub record HasReadied {P W B : Type 0} (m : Meanings P W B) (asked : Result Request SessionFault) (before after : P) (ready : Ready) : Type 0 where
+  pub answers : List Given
+  pub lists : List Listing
+  pub view : List (List ℕ × Look)
+  pub looked : Tells m.world m.tree before after answers lists
+  pub is_ready : (root read : List ℕ) → Decodes (λ request. request) asked (request_of root read) → EndsRead (m.input.left after) asked →
+      IsReady m root (grounds before after answers lists view) read ready
 
-abbrev pub EntersReady : ℕ → List Entry → List Entry → ℕ → ℕ → ℕ → Ready → Type 0
-EntersReady limit old new before now session ready = EntersAs limit old new before now session ready.answered
+-- what an answer enters into the journal, and nothing where there is none
+abbrev pub EntersAs : {P : Type 0} → places.Ghosts P → State P → State P → ℕ → List Ended → Option Answered → Type 0
+EntersAs p old new session ends None = new.journal ≡ old.journal
+EntersAs p old new session ends (Some answered) = EntersBoard p old new session answered.receipt (files_of ends) (Some answered.reply)
+
+abbrev pub EntersHandled : {P : Type 0} → places.Ghosts P → State P → State P → ℕ → Handled → Type 0
+EntersHandled p old new session handled = EntersAs p old new session handled.ends handled.answered
 
 abbrev pub IsWriting : Ending → Type 0
 IsWriting Replied = Unit {0}
@@ -45,20 +77,20 @@ IsWriting SourceLost = ⊥
 IsWriting NoMemory = ⊥
 
 -- the transcript has what was ready, and a front of its frame was written, the whole where it says so
-pub record Wrote (number : ℕ) (read : List ℕ) (request : Option Request) (answered : Answered) (t : Transcript) : Type 0 where
+pub record Wrote (number : ℕ) (read : List ℕ) (request : Option Request) (ends : List Ended) (answered : Answered) (t : Transcript) : Type 0 where
   pub number_is : t.number ≡ number
   pub read_is : t.read ≡ read
   pub request_is : t.request ≡ request
   pub reply_is : t.reply ≡ Some answered.reply
   pub receipt_is : t.receipt ≡ answered.receipt
-  pub ends_are : t.ends ≡ answered.ends
+  pub ends_are : t.ends ≡ ends
   pub count : ℕ
   pub written_is : t.written ≡ take count answered.frame.items
   pub whole : t.ending ≡ Replied → t.written ≡ answered.frame.items
   pub writing : IsWriting t.ending
 
--- a session that ended so, after these bytes and with this request, and answered nothing
-pub record IsBare (number : ℕ) (read : List ℕ) (request : Option Request) (ending : Ending) (t : Transcript) : Type 0 where
+-- a session that ended so, after these bytes and with this request and these ends, and answered nothing
+pub record IsBare (number : ℕ) (read : List ℕ) (request : Option Request) (ends : List Ended) (ending : Ending) (t : Transcript) : Type 0 where
   pub number_is : t.number ≡ number
   pub read_is : t.read ≡ read
   pub request_is : t.request ≡ request
@@ -66,27 +98,35 @@ pub record IsBare (number : ℕ) (read : List ℕ) (request : Option Request) (e
   pub written_is : t.written ≡ []
   pub reply_is : t.reply ≡ None
   pub receipt_is : t.receipt ≡ None
-  pub ends_are : t.ends ≡ []
+  pub ends_are : t.ends ≡ ends
 
-abbrev pub FinishesAs : ℕ → List ℕ → Option Request → Option Answered → Transcript → Type 0
-FinishesAs number read request None t = IsBare number read request NoMemory t
-FinishesAs number read request (Some answered) t = Wrote number read request answered t
+abbrev pub FinishesAs : ℕ → List ℕ → Option Request → List Ended → Option Answered → Transcript → Type 0
+FinishesAs number read request ends None t = IsBare number read request ends NoMemory t
+FinishesAs number read request ends (Some answered) t = Wrote number read request ends answered t
 
 abbrev pub Finishes : ℕ → List ℕ → Ready → Transcript → Type 0
-Finishes number read ready t = FinishesAs number read ready.request ready.answered t
+Finishes number read ready t = FinishesAs number read ready.request ready.handled.ends ready.handled.answered t
 
 -- the input was lost, and nothing was done
 abbrev pub IsLost : ℕ → List ℕ → Transcript → Type 0
-IsLost number read t = IsBare number read None SourceLost t
+IsLost number read t = IsBare number read None [] SourceLost t
 
 -- the answer to bytes that are no request, unless memory ran out for it
-abbrev pub IsBadReady : Bad → Ready → Type 0
-IsBadReady bad ready = (ready.request ≡ None) × IfSome ready.answered (λ a. IsPlain (bad_request bad) a ⊎ IsPlain reply_no_memory a)
+pub record IsBadReady (bad : Bad) (ready : Ready) : Type 0 where
+  pub request_is : ready.request ≡ None
+  pub ends_are : ready.handled.ends ≡ []
+  pub answered : IfSome ready.handled.answered (λ a. IsPlain (bad_request bad) a ⊎ IsPlain reply_no_memory a)
+
+-- the answer where memory ran out while the bytes were read
+pub record IsUnread (ready : Ready) : Type 0 where
+  pub request_is : ready.request ≡ None
+  pub ends_are : ready.handled.ends ≡ []
+  pub answered : IfSome ready.handled.answered (IsPlain reply_no_memory)
 
 -- the same by what was read
 abbrev pub IsRefusalOf : SessionFault → Option Ready → Type 0
 IsRefusalOf (faults.Bad bad) None = ⊥
 IsRefusalOf (faults.Bad bad) (Some ready) = IsBadReady bad ready
 IsRefusalOf faults.NoMemory None = ⊥
-IsRefusalOf faults.NoMemory (Some ready) = (ready.request ≡ None) × IfSome ready.answered (IsPlain reply_no_memory)
+IsRefusalOf faults.NoMemory (Some ready) = IsUnread ready
 IsRefusalOf faults.ReadFault ready = ready ≡ None

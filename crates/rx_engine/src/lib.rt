@@ -1,9 +1,12 @@
 //! Serves sessions: a request in, one attempt, its files placed once and whole, a reply out.
 #![tactic(auto)]
 
+mod answered;
 mod answers;
+mod attempts;
 mod desk;
 mod proxy;
+mod publishing;
 mod sessions;
 mod transcripts;
 mod words;
@@ -13,6 +16,3 @@ pub use proxy::{Ran, run_proxy};
 pub use sessions::{Shared, serve_session};
 pub use transcripts::{Ending, Transcript};
 pub use words::root_in;
-
-#[cfg(test)]
-mod tests;

@@ -58,11 +58,14 @@ fn serve_all<W: World, F: Front<W>, P: Place>(
 ) -> Stop
     requires transcripts { transcripts.old.items ≡ [] }
     requires desks { desks.old.items ≡ [] }
-    ensures runs { Runs (F.coming front.old) (F.coming front.new)
-        (Serves (meanings W.World F.D.I.Source F.D.O.Sink F.D.T.Sources F.D.L.Sources F.D.B.BenchMaker)
-        F.D.T.keeps F.D.L.keeps F.D.parts W.stamps_honest W.tools_honest shared.old.root shared.old.board.limit)
-        shared.old.board.journal shared.new.board.journal (P.faults shared.old.board.place) (P.faults shared.new.board.place) desks.new.items transcripts.new.items }
-    ensures stop { IsStop (F.coming front.old) (F.coming front.new) (F.faults front.old) (F.faults front.new) (length transcripts.new.items) result }
+    ensures runs { Runs (F.coming front.old) (F.coming front.new) (Serves
+        (meanings W.World F.D.I.Source F.D.O.Sink F.D.T.Sources F.D.L.Sources F.D.B.BenchMaker
+        F.D.B.B.Bench) F.D.parts shared.old.root shared.old.board.limit)
+        shared.old.board.journal shared.new.board.journal
+        (P.faults shared.old.board.place) (P.faults shared.new.board.place)
+        desks.new.items transcripts.new.items }
+    ensures stop { IsStop (F.coming front.old) (F.coming front.new)
+        (F.faults front.old) (F.faults front.new) (length transcripts.new.items) result }
     ensures opening { P.opening shared.new.board.place ≡ P.opening shared.old.board.place }
 {
     for served in 0..u32::MAX {
@@ -152,11 +155,13 @@ fn serve_words<W: World, F: Front<W>, P: Place>(
 ) -> (u8, Board<P>)
     requires transcripts { transcripts.old.items ≡ [] }
     requires desks { desks.old.items ≡ [] }
-    ensures runs { Runs (F.coming front.old) (F.coming front.new)
-        (Serves (meanings W.World F.D.I.Source F.D.O.Sink F.D.T.Sources F.D.L.Sources F.D.B.BenchMaker)
-        F.D.T.keeps F.D.L.keeps F.D.parts W.stamps_honest W.tools_honest root.now board.limit)
-        board.journal result.1.journal (P.faults board.place) (P.faults result.1.place) desks.new.items transcripts.new.items }
-    ensures status { HasStatus (F.coming front.old) (F.coming front.new) (F.faults front.old) (F.faults front.new) result.0 transcripts.new.items }
+    ensures runs { Runs (F.coming front.old) (F.coming front.new) (Serves
+        (meanings W.World F.D.I.Source F.D.O.Sink F.D.T.Sources F.D.L.Sources F.D.B.BenchMaker
+        F.D.B.B.Bench) F.D.parts root.now board.limit)
+        board.journal result.1.journal (P.faults board.place) (P.faults result.1.place)
+        desks.new.items transcripts.new.items }
+    ensures status { HasStatus (F.coming front.old) (F.coming front.new)
+        (F.faults front.old) (F.faults front.new) result.0 transcripts.new.items }
     ensures opening { P.opening result.1.place ≡ P.opening board.place }
 {
     let Ok(root) = Text::copy_of(alloc, root) else {
@@ -189,13 +194,16 @@ pub fn run_proxy<W: World, F: Front<W>, P: Place>(
     requires quiet { P.faults place ≡ 0 }
     // Nothing is done where the words aren't known.
     ensures usage { result.status ≡ 2 ↔ (root_in words.now ≡ None) }
-    ensures unused { root_in words.now ≡ None → (result.front ≡ front) × (result.place ≡ place) × (result.transcripts.items ≡ []) }
-    // Each desk that left the front has its transcript, with its own part and its part of the journal. In an honest world a Done is the
-    // clean run of the request that its input tells, on its inputs as the source trees list them.
-    // Where nothing fails in an honest world, the request that its input tells is done, unless memory runs out.
-    ensures sessions { IfSome (root_in words.now) (λ root. RunsDone (F.coming front) (F.coming result.front)
-        (meanings W.World F.D.I.Source F.D.O.Sink F.D.T.Sources F.D.L.Sources F.D.B.BenchMaker)
-        F.D.T.keeps F.D.L.keeps F.D.parts W.stamps_honest W.tools_honest root JOURNAL_LIMIT
+    ensures unused { root_in words.now ≡ None →
+        (result.front ≡ front) × (result.place ≡ place) × (result.transcripts.items ≡ []) }
+    // Each desk that left the front has its transcript, with its own part and its part of the
+    // journal. In an honest world a Done is the clean run of the request that its input tells, on its
+    // inputs as the source trees list them. Where nothing fails in an honest world, the request that
+    // its input tells is done, unless memory runs out.
+    ensures sessions { IfSome (root_in words.now) (λ root. RunsDone
+        (F.coming front) (F.coming result.front)
+        (meanings W.World F.D.I.Source F.D.O.Sink F.D.T.Sources F.D.L.Sources F.D.B.BenchMaker
+        F.D.B.B.Bench) F.D.parts root JOURNAL_LIMIT
         result.journal.items (P.faults result.place) result.desks.items result.transcripts.items) }
     // The journal is the sessions' entries, in their order.
     ensures legal { IsLegal 1 result.journal.items result.transcripts.items }
@@ -205,7 +213,9 @@ pub fn run_proxy<W: World, F: Front<W>, P: Place>(
     // There are at most as many short entries as the place had faults.
     ensures short { count_short result.journal.items ≤ P.faults result.place }
     // Each status has its cause.
-    ensures status { IfSome (root_in words.now) (λ root. HasStatus (F.coming front) (F.coming result.front) (F.faults front) (F.faults result.front) result.status result.transcripts.items) }
+    ensures status { IfSome (root_in words.now) (λ root. HasStatus
+        (F.coming front) (F.coming result.front) (F.faults front) (F.faults result.front)
+        result.status result.transcripts.items) }
 {
     let mut front = front;
     let mut transcripts = Vec::new(alloc);

@@ -6,10 +6,10 @@ use Rattle.rx_engine.proofs.proxy.run_proxy.Goals as goal
 pub returns-clause-sessions : goal.returns-clause-sessions
 returns-clause-sessions g c =
     let runs = rw (c.new-board.ensures, c.requires.quiet) at c.serve_words-status.ensures.runs in
-    rw (← c.in-Some.ensures, c.into_parts-place.ensures.journal, c.into_parts-place.ensures.place) (runs-done _ _ _ _ _ _ _ _ _ _ _ _ _ _ runs)
+    rw (← c.in-Some.ensures, c.into_parts-place.ensures.journal, c.into_parts-place.ensures.place) (runs-done _ _ _ _ _ _ _ _ _ _ runs)
 
 pub returns-clause-legal : goal.returns-clause-legal
 returns-clause-legal g c =
     let start : c.new-board.result.journal ≡ [] = ap (λ b. b.journal) c.new-board.ensures in
     let runs = rw start at c.serve_words-status.ensures.runs in
-    rw c.into_parts-place.ensures.journal (run_legal _ _ _ _ _ _ _ _ _ _ _ _ _ _ _ runs)
+    rw c.into_parts-place.ensures.journal (run_legal _ _ _ _ _ _ _ _ _ _ _ runs)

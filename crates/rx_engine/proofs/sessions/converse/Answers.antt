@@ -1,22 +1,27 @@
 use Rattle.std.proofs.Common.{arith, refl, ◌≡◌}
 use Rattle.std.specs.Prelude.{Err}
 use Rattle.rx_session.specs.declared.bad.SessionFault.TheVariants as faults
-use Rattle.rx_engine.proofs.CourseLemmas.{appends-none, session-finished, session-lost}
+use Rattle.rx_engine.proofs.CourseLemmas.{appends-none, session-lost}
+use Rattle.rx_engine.proofs.SessionSteps.{journal-written, session-written}
 use Rattle.rx_engine.proofs.sessions.converse.Goals as goal
 
 pub returns-in-None-clause-session : goal.returns-in-None-clause-session
 returns-in-None-clause-session g c =
     let asked : c.read_request-asked.result ≡ Err faults.ReadFault = c.in-None.ensures.lost.0 refl in
-    session-lost _ _ _ _ _ _ _ _ _ _ _ (rw c.from_vec.ensures c.read_request-asked.ensures.read) (appends-none _) c.in-None.ensures.same.0 c.in-None.ensures.same.1 c.in-None.ensures.same.2 c.lost.ensures
-    (c.read_request-asked.ensures.failed (rw asked refl))
-    (record { input = c.read_request-asked.ensures.later; output = omega arith; tree = c.in-None.ensures.tree; tree_local = c.in-None.ensures.tree_local; benches = c.in-None.ensures.benches })
+    let read = c.read_request-asked.ensures in
+    rw c.in-None.ensures.same.0
+    (session-lost _ _ _ _ _ _ _ _ c.args.parts.now _ c.args.number _ c.lost.result (rw c.from_vec.ensures read.read) (appends-none _) refl refl refl c.lost.ensures
+    (read.failed (rw asked refl)) (record { input = read.later; output = omega arith; tree = omega arith; tree_local = omega arith; benches = omega arith }))
 
 pub returns-in-Some-clause-session : goal.returns-in-Some-clause-session
 returns-in-Some-clause-session g c =
-    let r = c.in-Some.ensures.ready in
-    let root = c.as_str.ensures in
-    session-finished _ _ _ _ _ _ _ _ _ c.read_request-asked.new.read.items c.in-Some.ready.request c.in-Some.ready.answered _ r.0 r.1 r.2
-    c.read_request-asked.ensures.read c.finish.ensures.written r.3 r.4
-    (r.5 _ _ _ (rw root at c.read_request-asked.ensures.request) c.read_request-asked.ensures.end)
-    (rw c.from_vec-in-Some.ensures at c.finish.ensures.finished) c.finish.ensures.sink
-    (record { input = c.read_request-asked.ensures.later; output = c.finish.ensures.later; tree = c.in-Some.ensures.tree; tree_local = c.in-Some.ensures.tree_local; benches = c.in-Some.ensures.benches })
+    let read = c.read_request-asked.ensures in
+    let made = c.in-Some.ensures in
+    session-written _ _ _ _ _ _ _ c.args.shared.now.root c.args.parts.now c.read_request-asked.new.source c.make_ready.new.parts c.finish.new.output c.args.number
+    c.read_request-asked.new.read.items c.read_request-asked.result c.in-Some.ready c.finish.result
+    made.input made.output read.read c.finish.ensures.written made.ready (rw c.as_str.ensures at read.request) read.end
+    (rw c.from_vec-in-Some.ensures at c.finish.ensures.finished) c.finish.ensures.sink read.later c.finish.ensures.later made.later.0 made.later.1
+
+pub returns-in-Some-clause-journal : goal.returns-in-Some-clause-journal
+returns-in-Some-clause-journal g c =
+    journal-written g.P.Place c.args.shared.now.board c.make_ready.new.shared.board c.args.number _ c.in-Some.ready c.finish.result c.in-Some.ensures.enters c.finish.ensures.finished
