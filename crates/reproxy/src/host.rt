@@ -15,6 +15,7 @@ mod place;
 mod streams;
 mod world;
 
+pub(crate) use bench::HostBench;
 pub(crate) use benches::HostBenches;
 pub(crate) use desk::HostFront;
 pub(crate) use files::HostSources;

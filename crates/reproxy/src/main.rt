@@ -22,7 +22,10 @@ const NO_MEMORY: u8 = 4;
 fn main(rt: HostRuntime) -> ExitCode {
     let status = match read_words(&rt) {
         Ok(words) if is_help(&words) => return help(&rt),
-        Ok(words) => { serve(&rt, rt, &words, rt.stdin(), rt.stdout()).unwrap_or(NO_MEMORY) },
+        Ok(words) => match serve(&rt, rt, &words, rt.stdin(), rt.stdout()) {
+            Ok(ran) => ran.status,
+            Err(_) => NO_MEMORY,
+        },
         Err(error) if error.kind() == ErrorKind::OutOfMemory => NO_MEMORY,
         Err(_) => BAD_WORDS,
     };

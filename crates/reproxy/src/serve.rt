@@ -1,12 +1,16 @@
 //! One run of the proxy over the machine.
 
-ghost use Rattle.std.specs.Prelude.{◌≡◌, ◌↔◌, IfOk, None};
+ghost use Rattle.std.specs.Prelude.{◌≡◌, ◌↔◌, [], IfOk, IfSome, None};
+ghost use Rattle.rx_engine.specs.Meanings.{meanings};
 ghost use Rattle.rx_engine.specs.Words.{root_in};
+ghost use Rattle.reproxy.specs.Serves.{ServesDesk};
 
 use crate::host::{
-    HostBenches, HostFront, HostPlace, HostSink, HostSource, HostSources, HostWorld,
+    HostBench, HostBenches, HostFront, HostPlace, HostSink, HostSource, HostSources, HostWorld,
 };
-use rx_engine::{Parts, root_in, run_proxy};
+use rx_board::JOURNAL_LIMIT;
+use rx_engine::{Parts, Ran, root_in, run_proxy};
+use rx_world::{Bench, BenchMaker, Sink, Source, Sources, World};
 use std::alloc::AllocError;
 use std::io::{Print, Read};
 use std::process;
@@ -18,17 +22,35 @@ const SCRATCH: &str = "/tmp";
 /// The root of the place where the words name none. Nothing is placed there.
 const NO_ROOT: &str = "/nonexistent";
 
-/// Serves what the words ask for, by one desk over these streams, and answers the status. The lock of
-/// the digests may wait, which `wait` allows.
+/// What a run over the machine hands back.
+pub(crate) type HostRan<I, O> = Ran<
+    HostWorld,
+    HostFront<HostRuntime, I, O>,
+    HostPlace<HostRuntime>,
+>;
+
+/// Serves what the words ask for, by one desk over these streams. The lock of the digests may wait,
+/// which `wait` allows.
 pub(crate) fn serve<I: Read + Send + Drop, O: Print + Send + Drop>(
     wait: &impl Wait,
     rt: HostRuntime,
     words: &[String],
     input: I,
     output: O,
-) -> Result<u8, AllocError>
-    // 2 exactly where the words aren't known.
-    ensures { IfOk result (λ status. status ≡ 2 ↔ (root_in words.now ≡ None)) }
+) -> Result<HostRan<I, O>, AllocError>
+    // The status is 2 exactly where the words aren't known, and then no session is served.
+    ensures usage { IfOk result (λ ran. ran.status ≡ 2 ↔ (root_in words.now ≡ None)) }
+    ensures unused { IfOk result (λ ran.
+        root_in words.now ≡ None → ran.transcripts.items ≡ []) }
+    // One desk over this input is there, and what was served of it is as a run of the proxy says.
+    ensures served { IfOk result (λ ran. IfSome (root_in words.now) (λ root. ServesDesk
+        (meanings ⟦<HostWorld as World>⟧ ⟦<HostSource<I> as Source>⟧ ⟦<HostSink<O> as Sink>⟧
+        ⟦<HostSources<HostRuntime> as Sources<HostWorld>>⟧
+        ⟦<HostSources<HostRuntime> as Sources<HostWorld>>⟧
+        ⟦<HostBenches<HostRuntime> as BenchMaker<HostWorld>>⟧
+        ⟦<HostBench<HostRuntime> as Bench<HostWorld>>⟧)
+        (λ desk. desk.input.input ≡ input) root JOURNAL_LIMIT ran.place.faults.count
+        ran.front.desk ran.status ran.journal.items ran.desks.items ran.transcripts.items)) }
 {
     let alloc = rt.alloc();
     let process = process::id(rt.process());
@@ -48,6 +70,5 @@ pub(crate) fn serve<I: Read + Send + Drop, O: Print + Send + Drop>(
         String::from_str(alloc, root.unwrap_or(NO_ROOT))?,
         process,
     );
-    let ran = run_proxy::<HostWorld, _, _>(wait, alloc, words, HostFront { desk }, place);
-    Ok(ran.status)
+    Ok(run_proxy::<HostWorld, _, _>(wait, alloc, words, HostFront { desk }, place))
 }

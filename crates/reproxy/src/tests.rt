@@ -21,7 +21,8 @@ fn runs_a_command(rt: HostRuntime) -> Result<(), Fail> {
         String::from_str(alloc, "--root")?,
         root.clone()?,
     ]?;
-    assert_eq!(rt; serve(&rt, rt, &words, frame.as_slice(), rt.stderr())?, 0);
+    let ran = serve(&rt, rt, &words, frame.as_slice(), rt.stderr())?;
+    assert_eq!(rt; ran.status, 0);
     let placed = fs::read_to_string(&rt, format!(in alloc; "{root}/b")?)?;
     assert_eq!(rt; placed.as_str(), "abc");
     fs::remove_dir_all(&rt, root.as_str())?;

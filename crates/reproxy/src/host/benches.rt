@@ -80,7 +80,7 @@ impl<R: Files + Processes + AllocGlobal + Clone + Drop + Send> BenchMaker<HostWo
 
     ghost faults = { λ s. s.faults.count };
 
-    ghost last = { λ s. None };
+    ghost returned = { λ s. None };
 
     fn make(&mut self) -> Result<HostBench<R>, Failed> {
         match make_fresh(&self.rt, self.scratch.as_str(), &mut self.names) {

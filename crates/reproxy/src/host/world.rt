@@ -14,6 +14,8 @@ impl World for HostWorld {
 
     ghost blob = { λ digest. [] };
 
+    ghost operation = { λ name. record { hash = []; size = 0 } };
+
     ghost tool = { λ command tree. record { exit = record { code = pos 0; stdout = []; stderr = [] }; files = [] } };
 
     ghost parents_made = { λ command tree. refl };

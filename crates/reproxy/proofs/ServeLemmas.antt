@@ -1,0 +1,26 @@
+-- The one desk of a run over the machine.
+use Rattle.std.specs.Prelude.{◌≡◌, ℕ, List, [], ◌∷◌, IfSome, None, Option, Some}
+use Rattle.std.specs.Option.{option_to_list}
+use Rattle.rx_board.specs.declared.journal.Entry.{Entry}
+use Rattle.rx_engine.specs.declared.transcripts.Transcript.{Transcript}
+use Rattle.rx_engine.specs.Meanings.{Meanings}
+use Rattle.rx_engine.specs.Proxy.{HasStatus, IsLegal}
+use Rattle.rx_engine.specs.Serves.{RunsDone}
+use Rattle.reproxy.specs.Serves.{ServesDesk}
+
+-- where a root was found its desk was made, and the run was over that desk
+pub serves-desk : {P W B : Type 0} (m : Meanings P W B) (Is : P → Type 0) (found : Option (List ℕ)) (limit faults : ℕ) (made : Option P) (desk : P)
+    (left : Option P) (status : ℕ) (journal : List Entry) (handed : List P) (ts : List Transcript)
+    → made ≡ Some desk → Is desk
+    → IfSome found (λ root. RunsDone (Some (option_to_list made)) (Some (option_to_list left)) m (λ parts. parts) root limit journal faults handed ts)
+    → IsLegal 1 journal ts
+    → IfSome found (λ root. HasStatus (Some (option_to_list made)) (Some (option_to_list left)) 0 0 status ts)
+    → IfSome found (λ root. ServesDesk m Is root limit faults left status journal handed ts)
+serves-desk m Is None limit faults made desk left status journal handed ts made-is is runs legal has = tt
+serves-desk m Is (Some root) limit faults made desk left status journal handed ts made-is is runs legal has = record {
+  desk = desk;
+  is = is;
+  sessions = rw made-is at runs;
+  legal = legal;
+  status_is = rw made-is at has;
+}
