@@ -26,7 +26,8 @@ impl<P: Place> Model for Board<P> {
 
     ghost view = { λ b. record { place = b.place; journal = b.journal.items; limit = b.limit } };
 
-    ghost invariant = { λ b. IsKept (P.opening b.place) (P.contents b.place) (P.faults b.place) b.journal.items b.limit };
+    ghost invariant = { λ b. IsKept
+        (P.opening b.place) (P.contents b.place) (P.faults b.place) b.journal.items b.limit };
 }
 
 impl<P: Place> Board<P> {
@@ -65,36 +66,33 @@ impl<P: Place> Board<P> {
         files: &[FileOut],
     ) -> Result<Receipt, PublishFault>
         ensures whole { IfOk result (IsWhole P.contents self.old self.new session files.now) }
-        ensures cause { IfErr result (HasPublishCause P.contents P.faults self.old self.new session files.now) }
-        ensures full { IsErrOf result (journal_full self.old.limit) ↔ (length self.old.journal ≡ self.old.limit) }
+        ensures cause { IfErr result
+            (HasPublishCause P.contents P.faults self.old self.new session files.now) }
+        ensures full { IsErrOf result (journal_full self.old.limit)
+            ↔ (length self.old.journal ≡ self.old.limit) }
         ensures limit { self.new.limit ≡ self.old.limit }
         ensures opening { P.opening self.new.place ≡ P.opening self.old.place }
         ensures later { P.faults self.old.place ≤ P.faults self.new.place }
     {
         if self.is_full() {
-            return Err(PublishFault::JournalFull {
-                limit: self.limit as u64,
-            });
+            let limit = self.limit as u64;
+            return Err(PublishFault::JournalFull { limit });
         }
         let listing = list_files(alloc, files)?;
         self.journal.reserve(1)?;
-        let receipt = Receipt {
-            number: self.next_number(),
-        };
+        let number = self.next_number();
+        let receipt = Receipt { number };
         let placed = place_files(&mut self.place, files);
-        self.journal
-            .push(Entry {
-                number: receipt.number,
-                session,
-                files: listing,
-                placed: placed as u64,
-            })
-            .unwrap();
+        let entry = Entry {
+            number,
+            session,
+            files: listing,
+            placed: placed as u64,
+        };
+        self.journal.push(entry).unwrap();
         if placed < files.len() {
-            return Err(PublishFault::PlaceFault {
-                receipt,
-                placed: placed as u64,
-            });
+            let placed = placed as u64;
+            return Err(PublishFault::PlaceFault { receipt, placed });
         }
         Ok(receipt)
     }

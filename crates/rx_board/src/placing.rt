@@ -9,7 +9,8 @@ use rx_world::{FileOut, Place};
 /// Places the files in order until one fails. Answers how many were placed.
 pub(crate) fn place_files<P: Place>(place: &mut P, files: &[FileOut]) -> usize
     ensures bound { result ≤ length files.now }
-    ensures placed { PlacesAll (P.contents place.old) (P.contents place.new) (take result files.now) }
+    ensures placed { PlacesAll
+        (P.contents place.old) (P.contents place.new) (take result files.now) }
     ensures opening { P.opening place.new ≡ P.opening place.old }
     ensures later { P.faults place.old ≤ P.faults place.new }
     ensures failed { result < length files.now → Rose (P.faults place.old) (P.faults place.new) }

@@ -9,20 +9,20 @@ use Rattle.rx_world.specs.declared.call_faults.CallFault.TheVariants as calls
 abbrev pub low_byte : ℕ → ℕ
 low_byte code = if nat_lt code 256 then code else 0
 
-abbrev pub coded : ℕ → ℕ → ℕ
-coded kind code = kind * 256 + low_byte code
+abbrev pub with_code : ℕ → ℕ → ℕ
+with_code kind code = kind * 256 + low_byte code
 
 -- Want of memory is the client's own and no fault of a call: it stands in no list.
 abbrev pub call_fault_number : CallFault → ℕ
-call_fault_number (calls.Status code) = coded 1 code
-call_fault_number calls.Link = coded 2 0
-call_fault_number (calls.Protocol code) = coded 3 code
-call_fault_number calls.Compressed = coded 4 0
-call_fault_number calls.TooLarge = coded 5 0
-call_fault_number calls.NoStatus = coded 6 0
-call_fault_number (calls.BadMessage at) = coded 7 0
-call_fault_number calls.Cut = coded 8 0
-call_fault_number (calls.BlobRefused digest code) = coded 9 code
+call_fault_number (calls.Status code) = with_code 1 code
+call_fault_number calls.Link = with_code 2 0
+call_fault_number (calls.Protocol code) = with_code 3 code
+call_fault_number calls.Compressed = with_code 4 0
+call_fault_number calls.TooLarge = with_code 5 0
+call_fault_number calls.NoStatus = with_code 6 0
+call_fault_number (calls.BadMessage at) = with_code 7 0
+call_fault_number calls.Cut = with_code 8 0
+call_fault_number (calls.BlobRefused digest code) = with_code 9 code
 call_fault_number calls.NoMemory = 0
 
 -- packed: one varint behind the other

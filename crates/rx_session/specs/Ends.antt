@@ -70,17 +70,13 @@ result_fault_number results.OutputAbsent = 3
 result_fault_number results.NoDigest = 4
 result_fault_number results.TooLarge = 5
 
--- a number in decimal, with a minus where it is negative
-unfoldable pub number_text : ℤ → List ℕ
-number_text number = signed_decimal number
-
 -- a number in decimal, and a dot
 unfoldable pub dotted : ℤ → List ℕ
-dotted number = number_text number ++ codes "."
+dotted number = signed_decimal number ++ codes "."
 
 -- a version in decimal, as `2.0.0`
 unfoldable pub version_text : SemVer → List ℕ
-version_text version = dotted version.major ++ dotted version.minor ++ number_text version.patch
+version_text version = dotted version.major ++ dotted version.minor ++ signed_decimal version.patch
 
 -- the lowest and the highest version, as `2.0.0-2.1.0`
 abbrev pub versions_text : SemVer → SemVer → List ℕ

@@ -1,7 +1,7 @@
 //! Faults of calls as numbers in a reply.
 
 ghost use Rattle.std.specs.Prelude.{◌≡◌, ◌<◌, IfOk};
-ghost use Rattle.rx_session.specs.CallFaults.{call_fault_number, coded, low_byte, packed_faults};
+ghost use Rattle.rx_session.specs.CallFaults.{call_fault_number, low_byte, packed_faults, with_code};
 
 use rx_base::NoMemory;
 use rx_wire::push_varint;
@@ -19,8 +19,8 @@ fn low_byte(code: u32) -> u32
 }
 
 /// The kind of a fault, with its code in the low byte.
-fn coded(kind: u8, code: u32) -> u64
-    ensures { result ≡ coded kind code }
+fn with_code(kind: u8, code: u32) -> u64
+    ensures { result ≡ with_code kind code }
 {
     u64::from(kind) * u64::from(CODES) + u64::from(low_byte(code))
 }
@@ -30,15 +30,15 @@ fn call_fault_number(fault: &CallFault) -> u64
     ensures { result ≡ call_fault_number fault.now }
 {
     match fault {
-        CallFault::Status(code) => coded(1, *code),
-        CallFault::Link => coded(2, 0),
-        CallFault::Protocol(code) => coded(3, *code),
-        CallFault::Compressed => coded(4, 0),
-        CallFault::TooLarge => coded(5, 0),
-        CallFault::NoStatus => coded(6, 0),
-        CallFault::BadMessage(_) => coded(7, 0),
-        CallFault::Cut => coded(8, 0),
-        CallFault::BlobRefused(_, code) => coded(9, *code),
+        CallFault::Status(code) => with_code(1, *code),
+        CallFault::Link => with_code(2, 0),
+        CallFault::Protocol(code) => with_code(3, *code),
+        CallFault::Compressed => with_code(4, 0),
+        CallFault::TooLarge => with_code(5, 0),
+        CallFault::NoStatus => with_code(6, 0),
+        CallFault::BadMessage(_) => with_code(7, 0),
+        CallFault::Cut => with_code(8, 0),
+        CallFault::BlobRefused(_, code) => with_code(9, *code),
         CallFault::NoMemory => 0,
     }
 }

@@ -72,7 +72,8 @@ fn names_of(alloc: Global, pairs: &[Pair]) -> Result<Vec<&Text>, NoMemory>
 
 /// The texts in the order of their bytes, each once.
 fn sort_once(texts: Vec<&Text>) -> Result<Vec<&Text>, NoMemory>
-    ensures { IfOk result (λ once. map (λ text. text.now) once.items ≡ sorted_once (slice_cmp nat_cmp) (map (λ text. text.now) texts.entry.items)) }
+    ensures { IfOk result (λ once. map (λ text. text.now) once.items
+        ≡ sorted_once (slice_cmp nat_cmp) (map (λ text. text.now) texts.entry.items)) }
 {
     let mut texts = texts;
     texts.sort()?;
@@ -82,7 +83,8 @@ fn sort_once(texts: Vec<&Text>) -> Result<Vec<&Text>, NoMemory>
 
 /// Whether no two texts are equal.
 fn are_distinct(texts: Vec<&Text>) -> Result<bool, NoMemory>
-    ensures { IfOk result (λ distinct. distinct ≡ are_distinct (map (λ text. text.now) texts.entry.items)) }
+    ensures { IfOk result
+        (λ distinct. distinct ≡ are_distinct (map (λ text. text.now) texts.entry.items)) }
 {
     let count = texts.as_slice().len();
     let once = sort_once(texts)?;

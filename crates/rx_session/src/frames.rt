@@ -49,7 +49,8 @@ pub fn read_request<S: Source>(
     // After a request, and where the frame is cut short, the input is at its end.
     ensures end { EndsRead (S.left source.new) result }
     ensures later { S.faults source.old ≤ S.faults source.new }
-    ensures failed { IsErrOf result SessionFault.ReadFault → Rose (S.faults source.old) (S.faults source.new) }
+    ensures failed { IsErrOf result SessionFault.ReadFault
+        → Rose (S.faults source.old) (S.faults source.new) }
 {
     read.clear();
     read_up_to(source, read, HEADER_LEN)?;
@@ -96,7 +97,10 @@ fn payload_request(alloc: Global, root: &str, payload: &[u8]) -> Result<Request,
     match read_raw_request(alloc, payload) {
         Ok(raw) => request_by(alloc, root, raw),
         Err(MessageFault::Wire(fault)) => {
-            refuse(BadReason::BadMessage, 5u64.saturating_add(offset_of(fault)))
+            refuse(
+                BadReason::BadMessage,
+                (HEADER_LEN as u64).saturating_add(offset_of(fault)),
+            )
         }
         Err(MessageFault::NoMemory) => Err(SessionFault::NoMemory),
     }

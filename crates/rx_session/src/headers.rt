@@ -1,4 +1,5 @@
-//! The header of a frame: its kind in one byte, and the payload's length in four, the highest first.
+//! The header of a frame: its kind in one byte, and the payload's length in four, the highest
+//! first.
 
 /// The bytes of a header.
 pub(crate) const HEADER_LEN: usize = 5;

@@ -20,7 +20,8 @@ use std::alloc::Global;
 pub(crate) fn read_raw_request(alloc: Global, payload: &[u8]) -> Result<RawRequest, MessageFault>
     ensures message { Reads (λ raw. raw) result (raw_request_of payload.now) }
     // It is what the fields make, one after the other, of a message without fields.
-    ensures fields { (row : List Placed) (fault : Option WireFault) → ReadsAll payload.now 0 row fault
+    ensures fields { (row : List Placed) (fault : Option WireFault)
+        → ReadsAll payload.now 0 row fault
         → Reads (λ raw. raw) result (made_of (request_with payload.now) no_request row fault) }
 {
     let mut raw = no_request(alloc);
@@ -61,7 +62,8 @@ fn take_field(
     value: Value<'_>,
     fields: &Fields<'_>,
 ) -> Result<(), MessageFault>
-    ensures { Reads (λ _. raw.new) result (request_with fields.now.bytes raw.old (placed_before number value.entry fields.now)) }
+    ensures { Reads (λ _. raw.new) result
+        (request_with fields.now.bytes raw.old (placed_before number value.entry fields.now)) }
 {
     match value {
         Value::Varint(n) => {
@@ -82,7 +84,8 @@ fn take_bytes(
     bytes: &[u8],
     fields: &Fields<'_>,
 ) -> Result<(), MessageFault>
-    ensures { Reads (λ _. raw.new) result (with_bytes fields.now.bytes raw.old bytes.now (bytes_before number bytes.now fields.now)) }
+    ensures { Reads (λ _. raw.new) result (with_bytes
+        fields.now.bytes raw.old bytes.now (bytes_before number bytes.now fields.now)) }
 {
     if is_text_field(number) {
         let text = read_text(alloc, bytes, fields.behind_tag())?;
@@ -201,7 +204,8 @@ fn pair_with(
     value: Value<'_>,
     at: usize,
 ) -> Result<Pair, MessageFault>
-    ensures { Reads (λ pair. pair) result (pair_with_content pair number (content_of value.entry) at) }
+    ensures { Reads (λ pair. pair) result
+        (pair_with_content pair number (content_of value.entry) at) }
 {
     match value {
         Value::Bytes(bytes) => pair_with_text(alloc, pair, number, bytes, at),

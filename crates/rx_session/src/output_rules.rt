@@ -45,7 +45,8 @@ pub(crate) fn outputs_stand(
     toolchain_inputs: &[RelPath],
     outputs: Items<RelPath>,
 ) -> Result<bool, NoMemory>
-    ensures { IfOk result (λ stand. stand ≡ outputs_stand directory.now inputs.now toolchain_inputs.now outputs) }
+    ensures { IfOk result (λ stand. stand
+        ≡ outputs_stand directory.now inputs.now toolchain_inputs.now outputs) }
 {
     if !all_below(outputs.as_slice(), directory) {
         return Ok(false);

@@ -8,7 +8,8 @@ use std::alloc::{AllocError, Global};
 
 /// The path that a text names, where it names one.
 fn read_path(alloc: Global, text: &Text) -> Result<Option<RelPath>, NoMemory>
-    ensures some { IfOk result (λ read. IfSome read (λ path. (path ≡ path_in text.now) × (is_path text.now ≡ true))) }
+    ensures some { IfOk result (λ read. IfSome read
+        (λ path. (path ≡ path_in text.now) × (is_path text.now ≡ true))) }
     ensures none { IfOk result (λ read. IfNone read (is_path text.now ≡ false)) }
 {
     match RelPath::read(alloc, text.as_str()) {
@@ -21,7 +22,8 @@ fn read_path(alloc: Global, text: &Text) -> Result<Option<RelPath>, NoMemory>
 /// 5: the directory that a text names, where it names one: the root for an empty text.
 #[tactic(auto, unfolding(crate::specs::Rules::directory_holds))]
 pub(crate) fn read_directory(alloc: Global, text: &Text) -> Result<Option<RelPath>, NoMemory>
-    ensures some { IfOk result (λ read. IfSome read (λ path. (path ≡ path_in text.now) × (directory_holds text.now ≡ true))) }
+    ensures some { IfOk result (λ read. IfSome read
+        (λ path. (path ≡ path_in text.now) × (directory_holds text.now ≡ true))) }
     ensures none { IfOk result (λ read. IfNone read (directory_holds text.now ≡ false)) }
 {
     if text.is_empty() {
@@ -33,7 +35,8 @@ pub(crate) fn read_directory(alloc: Global, text: &Text) -> Result<Option<RelPat
 /// 8, 9, 10: the paths that texts name, where each names one.
 #[tactic(auto, unfolding(crate::specs::Rules::paths_hold))]
 pub(crate) fn read_paths(alloc: Global, texts: &[Text]) -> Result<Option<Items<RelPath>>, NoMemory>
-    ensures some { IfOk result (λ read. IfSome read (λ paths. (paths ≡ paths_in texts.now) × (paths_hold texts.now ≡ true))) }
+    ensures some { IfOk result (λ read. IfSome read
+        (λ paths. (paths ≡ paths_in texts.now) × (paths_hold texts.now ≡ true))) }
     ensures none { IfOk result (λ read. IfNone read (paths_hold texts.now ≡ false)) }
 {
     let mut paths = Vec::with_capacity(alloc, texts.len())?;

@@ -64,7 +64,7 @@ fn limit_number(limit: Limit) -> u64
 }
 
 /// The path, where there is one.
-fn push_path_of_one(out: &mut Vec<u8>, path: &Option<RelPath>) -> Result<(), NoMemory>
+fn push_optional_path(out: &mut Vec<u8>, path: &Option<RelPath>) -> Result<(), NoMemory>
     ensures { OnOk result (out.new.items ≡ out.old.items ++ path_part path.now) }
 {
     match path {
@@ -84,5 +84,5 @@ pub(crate) fn push_too_large(
 {
     push_number(out, reply::REASON, limit_number(limit))?;
     push_number(out, reply::VALUE, n)?;
-    push_path_of_one(out, path)
+    push_optional_path(out, path)
 }

@@ -21,7 +21,8 @@ pub(crate) fn read_up_to<S: Source>(
     ensures most { vec_len read.new ≤ max (vec_len read.old) want }
     ensures end { OnOk result (vec_len read.new < want → IsAtEnd (S.left source.new)) }
     ensures later { S.faults source.old ≤ S.faults source.new }
-    ensures failed { IsErrOf result SessionFault.ReadFault → Rose (S.faults source.old) (S.faults source.new) }
+    ensures failed { IsErrOf result SessionFault.ReadFault
+        → Rose (S.faults source.old) (S.faults source.new) }
     ensures only { IfErr result IsNoBad }
 {
     let mut piece = [0u8; PIECE_LEN];
@@ -43,11 +44,13 @@ fn read_piece<S: Source>(
 ) -> Result<usize, SessionFault>
     requires { 0 < length piece.old }
     ensures read { ReadsOn (S.left source.old) (S.left source.new) read.old.items read.new.items }
-    ensures count { IfOk result (λ count. (vec_len read.new ≡ vec_len read.old + count) × (count ≤ length piece.old)) }
+    ensures count { IfOk result
+        (λ count. (vec_len read.new ≡ vec_len read.old + count) × (count ≤ length piece.old)) }
     ensures none { OnErr result (vec_len read.new ≡ vec_len read.old) }
     ensures end { IfOk result (λ count. count ≡ 0 → IsAtEnd (S.left source.new)) }
     ensures later { S.faults source.old ≤ S.faults source.new }
-    ensures failed { IsErrOf result SessionFault.ReadFault → Rose (S.faults source.old) (S.faults source.new) }
+    ensures failed { IsErrOf result SessionFault.ReadFault
+        → Rose (S.faults source.old) (S.faults source.new) }
     ensures only { IfErr result IsNoBad }
 {
     read.reserve(piece.len())?;

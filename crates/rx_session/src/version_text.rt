@@ -1,16 +1,16 @@
 //! Versions of the Remote Execution API as text in a reply.
 
 ghost use Rattle.std.specs.Prelude.{◌≡◌, ◌++◌, IfOk, OnOk};
-ghost use Rattle.rx_session.specs.Ends.{dotted, number_text, version_text, versions_text};
+ghost use Rattle.std.specs.Fmt.{signed_decimal};
+ghost use Rattle.rx_session.specs.Ends.{dotted, version_text, versions_text};
 
 use itoa::Buffer;
 use rx_base::NoMemory;
 use rx_world::SemVer;
 use std::alloc::Global;
 
-#[tactic(auto, unfolding(crate::specs::Ends::number_text))]
-fn push_number_text(out: &mut Vec<u8>, number: i32) -> Result<(), NoMemory>
-    ensures { OnOk result (out.new.items ≡ out.old.items ++ number_text number) }
+fn push_decimal(out: &mut Vec<u8>, number: i32) -> Result<(), NoMemory>
+    ensures { OnOk result (out.new.items ≡ out.old.items ++ signed_decimal number) }
 {
     let mut buffer = Buffer::new();
     out.extend_from_slice(buffer.format(number).as_bytes())
@@ -21,7 +21,7 @@ fn push_number_text(out: &mut Vec<u8>, number: i32) -> Result<(), NoMemory>
 fn push_dotted(out: &mut Vec<u8>, number: i32) -> Result<(), NoMemory>
     ensures { OnOk result (out.new.items ≡ out.old.items ++ dotted number) }
 {
-    push_number_text(out, number)?;
+    push_decimal(out, number)?;
     out.extend_from_slice(b".")
 }
 
@@ -32,7 +32,7 @@ fn push_version(out: &mut Vec<u8>, version: &SemVer) -> Result<(), NoMemory>
 {
     push_dotted(out, version.major)?;
     push_dotted(out, version.minor)?;
-    push_number_text(out, version.patch)
+    push_decimal(out, version.patch)
 }
 
 /// The lowest and the highest version that a farm serves, as `2.0.0-2.1.0`.
