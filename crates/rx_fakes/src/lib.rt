@@ -17,6 +17,7 @@ mod sink;
 mod source;
 mod sources;
 mod told;
+mod tree_texts;
 
 pub use bench::ToyBench;
 pub use benches::ToyBenches;
@@ -28,6 +29,7 @@ pub use script::Script;
 pub use sink::{MemorySink, QuietSink};
 pub use source::{MemorySource, QuietSource};
 pub use sources::{Change, MemorySources, When};
+pub use tree_texts::{TreeFault, read_tree};
 
 #[cfg(test)]
 mod tests;

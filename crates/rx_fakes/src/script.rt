@@ -38,7 +38,7 @@ impl Script {
     }
 
     /// Counts a call. It fails where its number is one of those that are to fail.
-    pub(crate) fn call(&mut self) -> Result<(), Failed>
+    pub fn call(&mut self) -> Result<(), Failed>
         ensures calls { self.new.calls ≡ min (self.old.calls + 1) (2 ^ 64 - 1) }
         ensures fails { self.new.fails ≡ self.old.fails }
         ensures scripted { IsErr result ↔ Contains self.old.fails.items self.new.calls }
@@ -53,7 +53,7 @@ impl Script {
     }
 
     /// Counts a fault.
-    pub(crate) fn fault(&mut self) -> Failed
+    pub fn fault(&mut self) -> Failed
         ensures calls { self.new.calls ≡ self.old.calls }
         ensures fails { self.new.fails ≡ self.old.fails }
         ensures later { self.old.faults ≤ self.new.faults }
