@@ -12,6 +12,3 @@ mod searches;
 mod variables;
 
 pub use readings::{Reading, read_command};
-
-#[cfg(test)]
-mod tests;

@@ -47,7 +47,8 @@ pub(crate) fn cut<'a>(
     pieces: &mut Vec<Piece<'a>>,
 ) -> Result<(), NoMemory>
     requires { AreSorted site.inputs.now }
-    ensures { IfOk result (λ _. pieces.new.items ≡ pieces.old.items ++ sayings site.entry.directory.now site.entry.inputs.now words.now) }
+    ensures { IfOk result (λ _. pieces.new.items
+        ≡ pieces.old.items ++ sayings site.entry.directory.now site.entry.inputs.now words.now) }
 {
     let mut rest = words;
     let mut is_value = false;
@@ -75,7 +76,8 @@ fn say<'a>(
 ) -> Result<(), NoMemory>
     requires { AreSorted site.inputs.now }
     ensures { IfOk result (λ _. pieces.new.items ≡ pieces.old.items
-        ++ said_by site.entry.directory.now site.entry.inputs.now (option_map row_of row.entry) word.now others.now ∷ []) }
+        ++ said_by site.entry.directory.now site.entry.inputs.now
+        (option_map row_of row.entry) word.now others.now ∷ []) }
 {
     let Some(row) = row else {
         return refuse(word, pieces);

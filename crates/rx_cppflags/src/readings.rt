@@ -131,7 +131,8 @@ fn outside_of(
 
 /// The reading of compile words.
 fn count(alloc: Global, command: &Command, pieces: &[Piece]) -> Result<Reading, NoMemory>
-    ensures { IfOk result (λ reading. reading ≡ counted command.now pieces.now (only (sources_of pieces.now))) }
+    ensures { IfOk result (λ reading. reading
+        ≡ counted command.now pieces.now (only (sources_of pieces.now))) }
 {
     let Some(source) = only(sources_of(alloc, pieces)?) else {
         return local_only(alloc, first_word(command.words.as_slice()));

@@ -80,7 +80,8 @@ pub(crate) static ROWS: [Row; 63] = [
 /// The table, in which each spelling finds its own row.
 fn table() -> &'static [Row]
     ensures rows { map row_of result.now ≡ rows }
-    ensures reached { map (λ row. first_fitting row.spelling rows) rows ≡ map (λ row. Some row) rows }
+    ensures reached { map (λ row. first_fitting row.spelling rows) rows
+        ≡ map (λ row. Some row) rows }
 {
     &ROWS
 }

@@ -61,7 +61,8 @@ impl<K: Contents> SourceEntries<K> {
     ) -> Result<(), NoMemory>
         requires { K.honest → bytes ≡ K.holds path (stamp_of bytes mark) }
         ensures ok { OnOk result
-            (self.new ≡ with_entry (file_entry path (stamp_of bytes mark) executable bytes) self.old) }
+            (self.new ≡ with_entry
+            (file_entry path (stamp_of bytes mark) executable bytes) self.old) }
         ensures err { OnErr result (self.new ≡ self.old) }
     {
         let stamp = Stamp {

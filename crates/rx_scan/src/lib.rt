@@ -20,8 +20,3 @@ mod words;
 
 pub use gather_fault::GatherFault;
 pub use gathering::{Gathered, gather};
-
-#[cfg(test)]
-mod memory_tree;
-#[cfg(test)]
-mod tests;
