@@ -10,6 +10,3 @@ mod publish_fault;
 pub use board::Board;
 pub use journal::{Entry, JOURNAL_LIMIT, Receipt};
 pub use publish_fault::PublishFault;
-
-#[cfg(test)]
-mod tests;

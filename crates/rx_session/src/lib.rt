@@ -35,6 +35,3 @@ pub use replies::Reply;
 pub use reply_frames::{MAX_REPLY_LEN, Room, encode};
 pub use requests::Request;
 pub use streams::write_frame;
-
-#[cfg(test)]
-mod tests;

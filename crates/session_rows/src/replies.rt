@@ -1,0 +1,181 @@
+//! Replies in words, and their frames.
+
+use crate::arguments::{read_i32, read_path, read_string};
+use crate::ends::read_failures;
+use crate::seen::read_changed;
+use rx_base::{Bytes, Text};
+use rx_rows::{Answer, Row, RowFault};
+use rx_session::{Bad, BadReason, Reply, Room, encode};
+use rx_world::{Limit, LocalCause, Origin};
+use std::alloc::Global;
+
+/// `reply REPLY`: its frame.
+pub(crate) fn answer_reply(
+    alloc: Global,
+    row: &mut Row<'_>,
+    answer: &mut Answer,
+) -> Result<(), RowFault> {
+    let reply = read_reply(alloc, row)?;
+    let frame = encode(alloc, &reply)?;
+    write_parts(&frame, answer)
+}
+
+/// `room RECEIPT PLACED`: the frame of a place fault, which takes no memory.
+pub(crate) fn answer_room(
+    alloc: Global,
+    row: &mut Row<'_>,
+    answer: &mut Answer,
+) -> Result<(), RowFault> {
+    let receipt = row.number()?;
+    let placed = row.number()?;
+    let frame = Room::new(alloc)?.encode_place_fault(receipt, placed);
+    write_parts(&frame, answer)
+}
+
+/// The kind, the length and the payload of a frame.
+fn write_parts(frame: &[u8], answer: &mut Answer) -> Result<(), RowFault> {
+    let [kind, len_1, len_2, len_3, len_4, payload @ ..] = frame else {
+        return Err(RowFault::BadCall);
+    };
+    answer.bytes(&[*kind])?;
+    answer.bytes(&[*len_1, *len_2, *len_3, *len_4])?;
+    answer.bytes(payload)?;
+    Ok(())
+}
+
+/// A reply. What stands behind its name is read in a function of its own: a `?` in each arm is dear
+/// to prove.
+fn read_reply(alloc: Global, row: &mut Row<'_>) -> Result<Reply, RowFault> {
+    match row.word()? {
+        b"done" => read_done(alloc, row),
+        b"bad_request" => read_bad_request(row),
+        b"not_remotable" => read_not_remotable(alloc, row),
+        b"input_missing" => read_input_missing(alloc, row),
+        b"input_changed" => read_input_changed(alloc, row),
+        b"source_fault" => read_source_fault(alloc, row),
+        b"too_large" => read_too_large(alloc, row),
+        b"all_failed" => read_all_failed(alloc, row),
+        b"place_fault" => read_place_fault(row),
+        b"journal_full" => Ok(Reply::JournalFull),
+        b"no_memory" => Ok(Reply::NoMemory),
+        b"blocked" => read_blocked(alloc, row),
+        _ => Err(RowFault::BadCall),
+    }
+}
+
+fn read_bad_request(row: &mut Row<'_>) -> Result<Reply, RowFault> {
+    let reason = read_reason(row)?;
+    let value = row.number()?;
+    let bad = Bad { reason, value };
+    Ok(Reply::BadRequest { bad })
+}
+
+fn read_not_remotable(alloc: Global, row: &mut Row<'_>) -> Result<Reply, RowFault> {
+    let cause = read_local_cause(alloc, row)?;
+    Ok(Reply::NotRemotable { cause })
+}
+
+fn read_input_missing(alloc: Global, row: &mut Row<'_>) -> Result<Reply, RowFault> {
+    let path = read_path(alloc, row)?;
+    Ok(Reply::InputMissing { path })
+}
+
+fn read_input_changed(alloc: Global, row: &mut Row<'_>) -> Result<Reply, RowFault> {
+    let input = read_changed(alloc, row)?;
+    Ok(Reply::InputChanged(input))
+}
+
+fn read_source_fault(alloc: Global, row: &mut Row<'_>) -> Result<Reply, RowFault> {
+    let path = read_path(alloc, row)?;
+    Ok(Reply::SourceFault { path })
+}
+
+fn read_all_failed(alloc: Global, row: &mut Row<'_>) -> Result<Reply, RowFault> {
+    let failures = read_failures(alloc, row)?;
+    Ok(Reply::AllFailed { failures })
+}
+
+fn read_place_fault(row: &mut Row<'_>) -> Result<Reply, RowFault> {
+    let receipt = row.number()?;
+    let placed = row.number()?;
+    Ok(Reply::PlaceFault { receipt, placed })
+}
+
+fn read_blocked(alloc: Global, row: &mut Row<'_>) -> Result<Reply, RowFault> {
+    let path = read_path(alloc, row)?;
+    Ok(Reply::Blocked { path })
+}
+
+/// `done EXIT STDOUT STDERR ORIGIN RECEIPT PLACED`.
+fn read_done(alloc: Global, row: &mut Row<'_>) -> Result<Reply, RowFault> {
+    Ok(Reply::Done {
+        exit: read_i32(row)?,
+        stdout: Bytes::from_vec(row.text(alloc)?),
+        stderr: Bytes::from_vec(row.text(alloc)?),
+        origin: read_origin(row)?,
+        receipt: row.number()?,
+        placed: row.number()?,
+    })
+}
+
+fn read_origin(row: &mut Row<'_>) -> Result<Origin, RowFault> {
+    match row.word()? {
+        b"Local" => Ok(Origin::Local),
+        b"Remote" => Ok(Origin::Remote),
+        b"Cache" => Ok(Origin::Cache),
+        _ => Err(RowFault::BadCall),
+    }
+}
+
+fn read_reason(row: &mut Row<'_>) -> Result<BadReason, RowFault> {
+    match row.word()? {
+        b"CutShort" => Ok(BadReason::CutShort),
+        b"TooLong" => Ok(BadReason::TooLong),
+        b"BadKind" => Ok(BadReason::BadKind),
+        b"BadMessage" => Ok(BadReason::BadMessage),
+        b"UnknownVersion" => Ok(BadReason::UnknownVersion),
+        b"WrongRoot" => Ok(BadReason::WrongRoot),
+        b"BadField" => Ok(BadReason::BadField),
+        b"Trailing" => Ok(BadReason::Trailing),
+        b"NotBuilt" => Ok(BadReason::NotBuilt),
+        _ => Err(RowFault::BadCall),
+    }
+}
+
+/// `word TEXT` or `path PATH`.
+fn read_local_cause(alloc: Global, row: &mut Row<'_>) -> Result<LocalCause, RowFault> {
+    match row.word()? {
+        b"word" => {
+            let word = Text::from_string(read_string(alloc, row)?);
+            Ok(LocalCause::Word { word })
+        }
+        b"path" => {
+            let path = read_path(alloc, row)?;
+            Ok(LocalCause::Path { path })
+        }
+        _ => Err(RowFault::BadCall),
+    }
+}
+
+/// `LIMIT N`, and the path of the file where one file passes the limit.
+fn read_too_large(alloc: Global, row: &mut Row<'_>) -> Result<Reply, RowFault> {
+    let limit = read_limit(row)?;
+    let n = row.number()?;
+    if row.is_done() {
+        let path = None;
+        return Ok(Reply::TooLarge { limit, n, path });
+    }
+    let path = Some(read_path(alloc, row)?);
+    Ok(Reply::TooLarge { limit, n, path })
+}
+
+fn read_limit(row: &mut Row<'_>) -> Result<Limit, RowFault> {
+    match row.word()? {
+        b"ScanFiles" => Ok(Limit::ScanFiles),
+        b"FileBytes" => Ok(Limit::FileBytes),
+        b"ScanBytes" => Ok(Limit::ScanBytes),
+        b"ListFiles" => Ok(Limit::ListFiles),
+        b"ListBytes" => Ok(Limit::ListBytes),
+        _ => Err(RowFault::BadCall),
+    }
+}

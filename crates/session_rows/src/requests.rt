@@ -1,0 +1,174 @@
+//! Which frames are requests, and what those ask for.
+
+use crate::arguments::read_frame;
+use crate::streams::read_script;
+use rx_base::{RelPath, Text};
+use rx_fakes::{MemorySource, Script};
+use rx_rows::{Answer, Row, RowFault};
+use rx_session::{Request, SessionFault, command_for, declared_inputs, read_request};
+use rx_world::Pair;
+use std::alloc::{AllocError, Global};
+
+/// Reads a frame of the root `/r`, from a source that gives one byte a call. What was read takes the
+/// place of what stood in `all`.
+fn read(
+    alloc: Global,
+    frame: Vec<u8>,
+    script: Script,
+    all: &mut Vec<u8>,
+) -> Result<Request, SessionFault> {
+    let mut source = MemorySource::new(frame, script);
+    source.most = 1;
+    read_request(alloc, &mut source, "/r", all)
+}
+
+/// The request that a frame is.
+fn asked(alloc: Global, row: &mut Row<'_>) -> Result<Request, RowFault> {
+    let frame = read_frame(alloc, row)?;
+    let mut all = Vec::new(alloc);
+    match read(alloc, frame, Script::empty(alloc), &mut all) {
+        Ok(request) => Ok(request),
+        Err(_) => Err(RowFault::BadCall),
+    }
+}
+
+/// `request FAILS FRAME`: how many bytes were read, and the request or the fault.
+pub(crate) fn answer_request(
+    alloc: Global,
+    row: &mut Row<'_>,
+    answer: &mut Answer,
+) -> Result<(), RowFault> {
+    let script = read_script(alloc, row)?;
+    let frame = read_frame(alloc, row)?;
+    let mut all = Vec::new(alloc);
+    let request = read(alloc, frame, script, &mut all);
+    answer.number(all.len() as u64)?;
+    match &request {
+        Ok(request) => write_request(request, answer)?,
+        Err(fault) => write_fault(fault, answer)?,
+    }
+    Ok(())
+}
+
+/// `taken FRAME`: the bytes that were read.
+pub(crate) fn answer_taken(
+    alloc: Global,
+    row: &mut Row<'_>,
+    answer: &mut Answer,
+) -> Result<(), RowFault> {
+    let frame = read_frame(alloc, row)?;
+    let mut all = Vec::from_slice(alloc, b"before")?;
+    let request = read(alloc, frame, Script::empty(alloc), &mut all);
+    answer.value(&request.is_ok())?;
+    answer.bytes(&all)?;
+    Ok(())
+}
+
+/// `command FRAME`: the command of a request.
+pub(crate) fn answer_command(
+    alloc: Global,
+    row: &mut Row<'_>,
+    answer: &mut Answer,
+) -> Result<(), RowFault> {
+    let request = asked(alloc, row)?;
+    let command = command_for(alloc, &request)?;
+    write_texts("words", command.words.as_slice(), answer)?;
+    write_pairs("environment", command.environment.as_slice(), answer)?;
+    answer.word("directory")?;
+    answer.text(command.working_directory.as_str().as_bytes())?;
+    answer.word("outputs")?;
+    write_paths(command.outputs.as_slice(), answer)?;
+    write_pairs("platform", command.platform.as_slice(), answer)?;
+    write_seconds(command.timeout_seconds, answer)?;
+    Ok(())
+}
+
+/// `inputs FRAME`: the declared inputs of a request.
+pub(crate) fn answer_inputs(
+    alloc: Global,
+    row: &mut Row<'_>,
+    answer: &mut Answer,
+) -> Result<(), RowFault> {
+    let request = asked(alloc, row)?;
+    let inputs = declared_inputs(alloc, &request)?;
+    write_paths(inputs.as_slice(), answer)?;
+    Ok(())
+}
+
+/// The fields of a request that aren't empty.
+fn write_request(request: &Request, answer: &mut Answer) -> Result<(), AllocError> {
+    answer.word("root")?;
+    answer.text(request.root.as_str().as_bytes())?;
+    write_texts("words", request.words.as_slice(), answer)?;
+    write_pairs("environment", request.environment.as_slice(), answer)?;
+    answer.word("directory")?;
+    answer.text(request.working_directory.as_str().as_bytes())?;
+    answer.value(&request.strategy)?;
+    answer.value(&request.kind)?;
+    write_texts("inputs", request.inputs.as_slice(), answer)?;
+    write_texts("toolchain", request.toolchain_inputs.as_slice(), answer)?;
+    write_texts("outputs", request.outputs.as_slice(), answer)?;
+    write_pairs("platform", request.platform.as_slice(), answer)?;
+    write_flag("accept_cached", request.accept_cached, answer)?;
+    write_flag("watch", request.watch, answer)?;
+    write_seconds(request.timeout_seconds, answer)
+}
+
+fn write_fault(fault: &SessionFault, answer: &mut Answer) -> Result<(), AllocError> {
+    match fault {
+        SessionFault::Bad(bad) => {
+            answer.value(&bad.reason)?;
+            answer.number(bad.value)
+        }
+        SessionFault::ReadFault => answer.word("ReadFault"),
+        SessionFault::NoMemory => answer.word("NoMemory"),
+    }
+}
+
+fn write_texts(name: &str, texts: &[Text], answer: &mut Answer) -> Result<(), AllocError> {
+    if texts.is_empty() {
+        return Ok(());
+    }
+    answer.word(name)?;
+    for text in texts {
+        answer.text(text.as_str().as_bytes())?;
+    }
+    Ok(())
+}
+
+fn write_pairs(name: &str, pairs: &[Pair], answer: &mut Answer) -> Result<(), AllocError> {
+    if pairs.is_empty() {
+        return Ok(());
+    }
+    answer.word(name)?;
+    for pair in pairs {
+        answer.text(pair.name.as_str().as_bytes())?;
+        answer.text(pair.value.as_str().as_bytes())?;
+    }
+    Ok(())
+}
+
+fn write_paths(paths: &[RelPath], answer: &mut Answer) -> Result<(), AllocError> {
+    if paths.is_empty() {
+        return answer.word("none");
+    }
+    for path in paths {
+        answer.text(path.as_str().as_bytes())?;
+    }
+    Ok(())
+}
+
+fn write_flag(name: &str, is_set: bool, answer: &mut Answer) -> Result<(), AllocError> {
+    if is_set {
+        return answer.word(name);
+    }
+    Ok(())
+}
+
+fn write_seconds(seconds: u32, answer: &mut Answer) -> Result<(), AllocError> {
+    if seconds == 0 {
+        return Ok(());
+    }
+    answer.word("timeout")?;
+    answer.number(u64::from(seconds))
+}
