@@ -1,0 +1,75 @@
+//! The arguments of rows: words of a command line, files and the parts that fail.
+
+use crate::plans::{Node, Part};
+use rx_base::Bytes;
+use rx_row_values::read_string;
+use rx_rows::{Row, RowFault};
+use rx_world::Stamp;
+use std::alloc::Global;
+
+/// The words of a text, with one space between each two.
+pub(crate) fn words_in(alloc: Global, row: &mut Row<'_>) -> Result<Vec<String>, RowFault> {
+    let text = read_string(alloc, row)?;
+    let mut words = Vec::new(alloc);
+    for word in text.as_str().split(' ') {
+        words.push(String::from_str(alloc, word)?)?;
+    }
+    Ok(words)
+}
+
+/// What may stand behind the text of a file: `mark N` and `executable`.
+fn marks_in(row: &mut Row<'_>) -> Result<(u64, bool), RowFault> {
+    let mut mark = 1;
+    let mut executable = false;
+    for _ in 0..2 {
+        if row.is_done() {
+            return Ok((mark, executable));
+        }
+        match row.word()? {
+            b"mark" => mark = row.number()?,
+            b"executable" => executable = true,
+            _ => return Err(RowFault::BadCall),
+        }
+    }
+    Ok((mark, executable))
+}
+
+/// A file with these bytes. Its stamp has their size.
+pub(crate) fn file_in(alloc: Global, row: &mut Row<'_>) -> Result<Node, RowFault> {
+    let bytes = Bytes::from_vec(row.text(alloc)?);
+    let (mark, executable) = marks_in(row)?;
+    let stamp = Stamp {
+        size: bytes.len() as u64,
+        mark: u128::from(mark),
+    };
+    Ok(Node::File {
+        stamp,
+        executable,
+        bytes,
+    })
+}
+
+/// A file without bytes, whose stamp has another size.
+pub(crate) fn sized_in(alloc: Global, row: &mut Row<'_>) -> Result<Node, RowFault> {
+    let size = row.number()?;
+    Ok(Node::File {
+        stamp: Stamp { size, mark: 1 },
+        executable: false,
+        bytes: Bytes::new(alloc),
+    })
+}
+
+/// The part of a word.
+pub(crate) fn part_in(row: &mut Row<'_>) -> Result<Part, RowFault> {
+    match row.word()? {
+        b"input" => Ok(Part::Input),
+        b"output" => Ok(Part::Output),
+        b"tree" => Ok(Part::Tree),
+        b"local" => Ok(Part::TreeLocal),
+        b"benches" => Ok(Part::Benches),
+        b"bench" => Ok(Part::Bench),
+        b"place" => Ok(Part::Place),
+        b"front" => Ok(Part::Front),
+        _ => Err(RowFault::BadCall),
+    }
+}

@@ -1,0 +1,242 @@
+//! The rows: what each does, by its first word.
+
+use crate::arguments::{file_in, part_in, sized_in, words_in};
+use crate::outcomes::{show_benches, show_entry, show_files, show_reads, show_session};
+use crate::plans::{DeskPlan, FailingCall, Node, Part, PlannedPath, PlannedTree};
+use crate::replies::show_number;
+use crate::requests::request_frame;
+use crate::runs::{Finished, run, serve};
+use rx_base::RelPath;
+use rx_engine::root_in;
+use rx_row_values::read_path;
+use rx_rows::{Answer, Calls, Row, RowFault};
+use std::alloc::Global;
+use std::sync::Wait;
+
+/// What rows said of a run, and what is left behind the last one.
+#[derive(Drop)]
+pub(crate) struct RunCalls<'a, R> {
+    rt: &'a R,
+    alloc: Global,
+    desks: Vec<DeskPlan>,
+    /// The calls of the place and of the front that fail.
+    failing: Vec<FailingCall>,
+    finished: Option<Finished>,
+}
+
+/// The item of a number from 1 on.
+fn nth<T>(items: &[T], number: u64) -> Result<&T, RowFault> {
+    if number == 0 {
+        return Err(RowFault::BadCall);
+    }
+    match items.get((number - 1) as usize) {
+        Some(item) => Ok(item),
+        None => Err(RowFault::BadCall),
+    }
+}
+
+impl<'a, R: Wait> RunCalls<'a, R> {
+    /// No desk.
+    pub(crate) fn new(rt: &'a R, alloc: Global) -> RunCalls<'a, R> {
+        RunCalls {
+            rt,
+            alloc,
+            desks: Vec::new(alloc),
+            failing: Vec::new(alloc),
+            finished: None,
+        }
+    }
+
+    /// `new`: forgets all desks, and what is left behind a run.
+    fn forget(&mut self) {
+        self.desks.clear();
+        self.failing.clear();
+        self.finished = None;
+    }
+
+    /// The last desk.
+    fn desk(&mut self) -> Result<&mut DeskPlan, RowFault> {
+        match self.desks.last_mut() {
+            Some(desk) => Ok(desk),
+            None => Err(RowFault::BadCall),
+        }
+    }
+
+    /// Puts a node at a path of the last desk's tree that is filled now.
+    fn put(&mut self, path: RelPath, node: Node) -> Result<(), RowFault> {
+        let desk = self.desk()?;
+        let tree = desk.filling;
+        desk.paths.push(PlannedPath { tree, path, node })?;
+        Ok(())
+    }
+
+    /// `fails PART NUMBER`: the part's call of this number fails.
+    fn add_failure(&mut self, row: &mut Row<'_>) -> Result<(), RowFault> {
+        let part = part_in(row)?;
+        let number = row.number()?;
+        let call = FailingCall { part, number };
+        match part {
+            Part::Place | Part::Front => self.failing.push(call)?,
+            _ => self.desk()?.failing.push(call)?,
+        }
+        Ok(())
+    }
+
+    /// `pieces PART COUNT`: a call on the input or on the output moves so many bytes at most.
+    fn set_piece(&mut self, row: &mut Row<'_>) -> Result<(), RowFault> {
+        let part = part_in(row)?;
+        let most = row.number()? as usize;
+        let desk = self.desk()?;
+        match part {
+            Part::Input => desk.input_piece = most,
+            Part::Output => desk.output_piece = most,
+            _ => return Err(RowFault::BadCall),
+        }
+        Ok(())
+    }
+
+    /// What is left behind the last run.
+    fn last_run(&self) -> Result<&Finished, RowFault> {
+        match &self.finished {
+            Some(finished) => Ok(finished),
+            None => Err(RowFault::BadCall),
+        }
+    }
+
+    /// Rows that say what stands at a path.
+    fn call_paths(&mut self, word: &[u8], row: &mut Row<'_>) -> Result<(), RowFault> {
+        let path = read_path(self.alloc, row)?;
+        let node = match word {
+            b"file" => file_in(self.alloc, row)?,
+            b"sized" => sized_in(self.alloc, row)?,
+            b"dir" => Node::Dir,
+            _ => Node::Other,
+        };
+        self.put(path, node)
+    }
+
+    /// Rows that say which tree the next rows fill.
+    fn call_trees(&mut self, word: &[u8], row: &mut Row<'_>) -> Result<(), RowFault> {
+        let desk = self.desk()?;
+        if word == b"local".as_slice() {
+            desk.local_apart = true;
+            desk.filling = PlannedTree::Local;
+            return Ok(());
+        }
+        desk.changes_after = Some(row.number()?);
+        desk.filling = PlannedTree::Later;
+        Ok(())
+    }
+
+    /// Rows that say which bytes come in. The answer is all of them.
+    fn call_input(
+        &mut self,
+        word: &[u8],
+        row: &mut Row<'_>,
+        answer: &mut Answer,
+    ) -> Result<(), RowFault> {
+        let alloc = self.alloc;
+        let bytes = match word {
+            b"request" => request_frame(alloc, row)?,
+            _ => row.bytes(alloc)?,
+        };
+        let desk = self.desk()?;
+        desk.input.extend_from_slice(&bytes)?;
+        answer.bytes(&desk.input)?;
+        Ok(())
+    }
+
+    /// `run WORDS` and `serve LIMIT`: the status, and how many sessions and entries there are.
+    fn call_runs(
+        &mut self,
+        word: &[u8],
+        row: &mut Row<'_>,
+        answer: &mut Answer,
+    ) -> Result<(), RowFault> {
+        let finished = match word {
+            b"run" => {
+                let words = words_in(self.alloc, row)?;
+                run(self.rt, self.alloc, &words, &self.desks, &self.failing)?
+            }
+            _ => {
+                let limit = row.number()? as usize;
+                let desk = nth(&self.desks, 1)?;
+                serve(self.rt, self.alloc, limit, desk, &self.failing)?
+            }
+        };
+        if let Some(status) = finished.status {
+            show_number(answer, "status", u64::from(status))?;
+        }
+        show_number(answer, "sessions", finished.transcripts.len() as u64)?;
+        show_number(answer, "entries", finished.journal.len() as u64)?;
+        self.finished = Some(finished);
+        Ok(())
+    }
+
+    /// Rows that ask what is left behind a run.
+    fn call_after(
+        &self,
+        word: &[u8],
+        row: &mut Row<'_>,
+        answer: &mut Answer,
+    ) -> Result<(), RowFault> {
+        let alloc = self.alloc;
+        let run = self.last_run()?;
+        if word == b"place".as_slice() {
+            show_files(answer, run.place.files.as_slice())?;
+            return Ok(());
+        }
+        let number = row.number()?;
+        match word {
+            b"session" => show_session(alloc, answer, nth(&run.transcripts, number)?)?,
+            b"frame" => answer.bytes(nth(&run.desks, number)?.output.bytes.as_slice())?,
+            b"entry" => show_entry(alloc, answer, nth(&run.journal, number)?)?,
+            b"reads" => show_reads(answer, nth(&run.desks, number)?)?,
+            _ => show_benches(answer, nth(&run.desks, number)?)?,
+        }
+        Ok(())
+    }
+
+    /// `root WORDS`: the root in the words of a command line.
+    fn call_root(&self, row: &mut Row<'_>, answer: &mut Answer) -> Result<(), RowFault> {
+        let words = words_in(self.alloc, row)?;
+        match root_in(&words) {
+            Some(root) => answer.text(root.as_bytes())?,
+            None => answer.word("none")?,
+        }
+        Ok(())
+    }
+
+    /// Rows that say something of a run that is still to begin.
+    fn call_plans(&mut self, word: &[u8], row: &mut Row<'_>) -> Result<(), RowFault> {
+        match word {
+            b"new" => self.forget(),
+            b"desk" => self.desks.push(DeskPlan::new(self.alloc))?,
+            b"fails" => self.add_failure(row)?,
+            b"pieces" => self.set_piece(row)?,
+            b"local" | b"later" => self.call_trees(word, row)?,
+            b"file" | b"sized" | b"dir" | b"other" => self.call_paths(word, row)?,
+            _ => return Err(RowFault::NoCall),
+        }
+        Ok(())
+    }
+}
+
+impl<'a, R: Wait> Calls for RunCalls<'a, R> {
+    fn call(&mut self, row: &mut Row<'_>, answer: &mut Answer) -> Result<(), RowFault> {
+        let word = row.word()?;
+        match word {
+            b"request" | b"bytes" => self.call_input(word, row, answer),
+            b"run" | b"serve" => self.call_runs(word, row, answer),
+            b"session" | b"frame" | b"entry" | b"place" | b"benches" | b"reads" => {
+                self.call_after(word, row, answer)
+            }
+            b"root" => self.call_root(row, answer),
+            _ => {
+                self.call_plans(word, row)?;
+                answer.word("ok")?;
+                Ok(())
+            }
+        }
+    }
+}

@@ -1,0 +1,122 @@
+//! What rows say of a run before it begins. A plan is data alone, so that a run can be made of it.
+
+ghost use Rattle.std.specs.Prelude.{◌≡◌, IfOk};
+
+use rx_base::{Bytes, NoMemory, RelPath};
+use rx_fakes::Script;
+use rx_world::Stamp;
+use std::alloc::Global;
+
+/// What stands at a path.
+#[derive(Debug, Drop)]
+pub(crate) enum Node {
+    File {
+        stamp: Stamp,
+        executable: bool,
+        bytes: Bytes,
+    },
+    Dir,
+    /// Neither a file nor a directory.
+    Other,
+}
+
+/// The source trees of a desk: which of them has a path.
+#[derive(Clone, Copy, Debug, PartialEq, Eq)]
+pub(crate) enum PlannedTree {
+    /// The one that inputs are gathered from, and the one that the local attempt reads.
+    Both,
+    /// The one that the local attempt reads, where it is another one.
+    Local,
+    /// What both become after some calls on each.
+    Later,
+}
+
+/// A path of a source tree.
+#[derive(Debug, Drop)]
+pub(crate) struct PlannedPath {
+    pub tree: PlannedTree,
+    pub path: RelPath,
+    pub node: Node,
+}
+
+/// What is made of calls that may fail.
+#[derive(Clone, Copy, Debug, PartialEq, Eq)]
+pub(crate) enum Part {
+    Input,
+    Output,
+    Tree,
+    TreeLocal,
+    /// The bench maker.
+    Benches,
+    /// Each bench.
+    Bench,
+    Place,
+    Front,
+}
+
+/// A call that fails, by its number from 1 on.
+#[derive(Clone, Copy, Debug)]
+pub(crate) struct FailingCall {
+    pub part: Part,
+    pub number: u64,
+}
+
+/// A desk, and the trees behind it.
+#[derive(Debug, Drop)]
+pub(crate) struct DeskPlan {
+    /// The bytes that come in.
+    pub input: Vec<u8>,
+    pub paths: Vec<PlannedPath>,
+    /// Where a path goes that the next row names.
+    pub filling: PlannedTree,
+    /// Whether the local attempt reads a tree of its own.
+    pub local_apart: bool,
+    /// After how many calls both trees change.
+    pub changes_after: Option<u64>,
+    pub failing: Vec<FailingCall>,
+    /// How many bytes a call on the input gives, and one on the output takes, at most.
+    pub input_piece: usize,
+    pub output_piece: usize,
+}
+
+impl DeskPlan {
+    /// No byte comes in, and nothing stands in the trees.
+    pub(crate) fn new(alloc: Global) -> DeskPlan {
+        DeskPlan {
+            input: Vec::new(alloc),
+            paths: Vec::new(alloc),
+            filling: PlannedTree::Both,
+            local_apart: false,
+            changes_after: None,
+            failing: Vec::new(alloc),
+            input_piece: usize::MAX,
+            output_piece: usize::MAX,
+        }
+    }
+}
+
+/// The numbers of a part's calls that fail.
+pub(crate) fn failing_calls(
+    alloc: Global,
+    failing: &[FailingCall],
+    part: Part,
+) -> Result<Vec<u64>, NoMemory> {
+    let mut numbers = Vec::new(alloc);
+    for call in failing {
+        if call.part == part {
+            numbers.push(call.number)?;
+        }
+    }
+    Ok(numbers)
+}
+
+/// The script of a part.
+pub(crate) fn script_for(
+    alloc: Global,
+    failing: &[FailingCall],
+    part: Part,
+) -> Result<Script, NoMemory>
+    ensures { IfOk result (λ script. script.faults ≡ 0) }
+{
+    Ok(Script::new(failing_calls(alloc, failing, part)?))
+}

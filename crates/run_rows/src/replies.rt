@@ -1,0 +1,146 @@
+//! Replies in words.
+
+use rx_base::{NoMemory, RelPath};
+use rx_row_values::write_changed;
+use rx_rows::Answer;
+use rx_session::Reply;
+use rx_world::{Cause, ChangedInput, Failure, LocalCause};
+use std::alloc::Global;
+
+/// A word and a path.
+fn show_path(answer: &mut Answer, word: &str, path: &RelPath) -> Result<(), NoMemory> {
+    answer.word(word)?;
+    answer.text(path.as_str().as_bytes())
+}
+
+/// A word and a number.
+pub(crate) fn show_number(answer: &mut Answer, word: &str, number: u64) -> Result<(), NoMemory> {
+    answer.word(word)?;
+    answer.number(number)
+}
+
+/// An input that changed, with both values.
+fn show_changed(alloc: Global, answer: &mut Answer, input: &ChangedInput) -> Result<(), NoMemory> {
+    show_path(answer, "InputChanged", &input.path)?;
+    write_changed(alloc, answer, input)
+}
+
+/// Why a local attempt has no outcome.
+fn show_cause(alloc: Global, answer: &mut Answer, cause: &Cause) -> Result<(), NoMemory> {
+    match cause {
+        Cause::BenchFault { step } => {
+            answer.word("BenchFault")?;
+            answer.value(step)
+        }
+        Cause::OutputMissing { path } => show_path(answer, "OutputMissing", path),
+        Cause::InputChanged(input) => show_changed(alloc, answer, input),
+        Cause::OutputTooLarge { limit, n } => {
+            answer.word("OutputTooLarge")?;
+            answer.value(limit)?;
+            answer.number(*n)
+        }
+        Cause::SourceFault { path } => show_path(answer, "SourceFault", path),
+        Cause::Stopped { decision } => {
+            answer.word("Stopped")?;
+            answer.value(decision)
+        }
+        Cause::NoMemory => answer.word("NoMemory"),
+    }
+}
+
+fn show_failure(alloc: Global, answer: &mut Answer, failure: &Failure) -> Result<(), NoMemory> {
+    match failure {
+        Failure::Local { cause } => {
+            answer.word("local")?;
+            show_cause(alloc, answer, cause)
+        }
+        Failure::Remote { cause } => {
+            answer.word("remote")?;
+            answer.value(cause)
+        }
+        Failure::NonZero { exit } => {
+            answer.word("NonZero")?;
+            answer.value(exit)
+        }
+    }
+}
+
+fn show_failures(alloc: Global, answer: &mut Answer, failures: &[Failure]) -> Result<(), NoMemory> {
+    answer.word("AllFailed")?;
+    for failure in failures {
+        show_failure(alloc, answer, failure)?;
+    }
+    Ok(())
+}
+
+/// The word or the path that keeps a command on this machine.
+fn show_local_cause(answer: &mut Answer, cause: &LocalCause) -> Result<(), NoMemory> {
+    answer.word("NotRemotable")?;
+    match cause {
+        LocalCause::Word { word } => {
+            answer.word("word")?;
+            answer.text(word.as_str().as_bytes())
+        }
+        LocalCause::Path { path } => show_path(answer, "path", path),
+    }
+}
+
+/// How a command ended, and what was published.
+fn show_done(answer: &mut Answer, reply: &Reply) -> Result<(), NoMemory> {
+    let Reply::Done {
+        exit,
+        stdout,
+        stderr,
+        origin,
+        receipt,
+        placed,
+    } = reply
+    else {
+        return Ok(());
+    };
+    answer.word("Done")?;
+    answer.value(exit)?;
+    answer.text(stdout.as_slice())?;
+    answer.text(stderr.as_slice())?;
+    answer.value(origin)?;
+    show_number(answer, "receipt", *receipt)?;
+    show_number(answer, "placed", *placed)
+}
+
+/// A reply: its name, and what it tells.
+pub(crate) fn show_reply(
+    alloc: Global,
+    answer: &mut Answer,
+    reply: &Reply,
+) -> Result<(), NoMemory> {
+    match reply {
+        Reply::Done { .. } => show_done(answer, reply),
+        Reply::BadRequest { bad } => {
+            answer.word("BadRequest")?;
+            answer.value(&bad.reason)?;
+            answer.number(bad.value)
+        }
+        Reply::NotRemotable { cause } => show_local_cause(answer, cause),
+        Reply::InputMissing { path } => show_path(answer, "InputMissing", path),
+        Reply::InputChanged(input) => show_changed(alloc, answer, input),
+        Reply::SourceFault { path } => show_path(answer, "SourceFault", path),
+        Reply::TooLarge { limit, n, path } => {
+            answer.word("TooLarge")?;
+            answer.value(limit)?;
+            answer.number(*n)?;
+            match path {
+                None => Ok(()),
+                Some(path) => answer.text(path.as_str().as_bytes()),
+            }
+        }
+        Reply::AllFailed { failures } => show_failures(alloc, answer, failures.as_slice()),
+        Reply::PlaceFault { receipt, placed } => {
+            answer.word("PlaceFault")?;
+            show_number(answer, "receipt", *receipt)?;
+            show_number(answer, "placed", *placed)
+        }
+        Reply::JournalFull => answer.word("JournalFull"),
+        Reply::NoMemory => answer.word("NoMemory"),
+        Reply::Blocked { path } => show_path(answer, "Blocked", path),
+    }
+}

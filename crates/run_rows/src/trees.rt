@@ -1,0 +1,104 @@
+//! Source trees and desks, made of their plans.
+
+use crate::desks::MemoryDesk;
+use crate::plans::{DeskPlan, Node, Part, PlannedPath, PlannedTree, failing_calls, script_for};
+use rx_base::{NoMemory, TryClone};
+use rx_engine::Parts;
+use rx_fakes::{Change, MemorySink, MemorySource, MemorySources, SourceEntries, ToyBenches, When};
+use std::alloc::Global;
+use std::marker::Brand;
+
+/// Adds what stands at a path.
+fn add_path(
+    alloc: Global,
+    entries: &mut SourceEntries<Brand>,
+    planned: &PlannedPath,
+) -> Result<(), NoMemory> {
+    let path = planned.path.try_clone(alloc)?;
+    match &planned.node {
+        Node::File {
+            stamp,
+            executable,
+            bytes,
+        } => {
+            let bytes = bytes.try_clone(alloc)?;
+            entries.add_stamped(path, *stamp, *executable, bytes)
+        }
+        Node::Dir => entries.add_dir(alloc, path),
+        Node::Other => entries.add_other(alloc, path),
+    }
+}
+
+/// What a tree has.
+fn entries_of(
+    alloc: Global,
+    paths: &[PlannedPath],
+    tree: PlannedTree,
+) -> Result<SourceEntries<Brand>, NoMemory> {
+    let mut entries = SourceEntries::new(alloc);
+    for planned in paths {
+        if planned.tree == tree {
+            add_path(alloc, &mut entries, planned)?;
+        }
+    }
+    Ok(entries)
+}
+
+/// What the trees become, where they change.
+fn change_of(alloc: Global, plan: &DeskPlan) -> Result<Option<Change<Brand>>, NoMemory> {
+    match plan.changes_after {
+        None => Ok(None),
+        Some(count) => Ok(Some(Change {
+            when: When::AfterCalls(count),
+            entries: entries_of(alloc, &plan.paths, PlannedTree::Later)?,
+        })),
+    }
+}
+
+fn sources_of(
+    alloc: Global,
+    plan: &DeskPlan,
+    tree: PlannedTree,
+    part: Part,
+) -> Result<MemorySources<Brand>, NoMemory> {
+    let entries = entries_of(alloc, &plan.paths, tree)?;
+    let change = change_of(alloc, plan)?;
+    let script = script_for(alloc, &plan.failing, part)?;
+    Ok(MemorySources::new(alloc, entries, change, script))
+}
+
+fn benches_of(alloc: Global, plan: &DeskPlan) -> Result<ToyBenches, NoMemory> {
+    let fails = failing_calls(alloc, &plan.failing, Part::Bench)?;
+    let script = script_for(alloc, &plan.failing, Part::Benches)?;
+    Ok(ToyBenches::new(alloc, fails, script))
+}
+
+fn input_of(alloc: Global, plan: &DeskPlan) -> Result<MemorySource, NoMemory> {
+    let script = script_for(alloc, &plan.failing, Part::Input)?;
+    let mut input = MemorySource::new(plan.input.to_vec(alloc)?, script);
+    input.most = plan.input_piece;
+    Ok(input)
+}
+
+fn output_of(alloc: Global, plan: &DeskPlan) -> Result<MemorySink, NoMemory> {
+    let script = script_for(alloc, &plan.failing, Part::Output)?;
+    let mut output = MemorySink::new(alloc, script);
+    output.most = plan.output_piece;
+    Ok(output)
+}
+
+/// The desk of a plan.
+pub(crate) fn desk_of(alloc: Global, plan: &DeskPlan) -> Result<MemoryDesk, NoMemory> {
+    let local = if plan.local_apart {
+        PlannedTree::Local
+    } else {
+        PlannedTree::Both
+    };
+    Ok(Parts {
+        input: input_of(alloc, plan)?,
+        output: output_of(alloc, plan)?,
+        tree: sources_of(alloc, plan, PlannedTree::Both, Part::Tree)?,
+        tree_local: sources_of(alloc, plan, local, Part::TreeLocal)?,
+        benches: benches_of(alloc, plan)?,
+    })
+}
