@@ -4,11 +4,11 @@ use Rattle.rx_base.specs.Digests.{digest_of}
 use Rattle.rx_base.specs.Results.{◌>>=◌}
 use Rattle.rx_base.specs.declared.digests.Digest.{Digest}
 use Rattle.rx_messages.specs.Actions.{action_fields, action_from, action_parts}
-use Rattle.rx_messages.specs.Decoding.{any_form, decoded}
-use Rattle.rx_messages.specs.FieldBytes.{fields_bytes}
+use Rattle.rx_codec.specs.Decoding.{any_form, decoded}
+use Rattle.rx_codec.specs.FieldBytes.{fields_bytes}
 use Rattle.rx_messages.specs.declared.actions.Action.{Action}
 use Rattle.rx_messages.specs.declared.actions.Duration.{Duration}
-use Rattle.rx_messages.specs.declared.faults.MessageFault.{MessageFault}
+use Rattle.rx_codec.specs.declared.faults.MessageFault.{MessageFault}
 use Rattle.rx_world.specs.declared.commands.Command.{Command}
 use Rattle.rx_action.specs.Commands.{command_bytes, platform_of}
 use Rattle.rx_action.specs.OutputPaths.{checked, misplaced}

@@ -1,13 +1,13 @@
 -- The Command message of a command (remote_execution.proto, Command, Platform).
 use Rattle.std.specs.Prelude.{ℕ, List, [], ◌∷◌, map, Option, Some, None, Result}
 use Rattle.rx_messages.specs.Commands.{command_fields, command_from, command_parts}
-use Rattle.rx_messages.specs.Decoding.{any_form, decoded}
-use Rattle.rx_messages.specs.FieldBytes.{fields_bytes}
+use Rattle.rx_codec.specs.Decoding.{any_form, decoded}
+use Rattle.rx_codec.specs.FieldBytes.{fields_bytes}
 use Rattle.rx_messages.specs.declared.commands.EnvironmentVariable.{EnvironmentVariable}
 use Rattle.rx_messages.specs.declared.commands.Platform.{Platform}
 use Rattle.rx_messages.specs.declared.commands.Property.{Property}
 use Rattle.rx_messages.specs.declared.commands.Command.{Command as Message}
-use Rattle.rx_messages.specs.declared.faults.MessageFault.{MessageFault}
+use Rattle.rx_codec.specs.declared.faults.MessageFault.{MessageFault}
 use Rattle.rx_world.specs.declared.commands.Command.{Command}
 use Rattle.rx_world.specs.declared.commands.Pair.{Pair}
 use Rattle.rx_action.specs.OutputPaths.{output_paths}

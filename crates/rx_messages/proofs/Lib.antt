@@ -1,11 +1,3 @@
-pub mod ContentLaws
-pub mod DecodeLaws
-pub mod DigestLaws
-pub mod EachLemmas
-pub mod FieldRead
 pub mod NameLaws
 pub mod OneForm
-pub mod PartLaws
-pub mod ReadLemmas
-pub mod SliceLemmas
 pub mod TreeLaws

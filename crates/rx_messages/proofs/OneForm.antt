@@ -3,7 +3,7 @@ use Rattle.std.specs.Prelude.{◌≡◌, ℕ, Bool, true, false, not, List, refl
 use Rattle.std.proofs.Common.{ap, ◌∙◌}
 use Rattle.std.specs.Str.{bytes_eq}
 use Rattle.std.proofs.lemmas.Slice.Eq.{bytes_eq-Decides}
-use Rattle.rx_messages.specs.FieldBytes.{fields_bytes}
+use Rattle.rx_codec.specs.FieldBytes.{fields_bytes}
 use Rattle.rx_messages.specs.Directories.{directory_fields, directory_has_one_form, directory_is_readable}
 use Rattle.rx_messages.specs.declared.directories.Directory.{Directory}
 

@@ -6,14 +6,14 @@ use Rattle.std.proofs.Math.Seq.{drop-cons}
 use Rattle.rx_base.specs.Texts.{texts as slices}
 use Rattle.std.specs.List.{AllByRecursion}
 use Rattle.std.proofs.lemmas.List.{append-nil, drop_all, get_or-map, length-map}
-use Rattle.rx_messages.specs.Contents.{chunks, each_put, one_put}
+use Rattle.rx_codec.specs.Contents.{chunks, each_put, one_put}
 use Rattle.rx_messages.specs.Directories.{directory_fields, directory_has_one_form, directory_is_readable}
-use Rattle.rx_messages.specs.FieldBytes.{contents, fields_bytes, fields_in}
+use Rattle.rx_codec.specs.FieldBytes.{contents, fields_bytes, fields_in}
 use Rattle.rx_messages.proofs.OneForm.{form_of}
 use Rattle.rx_messages.specs.Trees.{each_has_one_form, root_has_one_form, tree_fields, tree_has_one_form, tree_is_readable}
 use Rattle.rx_messages.specs.declared.directories.Directory.{Directory}
 use Rattle.rx_messages.specs.declared.trees.Tree.{Tree}
-use Rattle.rx_messages.proofs.ContentLaws.{contents-append, contents-numbered}
+use Rattle.rx_codec.proofs.ContentLaws.{contents-append, contents-numbered}
 
 root_form : (root : Option Directory) → IfSome root directory_is_readable → root_has_one_form (chunks (one_put directory_fields root)) root ≡ true
 unfolding root_has_one_form one_put chunks

@@ -2,10 +2,10 @@
 use Rattle.std.specs.Prelude.{ℕ, ◌==◌, List, ◌++◌, Result, Ok, if◌then◌else◌}
 use Rattle.rx_base.specs.Results.{◌>>=◌}
 use Rattle.rx_wire.specs.Values.{Field}
-use Rattle.rx_messages.specs.Contents.{each_in, each_put, one_in, one_put, text_in, text_put, texts_in, texts_put}
-use Rattle.rx_messages.specs.FieldBytes.{contents, numbered}
-use Rattle.rx_messages.specs.Parts.{Part, anything, message, text}
-use Rattle.rx_messages.specs.declared.faults.MessageFault.{MessageFault}
+use Rattle.rx_codec.specs.Contents.{each_in, each_put, one_in, one_put, text_in, text_put, texts_in, texts_put}
+use Rattle.rx_codec.specs.FieldBytes.{contents, numbered}
+use Rattle.rx_codec.specs.Parts.{Part, anything, message, text}
+use Rattle.rx_codec.specs.declared.faults.MessageFault.{MessageFault}
 use Rattle.rx_messages.specs.declared.commands.EnvironmentVariable.{EnvironmentVariable}
 use Rattle.rx_messages.specs.declared.commands.Property.{Property}
 use Rattle.rx_messages.specs.declared.commands.Platform.{Platform}

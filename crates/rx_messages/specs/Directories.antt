@@ -2,11 +2,11 @@
 use Rattle.std.specs.Prelude.{◌≡◌, ℕ, ◌==◌, Bool, true, false, not, List, ◌++◌, map, Result, Ok, is_some, if◌then◌else◌}
 use Rattle.rx_base.specs.Results.{◌>>=◌}
 use Rattle.rx_wire.specs.Values.{Field}
-use Rattle.rx_messages.specs.Contents.{each_in, each_put}
-use Rattle.rx_messages.specs.FieldBytes.{contents, fields_bytes, numbered}
+use Rattle.rx_codec.specs.Contents.{each_in, each_put}
+use Rattle.rx_codec.specs.FieldBytes.{contents, fields_bytes, numbered}
 use Rattle.rx_messages.specs.Nodes.{directory_node_fields, directory_node_from, directory_node_is_readable, directory_node_parts, file_node_fields, file_node_from, file_node_is_readable, file_node_parts, symlink_node_fields, symlink_node_from, symlink_node_parts}
-use Rattle.rx_messages.specs.Parts.{Part, anything, message}
-use Rattle.rx_messages.specs.declared.faults.MessageFault.{MessageFault}
+use Rattle.rx_codec.specs.Parts.{Part, anything, message}
+use Rattle.rx_codec.specs.declared.faults.MessageFault.{MessageFault}
 use Rattle.std.specs.List.{AllByRecursion}
 use Rattle.std.specs.Str.{bytes_eq}
 use Rattle.rx_messages.specs.Names.{are_distinct, entries_hold}

@@ -2,17 +2,10 @@ pub mod Actions
 pub mod Batches
 pub mod Blobs
 pub mod Commands
-pub mod Contents
-pub mod Decoding
-pub mod Digests
 pub mod Directories
-pub mod FieldBytes
 pub mod Names
 pub mod Nodes
 pub mod Outputs
-pub mod Parts
 pub mod Results
-pub mod Seen
 pub mod Statuses
 pub mod Trees
-pub mod Written

@@ -2,11 +2,11 @@
 use Rattle.std.specs.Prelude.{ℕ, ◌==◌, List, ◌++◌, Result, Ok, IfSome, if◌then◌else◌}
 use Rattle.rx_base.specs.Results.{◌>>=◌}
 use Rattle.rx_wire.specs.Values.{Field}
-use Rattle.rx_messages.specs.Contents.{one_in, one_put, text_in, text_put, truth_in, truth_put}
-use Rattle.rx_messages.specs.FieldBytes.{contents, numbered}
-use Rattle.rx_messages.specs.Parts.{Part, anything, message, text}
-use Rattle.rx_messages.specs.declared.faults.MessageFault.{MessageFault}
-use Rattle.rx_messages.specs.Digests.{digest_fields, digest_from, digest_is_readable, digest_parts}
+use Rattle.rx_codec.specs.Contents.{one_in, one_put, text_in, text_put, truth_in, truth_put}
+use Rattle.rx_codec.specs.FieldBytes.{contents, numbered}
+use Rattle.rx_codec.specs.Parts.{Part, anything, message, text}
+use Rattle.rx_codec.specs.declared.faults.MessageFault.{MessageFault}
+use Rattle.rx_codec.specs.Digests.{digest_fields, digest_from, digest_is_readable, digest_parts}
 use Rattle.rx_messages.specs.declared.outputs.OutputFile.{OutputFile}
 use Rattle.rx_messages.specs.declared.outputs.OutputDirectory.{OutputDirectory}
 use Rattle.rx_messages.specs.declared.outputs.OutputSymlink.{OutputSymlink}

@@ -3,11 +3,11 @@ use Rattle.std.specs.Prelude.{ℕ, ◌==◌, List, ◌++◌, Result, Ok, IfSome,
 use Rattle.std.specs.List.{AllByRecursion}
 use Rattle.rx_base.specs.Results.{◌>>=◌}
 use Rattle.rx_wire.specs.Values.{Field}
-use Rattle.rx_messages.specs.Contents.{each_in, each_put, int32_in, int32_put, joined_in, one_in, one_put, text_in, text_put}
-use Rattle.rx_messages.specs.FieldBytes.{contents, numbered}
-use Rattle.rx_messages.specs.Parts.{Part, anything, message}
-use Rattle.rx_messages.specs.declared.faults.MessageFault.{MessageFault}
-use Rattle.rx_messages.specs.Digests.{digest_fields, digest_from, digest_is_readable, digest_parts}
+use Rattle.rx_codec.specs.Contents.{each_in, each_put, int32_in, int32_put, joined_in, one_in, one_put, text_in, text_put}
+use Rattle.rx_codec.specs.FieldBytes.{contents, numbered}
+use Rattle.rx_codec.specs.Parts.{Part, anything, message}
+use Rattle.rx_codec.specs.declared.faults.MessageFault.{MessageFault}
+use Rattle.rx_codec.specs.Digests.{digest_fields, digest_from, digest_is_readable, digest_parts}
 use Rattle.rx_messages.specs.Outputs.{output_directory_fields, output_directory_from, output_directory_is_readable, output_directory_parts, output_file_fields, output_file_from, output_file_is_readable, output_file_parts, output_symlink_fields, output_symlink_from, output_symlink_parts}
 use Rattle.rx_messages.specs.declared.results.ActionResult.{ActionResult}
 

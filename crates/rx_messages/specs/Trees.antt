@@ -3,11 +3,11 @@ use Rattle.std.specs.Prelude.{ℕ, ◌==◌, Bool, true, false, not, List, [], �
 use Rattle.std.specs.List.{AllByRecursion, concat}
 use Rattle.rx_base.specs.Results.{◌>>=◌}
 use Rattle.rx_wire.specs.Values.{Field}
-use Rattle.rx_messages.specs.Contents.{chunks, each_in, each_put, one_in, one_put}
+use Rattle.rx_codec.specs.Contents.{chunks, each_in, each_put, one_in, one_put}
 use Rattle.rx_messages.specs.Directories.{directory_fields, directory_from, directory_has_one_form, directory_is_readable, directory_parts}
-use Rattle.rx_messages.specs.FieldBytes.{contents, fields_in, numbered}
-use Rattle.rx_messages.specs.Parts.{Part, anything, message}
-use Rattle.rx_messages.specs.declared.faults.MessageFault.{MessageFault}
+use Rattle.rx_codec.specs.FieldBytes.{contents, fields_in, numbered}
+use Rattle.rx_codec.specs.Parts.{Part, anything, message}
+use Rattle.rx_codec.specs.declared.faults.MessageFault.{MessageFault}
 use Rattle.rx_messages.specs.declared.directories.Directory.{Directory}
 use Rattle.rx_messages.specs.declared.trees.Tree.{Tree}
 

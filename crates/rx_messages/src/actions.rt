@@ -1,13 +1,9 @@
 //! What is run on which tree (`remote_execution.proto`, Action).
 
-use crate::checking::check_message;
 use crate::commands::Platform;
-use crate::faults::MessageFault;
-use crate::field_list::FieldList;
-use crate::message::{Message, Shape};
 use crate::numbers::{action, duration};
-use crate::writer::Writer;
 use rx_base::{Bytes, Digest, NoMemory};
+use rx_codec::{FieldList, Message, MessageFault, Shape, Writer, check_message};
 use rx_wire::{Fields, Value, WireFault};
 use std::alloc::Global;
 
@@ -24,7 +20,7 @@ impl Shape for Duration {
 }
 
 impl Message for Duration {
-    ghost use Rattle.rx_messages.specs.Decoding.{any_form};
+    ghost use Rattle.rx_codec.specs.Decoding.{any_form};
     ghost use Rattle.rx_messages.specs.Actions.{duration_fields, duration_from, duration_is_readable};
 
     ghost fields = { duration_fields };
@@ -35,7 +31,7 @@ impl Message for Duration {
 
     ghost IsReadable = { duration_is_readable };
 
-    #[tactic(auto, unfolding(crate::specs::Parts::part_checked))]
+    #[tactic(auto, unfolding(rx_codec::specs::Parts::part_checked))]
     fn check_field(number: u32, value: Value<'_>, read: &Fields<'_>) -> Result<(), WireFault> {
         Ok(())
     }
@@ -78,7 +74,7 @@ impl Shape for Action {
 }
 
 impl Message for Action {
-    ghost use Rattle.rx_messages.specs.Decoding.{any_form};
+    ghost use Rattle.rx_codec.specs.Decoding.{any_form};
     ghost use Rattle.rx_messages.specs.Actions.{action_fields, action_from, action_is_readable};
 
     ghost fields = { action_fields };
@@ -89,7 +85,7 @@ impl Message for Action {
 
     ghost IsReadable = { action_is_readable };
 
-    #[tactic(auto, unfolding(crate::specs::Parts::part_checked))]
+    #[tactic(auto, unfolding(rx_codec::specs::Parts::part_checked))]
     fn check_field(number: u32, value: Value<'_>, read: &Fields<'_>) -> Result<(), WireFault> {
         match number {
             action::COMMAND_DIGEST | action::INPUT_ROOT_DIGEST => check_message::<Digest>(

@@ -1,13 +1,9 @@
 //! Small blobs that are read in one call (`remote_execution.proto`, BatchReadBlobs).
 
-use crate::checking::{check_message, check_text};
-use crate::faults::MessageFault;
-use crate::field_list::FieldList;
-use crate::message::{Message, Shape};
 use crate::numbers::{batch_read_blobs_request, batch_read_blobs_response, blob_read};
 use crate::statuses::Status;
-use crate::writer::Writer;
 use rx_base::{Bytes, Digest, Items, NoMemory, Text};
+use rx_codec::{FieldList, Message, MessageFault, Shape, Writer, check_message, check_text};
 use rx_wire::{Fields, Value, WireFault};
 use std::alloc::Global;
 
@@ -25,7 +21,7 @@ impl Shape for BatchReadBlobsRequest {
 }
 
 impl Message for BatchReadBlobsRequest {
-    ghost use Rattle.rx_messages.specs.Decoding.{any_form};
+    ghost use Rattle.rx_codec.specs.Decoding.{any_form};
     ghost use Rattle.rx_messages.specs.Batches.{batch_read_blobs_request_fields, batch_read_blobs_request_from, batch_read_blobs_request_is_readable};
 
     ghost fields = { batch_read_blobs_request_fields };
@@ -36,7 +32,7 @@ impl Message for BatchReadBlobsRequest {
 
     ghost IsReadable = { batch_read_blobs_request_is_readable };
 
-    #[tactic(auto, unfolding(crate::specs::Parts::part_checked))]
+    #[tactic(auto, unfolding(rx_codec::specs::Parts::part_checked))]
     fn check_field(number: u32, value: Value<'_>, read: &Fields<'_>) -> Result<(), WireFault> {
         match number {
             batch_read_blobs_request::INSTANCE_NAME => check_text(number, value, read),
@@ -91,7 +87,7 @@ impl Shape for BlobRead {
 }
 
 impl Message for BlobRead {
-    ghost use Rattle.rx_messages.specs.Decoding.{any_form};
+    ghost use Rattle.rx_codec.specs.Decoding.{any_form};
     ghost use Rattle.rx_messages.specs.Batches.{blob_read_fields, blob_read_from, blob_read_is_readable};
 
     ghost fields = { blob_read_fields };
@@ -102,7 +98,7 @@ impl Message for BlobRead {
 
     ghost IsReadable = { blob_read_is_readable };
 
-    #[tactic(auto, unfolding(crate::specs::Parts::part_checked))]
+    #[tactic(auto, unfolding(rx_codec::specs::Parts::part_checked))]
     fn check_field(number: u32, value: Value<'_>, read: &Fields<'_>) -> Result<(), WireFault> {
         match number {
             blob_read::DIGEST => check_message::<Digest>(number, value, read),
@@ -151,7 +147,7 @@ impl Shape for BatchReadBlobsResponse {
 }
 
 impl Message for BatchReadBlobsResponse {
-    ghost use Rattle.rx_messages.specs.Decoding.{any_form};
+    ghost use Rattle.rx_codec.specs.Decoding.{any_form};
     ghost use Rattle.rx_messages.specs.Batches.{batch_read_blobs_response_fields, batch_read_blobs_response_from, batch_read_blobs_response_is_readable};
 
     ghost fields = { batch_read_blobs_response_fields };
@@ -162,7 +158,7 @@ impl Message for BatchReadBlobsResponse {
 
     ghost IsReadable = { batch_read_blobs_response_is_readable };
 
-    #[tactic(auto, unfolding(crate::specs::Parts::part_checked))]
+    #[tactic(auto, unfolding(rx_codec::specs::Parts::part_checked))]
     fn check_field(number: u32, value: Value<'_>, read: &Fields<'_>) -> Result<(), WireFault> {
         match number {
             batch_read_blobs_response::RESPONSES => check_message::<BlobRead>(number, value, read),

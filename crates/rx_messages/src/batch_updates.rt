@@ -1,15 +1,11 @@
 //! Small blobs that are stored in one call (`remote_execution.proto`, BatchUpdateBlobs).
 
-use crate::checking::{check_message, check_text};
-use crate::faults::MessageFault;
-use crate::field_list::FieldList;
-use crate::message::{Message, Shape};
 use crate::numbers::{
     batch_update_blobs_request, batch_update_blobs_response, blob_update, blob_updated,
 };
 use crate::statuses::Status;
-use crate::writer::Writer;
 use rx_base::{Bytes, Digest, Items, NoMemory, Text};
+use rx_codec::{FieldList, Message, MessageFault, Shape, Writer, check_message, check_text};
 use rx_wire::{Fields, Value, WireFault};
 use std::alloc::Global;
 
@@ -27,7 +23,7 @@ impl Shape for BlobUpdate {
 }
 
 impl Message for BlobUpdate {
-    ghost use Rattle.rx_messages.specs.Decoding.{any_form};
+    ghost use Rattle.rx_codec.specs.Decoding.{any_form};
     ghost use Rattle.rx_messages.specs.Batches.{blob_update_fields, blob_update_from, blob_update_is_readable};
 
     ghost fields = { blob_update_fields };
@@ -38,7 +34,7 @@ impl Message for BlobUpdate {
 
     ghost IsReadable = { blob_update_is_readable };
 
-    #[tactic(auto, unfolding(crate::specs::Parts::part_checked))]
+    #[tactic(auto, unfolding(rx_codec::specs::Parts::part_checked))]
     fn check_field(number: u32, value: Value<'_>, read: &Fields<'_>) -> Result<(), WireFault> {
         match number {
             blob_update::DIGEST => check_message::<Digest>(number, value, read),
@@ -81,7 +77,7 @@ impl Shape for BatchUpdateBlobsRequest {
 }
 
 impl Message for BatchUpdateBlobsRequest {
-    ghost use Rattle.rx_messages.specs.Decoding.{any_form};
+    ghost use Rattle.rx_codec.specs.Decoding.{any_form};
     ghost use Rattle.rx_messages.specs.Batches.{batch_update_blobs_request_fields, batch_update_blobs_request_from, batch_update_blobs_request_is_readable};
 
     ghost fields = { batch_update_blobs_request_fields };
@@ -92,7 +88,7 @@ impl Message for BatchUpdateBlobsRequest {
 
     ghost IsReadable = { batch_update_blobs_request_is_readable };
 
-    #[tactic(auto, unfolding(crate::specs::Parts::part_checked))]
+    #[tactic(auto, unfolding(rx_codec::specs::Parts::part_checked))]
     fn check_field(number: u32, value: Value<'_>, read: &Fields<'_>) -> Result<(), WireFault> {
         match number {
             batch_update_blobs_request::INSTANCE_NAME => check_text(number, value, read),
@@ -148,7 +144,7 @@ impl Shape for BlobUpdated {
 }
 
 impl Message for BlobUpdated {
-    ghost use Rattle.rx_messages.specs.Decoding.{any_form};
+    ghost use Rattle.rx_codec.specs.Decoding.{any_form};
     ghost use Rattle.rx_messages.specs.Batches.{blob_updated_fields, blob_updated_from, blob_updated_is_readable};
 
     ghost fields = { blob_updated_fields };
@@ -159,7 +155,7 @@ impl Message for BlobUpdated {
 
     ghost IsReadable = { blob_updated_is_readable };
 
-    #[tactic(auto, unfolding(crate::specs::Parts::part_checked))]
+    #[tactic(auto, unfolding(rx_codec::specs::Parts::part_checked))]
     fn check_field(number: u32, value: Value<'_>, read: &Fields<'_>) -> Result<(), WireFault> {
         match number {
             blob_updated::DIGEST => check_message::<Digest>(number, value, read),
@@ -202,7 +198,7 @@ impl Shape for BatchUpdateBlobsResponse {
 }
 
 impl Message for BatchUpdateBlobsResponse {
-    ghost use Rattle.rx_messages.specs.Decoding.{any_form};
+    ghost use Rattle.rx_codec.specs.Decoding.{any_form};
     ghost use Rattle.rx_messages.specs.Batches.{batch_update_blobs_response_fields, batch_update_blobs_response_from, batch_update_blobs_response_is_readable};
 
     ghost fields = { batch_update_blobs_response_fields };
@@ -213,7 +209,7 @@ impl Message for BatchUpdateBlobsResponse {
 
     ghost IsReadable = { batch_update_blobs_response_is_readable };
 
-    #[tactic(auto, unfolding(crate::specs::Parts::part_checked))]
+    #[tactic(auto, unfolding(rx_codec::specs::Parts::part_checked))]
     fn check_field(number: u32, value: Value<'_>, read: &Fields<'_>) -> Result<(), WireFault> {
         match number {
             batch_update_blobs_response::RESPONSES => check_message::<BlobUpdated>(

@@ -1,12 +1,8 @@
 //! Which blobs the store lacks (`remote_execution.proto`, FindMissingBlobs).
 
-use crate::checking::{check_message, check_text};
-use crate::faults::MessageFault;
-use crate::field_list::FieldList;
-use crate::message::{Message, Shape};
 use crate::numbers::{find_missing_blobs_request, find_missing_blobs_response};
-use crate::writer::Writer;
 use rx_base::{Digest, Items, NoMemory, Text};
+use rx_codec::{FieldList, Message, MessageFault, Shape, Writer, check_message, check_text};
 use rx_wire::{Fields, Value, WireFault};
 use std::alloc::Global;
 
@@ -24,7 +20,7 @@ impl Shape for FindMissingBlobsRequest {
 }
 
 impl Message for FindMissingBlobsRequest {
-    ghost use Rattle.rx_messages.specs.Decoding.{any_form};
+    ghost use Rattle.rx_codec.specs.Decoding.{any_form};
     ghost use Rattle.rx_messages.specs.Blobs.{find_missing_blobs_request_fields, find_missing_blobs_request_from, find_missing_blobs_request_is_readable};
 
     ghost fields = { find_missing_blobs_request_fields };
@@ -35,7 +31,7 @@ impl Message for FindMissingBlobsRequest {
 
     ghost IsReadable = { find_missing_blobs_request_is_readable };
 
-    #[tactic(auto, unfolding(crate::specs::Parts::part_checked))]
+    #[tactic(auto, unfolding(rx_codec::specs::Parts::part_checked))]
     fn check_field(number: u32, value: Value<'_>, read: &Fields<'_>) -> Result<(), WireFault> {
         match number {
             find_missing_blobs_request::INSTANCE_NAME => check_text(number, value, read),
@@ -94,7 +90,7 @@ impl Shape for FindMissingBlobsResponse {
 }
 
 impl Message for FindMissingBlobsResponse {
-    ghost use Rattle.rx_messages.specs.Decoding.{any_form};
+    ghost use Rattle.rx_codec.specs.Decoding.{any_form};
     ghost use Rattle.rx_messages.specs.Blobs.{find_missing_blobs_response_fields, find_missing_blobs_response_from, find_missing_blobs_response_is_readable};
 
     ghost fields = { find_missing_blobs_response_fields };
@@ -105,7 +101,7 @@ impl Message for FindMissingBlobsResponse {
 
     ghost IsReadable = { find_missing_blobs_response_is_readable };
 
-    #[tactic(auto, unfolding(crate::specs::Parts::part_checked))]
+    #[tactic(auto, unfolding(rx_codec::specs::Parts::part_checked))]
     fn check_field(number: u32, value: Value<'_>, read: &Fields<'_>) -> Result<(), WireFault> {
         match number {
             find_missing_blobs_response::MISSING_BLOB_DIGESTS => check_message::<Digest>(

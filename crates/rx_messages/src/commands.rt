@@ -1,12 +1,8 @@
 //! What is run (`remote_execution.proto`, Command, Platform).
 
-use crate::checking::{check_message, check_text};
-use crate::faults::MessageFault;
-use crate::field_list::FieldList;
-use crate::message::{Message, Shape};
 use crate::numbers::{command, environment_variable, platform, property};
-use crate::writer::Writer;
 use rx_base::{Items, NoMemory, Text};
+use rx_codec::{FieldList, Message, MessageFault, Shape, Writer, check_message, check_text};
 use rx_wire::{Fields, Value, WireFault};
 use std::alloc::Global;
 
@@ -24,7 +20,7 @@ impl Shape for EnvironmentVariable {
 }
 
 impl Message for EnvironmentVariable {
-    ghost use Rattle.rx_messages.specs.Decoding.{any_form};
+    ghost use Rattle.rx_codec.specs.Decoding.{any_form};
     ghost use Rattle.rx_messages.specs.Commands.{environment_variable_fields, environment_variable_from, environment_variable_is_readable};
 
     ghost fields = { environment_variable_fields };
@@ -35,7 +31,7 @@ impl Message for EnvironmentVariable {
 
     ghost IsReadable = { environment_variable_is_readable };
 
-    #[tactic(auto, unfolding(crate::specs::Parts::part_checked))]
+    #[tactic(auto, unfolding(rx_codec::specs::Parts::part_checked))]
     fn check_field(number: u32, value: Value<'_>, read: &Fields<'_>) -> Result<(), WireFault> {
         match number {
             environment_variable::NAME | environment_variable::VALUE => check_text(
@@ -80,7 +76,7 @@ impl Shape for Property {
 }
 
 impl Message for Property {
-    ghost use Rattle.rx_messages.specs.Decoding.{any_form};
+    ghost use Rattle.rx_codec.specs.Decoding.{any_form};
     ghost use Rattle.rx_messages.specs.Commands.{property_fields, property_from, property_is_readable};
 
     ghost fields = { property_fields };
@@ -91,7 +87,7 @@ impl Message for Property {
 
     ghost IsReadable = { property_is_readable };
 
-    #[tactic(auto, unfolding(crate::specs::Parts::part_checked))]
+    #[tactic(auto, unfolding(rx_codec::specs::Parts::part_checked))]
     fn check_field(number: u32, value: Value<'_>, read: &Fields<'_>) -> Result<(), WireFault> {
         match number {
             property::NAME | property::VALUE => check_text(number, value, read),
@@ -133,7 +129,7 @@ impl Shape for Platform {
 }
 
 impl Message for Platform {
-    ghost use Rattle.rx_messages.specs.Decoding.{any_form};
+    ghost use Rattle.rx_codec.specs.Decoding.{any_form};
     ghost use Rattle.rx_messages.specs.Commands.{platform_fields, platform_from, platform_is_readable};
 
     ghost fields = { platform_fields };
@@ -144,7 +140,7 @@ impl Message for Platform {
 
     ghost IsReadable = { platform_is_readable };
 
-    #[tactic(auto, unfolding(crate::specs::Parts::part_checked))]
+    #[tactic(auto, unfolding(rx_codec::specs::Parts::part_checked))]
     fn check_field(number: u32, value: Value<'_>, read: &Fields<'_>) -> Result<(), WireFault> {
         match number {
             platform::PROPERTIES => check_message::<Property>(number, value, read),
@@ -190,7 +186,7 @@ impl Shape for Command {
 }
 
 impl Message for Command {
-    ghost use Rattle.rx_messages.specs.Decoding.{any_form};
+    ghost use Rattle.rx_codec.specs.Decoding.{any_form};
     ghost use Rattle.rx_messages.specs.Commands.{command_fields, command_from, command_is_readable};
 
     ghost fields = { command_fields };
@@ -201,7 +197,7 @@ impl Message for Command {
 
     ghost IsReadable = { command_is_readable };
 
-    #[tactic(auto, unfolding(crate::specs::Parts::part_checked))]
+    #[tactic(auto, unfolding(rx_codec::specs::Parts::part_checked))]
     fn check_field(number: u32, value: Value<'_>, read: &Fields<'_>) -> Result<(), WireFault> {
         match number {
             command::ARGUMENTS

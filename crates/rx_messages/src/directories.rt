@@ -3,15 +3,11 @@
 ghost use Rattle.std.specs.Prelude.{◌≡◌, IfOk};
 ghost use Rattle.rx_messages.specs.Directories.{entry_names, is_canonical, lists_hold};
 
-use crate::checking::check_message;
-use crate::faults::MessageFault;
-use crate::field_list::FieldList;
-use crate::message::{Message, Shape};
 use crate::names::{Entry, are_distinct, entries_hold, push_names};
 use crate::nodes::{DirectoryNode, FileNode, SymlinkNode};
 use crate::numbers::directory;
-use crate::writer::Writer;
 use rx_base::{Items, NoMemory, Text};
+use rx_codec::{FieldList, Message, MessageFault, Shape, Writer, check_message};
 use rx_wire::{Fields, Value, WireFault};
 use std::alloc::Global;
 
@@ -42,7 +38,7 @@ impl Message for Directory {
 
     ghost IsReadable = { directory_is_readable };
 
-    #[tactic(auto, unfolding(crate::specs::Parts::part_checked))]
+    #[tactic(auto, unfolding(rx_codec::specs::Parts::part_checked))]
     fn check_field(number: u32, value: Value<'_>, read: &Fields<'_>) -> Result<(), WireFault> {
         match number {
             directory::FILES => check_message::<FileNode>(number, value, read),

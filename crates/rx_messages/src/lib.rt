@@ -1,19 +1,14 @@
 //! The messages of the Remote Execution API v2 that name content, trees, actions and results, and
-//! their bytes. What is done with them stands in the crates above.
+//! their bytes. What is done with them stands in the crates above; how any message is read and
+//! written, in `rx_codec`.
 #![tactic(auto)]
 
 mod actions;
 mod batch_reads;
 mod batch_updates;
 mod blobs;
-mod checking;
-mod chunks;
 mod commands;
-mod digests;
 mod directories;
-mod faults;
-mod field_list;
-mod message;
 mod names;
 mod nodes;
 mod numbers;
@@ -21,7 +16,6 @@ mod outputs;
 mod results;
 mod statuses;
 mod trees;
-mod writer;
 
 pub use actions::{Action, Duration};
 pub use batch_reads::{BatchReadBlobsRequest, BatchReadBlobsResponse, BlobRead};
@@ -31,12 +25,9 @@ pub use batch_updates::{
 pub use blobs::{FindMissingBlobsRequest, FindMissingBlobsResponse};
 pub use commands::{Command, EnvironmentVariable, Platform, Property};
 pub use directories::Directory;
-pub use faults::MessageFault;
-pub use field_list::FieldList;
-pub use message::{Message, Shape};
 pub use nodes::{DirectoryNode, FileNode, SymlinkNode};
 pub use outputs::{OutputDirectory, OutputFile, OutputSymlink};
 pub use results::ActionResult;
+pub use rx_codec::{FieldList, Message, MessageFault, Shape, Writer};
 pub use statuses::{Any, Status};
 pub use trees::Tree;
-pub use writer::Writer;

@@ -1,12 +1,8 @@
 //! The entries of a Directory (`remote_execution.proto`, FileNode, DirectoryNode, SymlinkNode).
 
-use crate::checking::{check_message, check_text};
-use crate::faults::MessageFault;
-use crate::field_list::FieldList;
-use crate::message::{Message, Shape};
 use crate::numbers::{directory_node, file_node, symlink_node};
-use crate::writer::Writer;
 use rx_base::{Digest, NoMemory, Text};
+use rx_codec::{FieldList, Message, MessageFault, Shape, Writer, check_message, check_text};
 use rx_wire::{Fields, Value, WireFault};
 use std::alloc::Global;
 
@@ -25,7 +21,7 @@ impl Shape for FileNode {
 }
 
 impl Message for FileNode {
-    ghost use Rattle.rx_messages.specs.Decoding.{any_form};
+    ghost use Rattle.rx_codec.specs.Decoding.{any_form};
     ghost use Rattle.rx_messages.specs.Nodes.{file_node_fields, file_node_from, file_node_is_readable};
 
     ghost fields = { file_node_fields };
@@ -36,7 +32,7 @@ impl Message for FileNode {
 
     ghost IsReadable = { file_node_is_readable };
 
-    #[tactic(auto, unfolding(crate::specs::Parts::part_checked))]
+    #[tactic(auto, unfolding(rx_codec::specs::Parts::part_checked))]
     fn check_field(number: u32, value: Value<'_>, read: &Fields<'_>) -> Result<(), WireFault> {
         match number {
             file_node::NAME => check_text(number, value, read),
@@ -86,7 +82,7 @@ impl Shape for DirectoryNode {
 }
 
 impl Message for DirectoryNode {
-    ghost use Rattle.rx_messages.specs.Decoding.{any_form};
+    ghost use Rattle.rx_codec.specs.Decoding.{any_form};
     ghost use Rattle.rx_messages.specs.Nodes.{directory_node_fields, directory_node_from, directory_node_is_readable};
 
     ghost fields = { directory_node_fields };
@@ -97,7 +93,7 @@ impl Message for DirectoryNode {
 
     ghost IsReadable = { directory_node_is_readable };
 
-    #[tactic(auto, unfolding(crate::specs::Parts::part_checked))]
+    #[tactic(auto, unfolding(rx_codec::specs::Parts::part_checked))]
     fn check_field(number: u32, value: Value<'_>, read: &Fields<'_>) -> Result<(), WireFault> {
         match number {
             directory_node::NAME => check_text(number, value, read),
@@ -141,7 +137,7 @@ impl Shape for SymlinkNode {
 }
 
 impl Message for SymlinkNode {
-    ghost use Rattle.rx_messages.specs.Decoding.{any_form};
+    ghost use Rattle.rx_codec.specs.Decoding.{any_form};
     ghost use Rattle.rx_messages.specs.Nodes.{symlink_node_fields, symlink_node_from, symlink_node_is_readable};
 
     ghost fields = { symlink_node_fields };
@@ -152,7 +148,7 @@ impl Message for SymlinkNode {
 
     ghost IsReadable = { symlink_node_is_readable };
 
-    #[tactic(auto, unfolding(crate::specs::Parts::part_checked))]
+    #[tactic(auto, unfolding(rx_codec::specs::Parts::part_checked))]
     fn check_field(number: u32, value: Value<'_>, read: &Fields<'_>) -> Result<(), WireFault> {
         match number {
             symlink_node::NAME | symlink_node::TARGET => check_text(number, value, read),

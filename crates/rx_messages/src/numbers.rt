@@ -1,13 +1,6 @@
 //! The numbers of the messages' fields, as `remote_execution.proto` has them, and those of
 //! `google/protobuf/any.proto`, `duration.proto` and `google/rpc/status.proto`. No other file here has one.
 
-/// Digest.
-pub(crate) mod digest {
-    pub(crate) const HASH: u32 = 1;
-
-    pub(crate) const SIZE_BYTES: u32 = 2;
-}
-
 /// FileNode.
 pub(crate) mod file_node {
     pub(crate) const NAME: u32 = 1;

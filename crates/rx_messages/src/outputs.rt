@@ -1,12 +1,8 @@
 //! What a command left (`remote_execution.proto`, OutputFile, OutputDirectory, OutputSymlink).
 
-use crate::checking::{check_message, check_text};
-use crate::faults::MessageFault;
-use crate::field_list::FieldList;
-use crate::message::{Message, Shape};
 use crate::numbers::{output_directory, output_file, output_symlink};
-use crate::writer::Writer;
 use rx_base::{Bytes, Digest, NoMemory, Text};
+use rx_codec::{FieldList, Message, MessageFault, Shape, Writer, check_message, check_text};
 use rx_wire::{Fields, Value, WireFault};
 use std::alloc::Global;
 
@@ -26,7 +22,7 @@ impl Shape for OutputFile {
 }
 
 impl Message for OutputFile {
-    ghost use Rattle.rx_messages.specs.Decoding.{any_form};
+    ghost use Rattle.rx_codec.specs.Decoding.{any_form};
     ghost use Rattle.rx_messages.specs.Outputs.{output_file_fields, output_file_from, output_file_is_readable};
 
     ghost fields = { output_file_fields };
@@ -37,7 +33,7 @@ impl Message for OutputFile {
 
     ghost IsReadable = { output_file_is_readable };
 
-    #[tactic(auto, unfolding(crate::specs::Parts::part_checked))]
+    #[tactic(auto, unfolding(rx_codec::specs::Parts::part_checked))]
     fn check_field(number: u32, value: Value<'_>, read: &Fields<'_>) -> Result<(), WireFault> {
         match number {
             output_file::PATH => check_text(number, value, read),
@@ -90,7 +86,7 @@ impl Shape for OutputDirectory {
 }
 
 impl Message for OutputDirectory {
-    ghost use Rattle.rx_messages.specs.Decoding.{any_form};
+    ghost use Rattle.rx_codec.specs.Decoding.{any_form};
     ghost use Rattle.rx_messages.specs.Outputs.{output_directory_fields, output_directory_from, output_directory_is_readable};
 
     ghost fields = { output_directory_fields };
@@ -101,7 +97,7 @@ impl Message for OutputDirectory {
 
     ghost IsReadable = { output_directory_is_readable };
 
-    #[tactic(auto, unfolding(crate::specs::Parts::part_checked))]
+    #[tactic(auto, unfolding(rx_codec::specs::Parts::part_checked))]
     fn check_field(number: u32, value: Value<'_>, read: &Fields<'_>) -> Result<(), WireFault> {
         match number {
             output_directory::PATH => check_text(number, value, read),
@@ -145,7 +141,7 @@ impl Shape for OutputSymlink {
 }
 
 impl Message for OutputSymlink {
-    ghost use Rattle.rx_messages.specs.Decoding.{any_form};
+    ghost use Rattle.rx_codec.specs.Decoding.{any_form};
     ghost use Rattle.rx_messages.specs.Outputs.{output_symlink_fields, output_symlink_from, output_symlink_is_readable};
 
     ghost fields = { output_symlink_fields };
@@ -156,7 +152,7 @@ impl Message for OutputSymlink {
 
     ghost IsReadable = { output_symlink_is_readable };
 
-    #[tactic(auto, unfolding(crate::specs::Parts::part_checked))]
+    #[tactic(auto, unfolding(rx_codec::specs::Parts::part_checked))]
     fn check_field(number: u32, value: Value<'_>, read: &Fields<'_>) -> Result<(), WireFault> {
         match number {
             output_symlink::PATH | output_symlink::TARGET => check_text(number, value, read),

@@ -1,13 +1,9 @@
 //! How a command ended (`remote_execution.proto`, ActionResult).
 
-use crate::checking::check_message;
-use crate::faults::MessageFault;
-use crate::field_list::FieldList;
-use crate::message::{Message, Shape};
 use crate::numbers::action_result;
 use crate::outputs::{OutputDirectory, OutputFile, OutputSymlink};
-use crate::writer::Writer;
 use rx_base::{Bytes, Digest, Items, NoMemory};
+use rx_codec::{FieldList, Message, MessageFault, Shape, Writer, check_message};
 use rx_wire::{Fields, Value, WireFault};
 use std::alloc::Global;
 
@@ -32,7 +28,7 @@ impl Shape for ActionResult {
 }
 
 impl Message for ActionResult {
-    ghost use Rattle.rx_messages.specs.Decoding.{any_form};
+    ghost use Rattle.rx_codec.specs.Decoding.{any_form};
     ghost use Rattle.rx_messages.specs.Results.{action_result_fields, action_result_from, action_result_is_readable};
 
     ghost fields = { action_result_fields };
@@ -43,7 +39,7 @@ impl Message for ActionResult {
 
     ghost IsReadable = { action_result_is_readable };
 
-    #[tactic(auto, unfolding(crate::specs::Parts::part_checked))]
+    #[tactic(auto, unfolding(rx_codec::specs::Parts::part_checked))]
     fn check_field(number: u32, value: Value<'_>, read: &Fields<'_>) -> Result<(), WireFault> {
         match number {
             action_result::OUTPUT_FILES => check_message::<OutputFile>(number, value, read),

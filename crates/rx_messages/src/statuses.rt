@@ -1,12 +1,8 @@
 //! How a call on one blob ended (`google/rpc/status.proto`, `google/protobuf/any.proto`).
 
-use crate::checking::{check_message, check_text};
-use crate::faults::MessageFault;
-use crate::field_list::FieldList;
-use crate::message::{Message, Shape};
 use crate::numbers::{any, status};
-use crate::writer::Writer;
 use rx_base::{Bytes, Items, NoMemory, Text};
+use rx_codec::{FieldList, Message, MessageFault, Shape, Writer, check_message, check_text};
 use rx_wire::{Fields, Value, WireFault};
 use std::alloc::Global;
 
@@ -24,7 +20,7 @@ impl Shape for Any {
 }
 
 impl Message for Any {
-    ghost use Rattle.rx_messages.specs.Decoding.{any_form};
+    ghost use Rattle.rx_codec.specs.Decoding.{any_form};
     ghost use Rattle.rx_messages.specs.Statuses.{any_fields, any_from, any_is_readable};
 
     ghost fields = { any_fields };
@@ -35,7 +31,7 @@ impl Message for Any {
 
     ghost IsReadable = { any_is_readable };
 
-    #[tactic(auto, unfolding(crate::specs::Parts::part_checked))]
+    #[tactic(auto, unfolding(rx_codec::specs::Parts::part_checked))]
     fn check_field(number: u32, value: Value<'_>, read: &Fields<'_>) -> Result<(), WireFault> {
         match number {
             any::TYPE_URL => check_text(number, value, read),
@@ -76,7 +72,7 @@ impl Shape for Status {
 }
 
 impl Message for Status {
-    ghost use Rattle.rx_messages.specs.Decoding.{any_form};
+    ghost use Rattle.rx_codec.specs.Decoding.{any_form};
     ghost use Rattle.rx_messages.specs.Statuses.{status_fields, status_from, status_is_readable};
 
     ghost fields = { status_fields };
@@ -87,7 +83,7 @@ impl Message for Status {
 
     ghost IsReadable = { status_is_readable };
 
-    #[tactic(auto, unfolding(crate::specs::Parts::part_checked))]
+    #[tactic(auto, unfolding(rx_codec::specs::Parts::part_checked))]
     fn check_field(number: u32, value: Value<'_>, read: &Fields<'_>) -> Result<(), WireFault> {
         match number {
             status::MESSAGE => check_text(number, value, read),

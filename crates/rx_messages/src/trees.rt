@@ -4,15 +4,12 @@ ghost use Rattle.std.specs.Prelude.{◌≡◌, IfOk};
 ghost use Rattle.rx_base.specs.Texts.{texts as slices};
 ghost use Rattle.rx_messages.specs.Trees.{each_has_one_form, root_has_one_form};
 
-use crate::checking::check_message;
-use crate::chunks::{chunks_of, join, read_fields};
 use crate::directories::Directory;
-use crate::faults::MessageFault;
-use crate::field_list::FieldList;
-use crate::message::{Message, Shape};
 use crate::numbers::tree;
-use crate::writer::Writer;
 use rx_base::{Items, NoMemory};
+use rx_codec::{
+    FieldList, Message, MessageFault, Shape, Writer, check_message, chunks_of, join, read_fields,
+};
 use rx_wire::{Fields, Value, WireFault};
 use std::alloc::Global;
 
@@ -40,7 +37,7 @@ impl Message for Tree {
 
     ghost IsReadable = { tree_is_readable };
 
-    #[tactic(auto, unfolding(crate::specs::Parts::part_checked))]
+    #[tactic(auto, unfolding(rx_codec::specs::Parts::part_checked))]
     fn check_field(number: u32, value: Value<'_>, read: &Fields<'_>) -> Result<(), WireFault> {
         match number {
             tree::ROOT | tree::CHILDREN => check_message::<Directory>(number, value, read),

@@ -11,16 +11,16 @@ use Rattle.rx_wire.specs.Varints.{groups, shortest}
 use Rattle.rx_wire.specs.Fields.{SpellsField, SpellsFields}
 use Rattle.rx_wire.specs.Out.{bytes_field, varint_field}
 use Rattle.rx_wire.proofs.FieldLaws.{Appends-bytes, Appends-varint}
-use Rattle.rx_messages.specs.Contents.{each_put, number_in, number_put, one_put, text_in, text_put, truth_in, truth_put}
-use Rattle.rx_messages.specs.Digests.{digest_fields}
+use Rattle.rx_codec.specs.Contents.{each_put, number_in, number_put, one_put, text_in, text_put, truth_in, truth_put}
+use Rattle.rx_codec.specs.Digests.{digest_fields}
 use Rattle.rx_messages.specs.Directories.{directory_fields}
-use Rattle.rx_messages.specs.FieldBytes.{contents, field_bytes, fields_bytes, fields_in, numbered}
+use Rattle.rx_codec.specs.FieldBytes.{contents, field_bytes, fields_bytes, fields_in, numbered}
 use Rattle.rx_messages.specs.Nodes.{directory_node_fields, file_node_fields, symlink_node_fields}
 use Rattle.rx_messages.specs.declared.nodes.FileNode.{FileNode}
 use Rattle.rx_messages.specs.declared.nodes.DirectoryNode.{DirectoryNode}
 use Rattle.rx_messages.specs.declared.directories.Directory.{Directory}
-use Rattle.rx_messages.proofs.ContentLaws.{contents-append, contents-numbered, number_again, text_again, truth_again}
-use Rattle.rx_messages.proofs.FieldRead.{fields_in-spelled}
+use Rattle.rx_codec.proofs.ContentLaws.{contents-append, contents-numbered, number_again, text_again, truth_again}
+use Rattle.rx_codec.proofs.FieldRead.{fields_in-spelled}
 use Rattle.rx_base.proofs.Lists.{All-append, All-weaken}
 use Rattle.rx_tree.specs.Entries.{Content}
 use Rattle.rx_tree.specs.Listings.{IsDigest}

@@ -4,11 +4,11 @@ use Rattle.rx_base.specs.declared.digests.Digest.{Digest}
 use Rattle.rx_base.specs.declared.path_fault.PathFault.{PathFault}
 use Rattle.rx_base.specs.Paths.{join_of}
 use Rattle.rx_base.specs.Results.{◌>>=◌}
-use Rattle.rx_messages.specs.declared.faults.MessageFault.{MessageFault}
+use Rattle.rx_codec.specs.declared.faults.MessageFault.{MessageFault}
 use Rattle.rx_messages.specs.declared.nodes.FileNode.{FileNode}
 use Rattle.rx_messages.specs.declared.nodes.DirectoryNode.{DirectoryNode}
 use Rattle.rx_messages.specs.declared.directories.Directory.{Directory}
-use Rattle.rx_messages.specs.Decoding.{decoded}
+use Rattle.rx_codec.specs.Decoding.{decoded}
 use Rattle.rx_messages.specs.Directories.{directory_from, directory_has_one_form, directory_parts}
 use Rattle.rx_tree.specs.declared.blobs.Blob.{Blob}
 use Rattle.rx_tree.specs.declared.listings.TreeFile.{TreeFile}

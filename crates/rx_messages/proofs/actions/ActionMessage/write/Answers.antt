@@ -1,7 +1,7 @@
 use Rattle.std.proofs.Common.{refl}
 use Rattle.std.proofs.lemmas.List.{append-nil}
 use Rattle.rx_messages.specs.Actions.{action_fields, action_from}
-use Rattle.rx_messages.proofs.ContentLaws.{contents-append, contents-numbered, some_unit, text_again, truth_again}
+use Rattle.rx_codec.proofs.ContentLaws.{contents-append, contents-numbered, some_unit, text_again, truth_again}
 use Rattle.rx_messages.proofs.actions.ActionMessage.write.Goals as goal
 
 pub returns-clause-again : goal.returns-clause-again

@@ -1,8 +1,8 @@
 use Rattle.std.proofs.Common.{◌≡◌, refl, rules}
 use Rattle.std.proofs.lemmas.List.{append-nil}
 use Rattle.rx_messages.specs.Actions.{duration_fields, duration_from}
-use Rattle.rx_messages.specs.Contents.{int64_in, int64_put}
-use Rattle.rx_messages.proofs.ContentLaws.{contents-append, contents-numbered}
+use Rattle.rx_codec.specs.Contents.{int64_in, int64_put}
+use Rattle.rx_codec.proofs.ContentLaws.{contents-append, contents-numbered}
 use Rattle.rx_messages.proofs.actions.DurationMessage.write.Goals as goal
 
 pub returns-clause-again : goal.returns-clause-again

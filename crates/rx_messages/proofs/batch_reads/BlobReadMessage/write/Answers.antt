@@ -1,7 +1,7 @@
 use Rattle.std.proofs.Common.{refl}
 use Rattle.std.proofs.lemmas.List.{append-nil}
 use Rattle.rx_messages.specs.Batches.{blob_read_fields, blob_read_from}
-use Rattle.rx_messages.proofs.ContentLaws.{contents-append, contents-numbered, some_unit, text_again}
+use Rattle.rx_codec.proofs.ContentLaws.{contents-append, contents-numbered, some_unit, text_again}
 use Rattle.rx_messages.proofs.batch_reads.BlobReadMessage.write.Goals as goal
 
 pub returns-clause-again : goal.returns-clause-again

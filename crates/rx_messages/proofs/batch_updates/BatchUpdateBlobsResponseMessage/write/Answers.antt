@@ -1,7 +1,7 @@
 use Rattle.std.proofs.Common.{refl}
 use Rattle.std.proofs.lemmas.List.{append-nil}
 use Rattle.rx_messages.specs.Batches.{batch_update_blobs_response_fields, batch_update_blobs_response_from}
-use Rattle.rx_messages.proofs.ContentLaws.{contents-append, contents-numbered}
+use Rattle.rx_codec.proofs.ContentLaws.{contents-append, contents-numbered}
 use Rattle.rx_messages.proofs.batch_updates.BatchUpdateBlobsResponseMessage.write.Goals as goal
 
 pub returns-clause-again : goal.returns-clause-again

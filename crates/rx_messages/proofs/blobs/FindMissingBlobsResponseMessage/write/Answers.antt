@@ -1,7 +1,7 @@
 use Rattle.std.proofs.Common.{refl}
 use Rattle.std.proofs.lemmas.List.{append-nil}
 use Rattle.rx_messages.specs.Blobs.{find_missing_blobs_response_fields, find_missing_blobs_response_from}
-use Rattle.rx_messages.proofs.ContentLaws.{contents-append, contents-numbered}
+use Rattle.rx_codec.proofs.ContentLaws.{contents-append, contents-numbered}
 use Rattle.rx_messages.proofs.blobs.FindMissingBlobsResponseMessage.write.Goals as goal
 
 pub returns-clause-again : goal.returns-clause-again

@@ -1,7 +1,7 @@
 use Rattle.std.proofs.Common.{refl}
 use Rattle.std.proofs.lemmas.List.{append-nil}
 use Rattle.rx_messages.specs.Commands.{command_fields, command_from}
-use Rattle.rx_messages.proofs.ContentLaws.{all_unit, contents-append, contents-numbered, some_unit, text_again, texts_again}
+use Rattle.rx_codec.proofs.ContentLaws.{all_unit, contents-append, contents-numbered, some_unit, text_again, texts_again}
 use Rattle.rx_messages.proofs.commands.CommandMessage.write.Goals as goal
 
 pub returns-clause-again : goal.returns-clause-again

@@ -1,7 +1,7 @@
 use Rattle.std.proofs.Common.{refl}
 use Rattle.std.proofs.lemmas.List.{append-nil}
 use Rattle.rx_messages.specs.Commands.{environment_variable_fields, environment_variable_from}
-use Rattle.rx_messages.proofs.ContentLaws.{contents-append, contents-numbered, text_again}
+use Rattle.rx_codec.proofs.ContentLaws.{contents-append, contents-numbered, text_again}
 use Rattle.rx_messages.proofs.commands.EnvironmentVariableMessage.write.Goals as goal
 
 pub returns-clause-again : goal.returns-clause-again

@@ -1,7 +1,7 @@
 use Rattle.std.proofs.Common.{refl}
 use Rattle.std.proofs.lemmas.List.{append-nil}
 use Rattle.rx_messages.specs.Directories.{directory_fields, directory_from}
-use Rattle.rx_messages.proofs.ContentLaws.{all_unit, contents-append, contents-numbered}
+use Rattle.rx_codec.proofs.ContentLaws.{all_unit, contents-append, contents-numbered}
 use Rattle.rx_messages.proofs.OneForm.{form_of}
 use Rattle.rx_messages.proofs.directories.DirectoryMessage.write.Goals as goal
 

@@ -1,7 +1,7 @@
 use Rattle.std.proofs.Common.{refl}
 use Rattle.std.proofs.lemmas.List.{append-nil}
 use Rattle.rx_messages.specs.Outputs.{output_file_fields, output_file_from}
-use Rattle.rx_messages.proofs.ContentLaws.{contents-append, contents-numbered, text_again, truth_again}
+use Rattle.rx_codec.proofs.ContentLaws.{contents-append, contents-numbered, text_again, truth_again}
 use Rattle.rx_messages.proofs.outputs.OutputFileMessage.write.Goals as goal
 
 pub returns-clause-again : goal.returns-clause-again

@@ -1,8 +1,8 @@
 use Rattle.std.proofs.Common.{◌≡◌, refl, rules}
 use Rattle.std.proofs.lemmas.List.{append-nil}
 use Rattle.rx_messages.specs.Statuses.{status_fields, status_from}
-use Rattle.rx_messages.specs.Contents.{int32_in, int32_put}
-use Rattle.rx_messages.proofs.ContentLaws.{all_unit, contents-append, contents-numbered, text_again}
+use Rattle.rx_codec.specs.Contents.{int32_in, int32_put}
+use Rattle.rx_codec.proofs.ContentLaws.{all_unit, contents-append, contents-numbered, text_again}
 use Rattle.rx_messages.proofs.statuses.StatusMessage.write.Goals as goal
 
 pub returns-clause-again : goal.returns-clause-again

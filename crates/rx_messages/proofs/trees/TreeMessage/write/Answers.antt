@@ -1,7 +1,7 @@
 use Rattle.std.proofs.Common.{refl}
 use Rattle.std.proofs.lemmas.List.{append-nil}
 use Rattle.rx_messages.specs.Trees.{tree_fields, tree_from}
-use Rattle.rx_messages.proofs.ContentLaws.{contents-append, contents-numbered}
+use Rattle.rx_codec.proofs.ContentLaws.{contents-append, contents-numbered}
 use Rattle.rx_messages.proofs.TreeLaws.{one_form}
 use Rattle.rx_messages.proofs.trees.TreeMessage.write.Goals as goal
 

@@ -1,9 +1,0 @@
-use Rattle.std.proofs.Common.{◌≡◌, take}
-use Rattle.rx_base.specs.Texts.{texts as slices}
-use Rattle.rx_messages.specs.Contents.{chunks}
-use Rattle.rx_messages.specs.FieldBytes.{contents}
-use Rattle.rx_messages.specs.Seen.{seen}
-use Rattle.rx_messages.proofs.chunks.chunks_of.Given as goal
-
-abbrev pub invariant-loop-field : goal.invariant-loop-field
-invariant-loop-field l = slices l.found.items ≡ chunks (contents l.number (seen (take l.field-index l.fields)))

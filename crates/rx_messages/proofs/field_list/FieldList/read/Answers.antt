@@ -1,5 +1,0 @@
-use Rattle.rx_messages.proofs.PartLaws.{HasParts-read}
-use Rattle.rx_messages.proofs.field_list.FieldList.read.Goals as goal
-
-pub invariant_of-result : goal.invariant_of-result
-invariant_of-result g c = rw c.in_ok-fields.ensures (HasParts-read g.M.Shape.parts c.args.bytes.now c.requires)

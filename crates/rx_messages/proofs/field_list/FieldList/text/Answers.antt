@@ -1,6 +1,0 @@
-use Rattle.rx_messages.specs.Seen.{seen}
-use Rattle.rx_messages.proofs.ContentLaws.{text_utf8}
-use Rattle.rx_messages.proofs.field_list.FieldList.text.Goals as goal
-
-pub unwrap-requires : goal.unwrap-requires
-unwrap-requires g c = c.text_of.ensures.exact.1 (rw (c.last_bytes-bytes.ensures, c.deref.ensures.value) (text_utf8 g.M.Shape.parts c.args.number (seen c.self.inside.fields.items) c.requires c.self.invariant))

@@ -1,5 +1,0 @@
-use Rattle.rx_messages.proofs.PartLaws.{IsMessage-concat}
-use Rattle.rx_messages.proofs.field_list.merged_of.Goals as goal
-
-pub message_of-requires : goal.message_of-requires
-message_of-requires g c = rw (c.deref.ensures.value, c.in_ok-bytes.ensures) (IsMessage-concat g.N.Shape.parts _ c.requires)

@@ -1,5 +1,0 @@
-use Rattle.rx_messages.proofs.ContentLaws.{none_again}
-use Rattle.rx_messages.proofs.writer.Writer.message.Goals as goal
-
-pub returns-in-None-clause-again : goal.returns-in-None-clause-again
-returns-in-None-clause-again g c = λ ok can. rw c.in-None.is (none_again _ _)
