@@ -4,6 +4,7 @@
 mod actions;
 mod arguments;
 mod digests;
+mod exec_messages;
 mod messages;
 mod paths;
 mod trees;

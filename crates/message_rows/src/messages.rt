@@ -1,6 +1,7 @@
 //! `message KIND TEXT`: a message that is read from a text's bytes and written again: `same` where that
 //! gives the same bytes, else what it gives.
 
+use crate::exec_messages;
 use rx_base::Digest;
 use rx_messages::{
     Action, ActionResult, Any, BatchReadBlobsRequest, BatchReadBlobsResponse,
@@ -39,7 +40,7 @@ pub(crate) fn call(alloc: Global, row: &mut Row<'_>, answer: &mut Answer) -> Res
     }
 }
 
-/// The same, of the messages of the ContentAddressableStorage service.
+/// The same, of the messages of the ContentAddressableStorage service, and then of other calls.
 fn call_storage(
     alloc: Global,
     kind: &[u8],
@@ -56,12 +57,16 @@ fn call_storage(
         b"BatchReadBlobsRequest" => again::<BatchReadBlobsRequest>(alloc, bytes, answer),
         b"BlobRead" => again::<BlobRead>(alloc, bytes, answer),
         b"BatchReadBlobsResponse" => again::<BatchReadBlobsResponse>(alloc, bytes, answer),
-        _ => Err(RowFault::NoCall),
+        _ => exec_messages::call(alloc, kind, bytes, answer),
     }
 }
 
 /// Reads and writes one message.
-fn again<M: Message>(alloc: Global, bytes: &[u8], answer: &mut Answer) -> Result<(), RowFault> {
+pub(crate) fn again<M: Message>(
+    alloc: Global,
+    bytes: &[u8],
+    answer: &mut Answer,
+) -> Result<(), RowFault> {
     match M::decode(alloc, bytes) {
         Ok(message) => {
             let written = message.encode(alloc)?;

@@ -1,0 +1,5 @@
+pub mod Capabilities
+pub mod Executions
+pub mod Operations
+pub mod Streams
+pub mod Versions
