@@ -1,0 +1,7 @@
+pub mod LockLemmas
+pub mod LookLemmas
+pub mod SoundLemmas
+pub mod SoundOffers
+pub mod SoundStarts
+pub mod StepLemmas
+pub mod ToldLemmas

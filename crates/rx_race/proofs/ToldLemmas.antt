@@ -1,0 +1,151 @@
+-- What the three passes of a race were told.
+use Rattle.std.proofs.Common.{◌≡◌, true, ℕ, inl, inr, refl, ap, sym, subst, ◌∙◌}
+use Rattle.std.specs.Prelude.{◌≢◌, ◌⊎◌}
+use Rattle.rx_world.specs.declared.attempts.Attempt.{Attempt}
+use Rattle.rx_world.specs.declared.attempts.Plan.{Plan}
+use Rattle.rx_world.specs.declared.decisions.Decision.{Decision}
+use Rattle.rx_world.specs.declared.decisions.Decision.TheVariants.{By, Cancelled, Nothing, Undecided}
+use Rattle.rx_world.specs.Decisions.{IsSettled}
+use Rattle.rx_race.specs.declared.events.Verdict.{Verdict}
+use Rattle.rx_race.specs.declared.events.Verdict.TheVariants.{Late, Noted, Won}
+use Rattle.rx_race.specs.declared.slips.Seat.{Seat}
+use Rattle.rx_race.specs.declared.slips.Seat.TheVariants.{Canceller, Of}
+use Rattle.rx_race.specs.declared.slips.Slip.{Slip}
+use Rattle.rx_race.specs.declared.slips.Slip.TheVariants.{Live, Refused, Stopped, Told, Unused}
+use Rattle.rx_race.specs.declared.standing.Phase.{Phase}
+use Rattle.rx_race.specs.declared.standing.Phase.TheVariants.{Idle, Offered, Running}
+use Rattle.rx_race.specs.Locked.{AllNoted, AreTold, Fits, FitsCancel, IsLocked, IsLook, SomeoneWon}
+use Rattle.rx_race.specs.Races.{Course, cancels_of, standing_of}
+use Rattle.rx_race.specs.Slips.{Slips, slip_at}
+use Rattle.rx_race.specs.Standings.{in_plan, phase_of}
+use Rattle.rx_race.proofs.LockLemmas.{at}
+use Rattle.rx_race.proofs.LookLemmas.{fits-at}
+use Rattle.rx_race.proofs.StepLemmas.{plan-standing}
+
+-- ---- slips and phases
+
+told-phase : (d : Decision) (p : Phase) (v : Verdict) → Fits d p (Told v) → p ≡ Offered v
+told-phase d Idle v h = absurd h
+told-phase d Running v h = absurd h
+told-phase d (Offered w) v h = ap Offered (sym h)
+
+offered-slip : (d : Decision) (v : Verdict) (slip : Slip) → Fits d (Offered v) slip → slip ≡ Told v
+offered-slip d v Unused h = absurd h
+offered-slip d v Refused h = absurd h
+offered-slip d v Live h = absurd h
+offered-slip d v Stopped h = absurd h
+offered-slip d v (Told w) h = ap Told h
+
+-- what was told to a pass is what its attempt offered for
+phase-told : (plan : Plan) (race : Course) (slips : Slips) (x : Attempt) (v : Verdict)
+    → IsLocked plan (at race slips) → slip_at (Of x) slips ≡ Told v
+    → phase_of x (standing_of race) ≡ Offered v
+phase-told plan race slips x v was e =
+    let s = standing_of race in
+    let found = fits-at plan race slips x was in
+    let fits = subst (λ slip. Fits s.decision (phase_of x s) slip) e found in
+    told-phase s.decision _ v fits
+
+slip-told : (plan : Plan) (race : Course) (slips : Slips) (x : Attempt) (v : Verdict)
+    → IsLocked plan (at race slips) → phase_of x (standing_of race) ≡ Offered v
+    → slip_at (Of x) slips ≡ Told v
+slip-told plan race slips x v was e =
+    let s = standing_of race in
+    let slip = slip_at (Of x) slips in
+    let fits = subst (λ p. Fits s.decision p slip) e (fits-at plan race slips x was) in
+    offered-slip s.decision v slip fits
+
+look-settled : (d : Decision) (p : Phase) (slip : Slip) → IsLook slip → Fits d p slip → IsSettled d
+look-settled d p Unused look h = absurd look
+look-settled d Idle Refused look h = h
+look-settled d Running Refused look h = absurd h
+look-settled d (Offered v) Refused look h = absurd h
+look-settled d p Live look h = absurd look
+look-settled d Idle Stopped look h = absurd h
+look-settled d Running Stopped look h = h
+look-settled d (Offered v) Stopped look h = absurd h
+look-settled d p (Told v) look h = absurd look
+
+cancelled-slip : (n : ℕ) (slip : Slip) → FitsCancel Cancelled n slip → slip ≡ Told Won
+cancelled-slip n Unused h = absurd (h.1 refl)
+cancelled-slip n Refused h = absurd h
+cancelled-slip n Live h = absurd h
+cancelled-slip n Stopped h = absurd h
+cancelled-slip n (Told Won) h = refl
+cancelled-slip n (Told Late) h = absurd (h.1 refl)
+cancelled-slip n (Told Noted) h = absurd h
+
+-- ---- who won
+
+-- what a race is decided for, where this pass won
+abbrev decision_of : Seat → Decision
+decision_of (Of x) = By x
+decision_of Canceller = Cancelled
+
+one-seat : (a b : Seat) → decision_of a ≡ decision_of b → a ≡ b
+one-seat (Of x) (Of y) e = let same : By x ≡ By y = e in let is : x ≡ y = cc in ap Of is
+one-seat (Of x) Canceller e = cc
+one-seat Canceller (Of y) e = cc
+one-seat Canceller Canceller e = refl
+
+won-decides : (plan : Plan) (race : Course) (slips : Slips) (seat : Seat)
+    → IsLocked plan (at race slips) → slip_at seat slips ≡ Told Won
+    → (standing_of race).decision ≡ decision_of seat
+won-decides plan race slips (Of x) was e = was.sound.only x (phase-told plan race slips x Won was e)
+won-decides plan race slips Canceller was e =
+    subst (λ slip. FitsCancel (standing_of race).decision (cancels_of race) slip) e was.cancel
+
+-- a race that is decided for an attempt or cancelled has a pass that won
+someone : (plan : Plan) (race : Course) (slips : Slips) (d : Decision)
+    → IsLocked plan (at race slips) → (standing_of race).decision ≡ d → IsSettled d
+    → SomeoneWon slips
+someone plan race slips Undecided was e settled = absurd settled
+someone plan race slips (By x) was e settled =
+    (Of x, slip-told plan race slips x Won was (was.sound.by x e))
+someone plan race slips Cancelled was e settled =
+    let fits = subst (λ d. FitsCancel d (cancels_of race) slips.cancel) e was.cancel in
+    (Canceller, cancelled-slip (cancels_of race) slips.cancel fits)
+someone plan race slips Nothing was e settled = absurd settled
+
+nobody : (seat : Seat) → decision_of seat ≢ Nothing
+nobody (Of x) = λ e. cc
+nobody Canceller = λ e. cc
+
+-- a cancel that was late
+late-cancelled : (plan : Plan) (race : Course) (slips : Slips) (d : Decision)
+    → IsLocked plan (at race slips) → (standing_of race).decision ≡ d → d ≢ Undecided
+    → SomeoneWon slips ⊎ AllNoted plan slips
+late-cancelled plan race slips Undecided was e made = absurd (made refl)
+late-cancelled plan race slips (By x) was e made = inl (someone plan race slips (By x) was e tt)
+late-cancelled plan race slips Cancelled was e made =
+    inl (someone plan race slips Cancelled was e tt)
+late-cancelled plan race slips Nothing was e made =
+    inr
+    (λ x planned.
+    let here : in_plan (standing_of race).plan x ≡ true =
+    rw (plan-standing race ∙ was.plan_is) planned in
+    slip-told plan race slips x Noted was (was.sound.nothing e x here))
+
+pub told : (plan : Plan) (race : Course) (slips : Slips) → IsLocked plan (at race slips)
+    → AreTold plan slips
+told plan race slips was =
+    let s = standing_of race in record {
+      one = λ a b won also.
+          let first = won-decides plan race slips a was won in
+          let second = won-decides plan race slips b was also in
+          one-seat a b (sym first ∙ second);
+      none = λ noted won.
+          let over = was.sound.over (λ x planned.
+          let here : in_plan plan x ≡ true = rw (← plan-standing race ∙ was.plan_is) planned in
+          phase-told plan race slips x Noted was (noted x here)) in
+          nobody won.0 (sym (won-decides plan race slips won.0 was won.1) ∙ over);
+      late = λ x e.
+          let offered = phase-told plan race slips x Late was e in
+          someone plan race slips s.decision was refl (was.sound.late x offered);
+      look = λ x look.
+          let fits = fits-at plan race slips x was in
+          someone plan race slips s.decision was refl (look-settled s.decision _ _ look fits);
+      late_cancel = λ e.
+          let fits = subst (λ slip. FitsCancel s.decision (cancels_of race) slip) e was.cancel in
+          late-cancelled plan race slips s.decision was refl fits.0;
+    }
