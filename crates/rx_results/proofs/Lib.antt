@@ -1,0 +1,9 @@
+pub mod AgreementLemmas
+pub mod FaultLemmas
+pub mod FillLemmas
+pub mod LimitLemmas
+pub mod ListLemmas
+pub mod MatchLemmas
+pub mod OutcomeLemmas
+pub mod OutputLemmas
+pub mod ReadingLemmas
