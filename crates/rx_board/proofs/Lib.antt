@@ -1,2 +1,2 @@
-mod LastPlaced
-mod OnePublication
+pub mod LastPlaced
+pub mod OnePublication

@@ -1,0 +1,8 @@
+mod ActionSteps
+mod Growing
+mod OfferSteps
+mod Outcomes
+mod Owners
+mod RunLemmas
+mod Staying
+mod StepByStep

@@ -1,0 +1,12 @@
+pub mod Actions
+pub mod Answering
+pub mod AtOnce
+pub mod Attempts
+pub mod Facts
+pub mod Honest
+pub mod Publications
+pub mod Remote
+pub mod Replies
+pub mod Runs
+pub mod States
+pub mod Steps
