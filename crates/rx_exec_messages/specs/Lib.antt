@@ -1,5 +1,11 @@
+pub mod Calls
 pub mod Capabilities
+pub mod Dialects
+pub mod Exchanged
 pub mod Executions
 pub mod Operations
+pub mod Scripts
 pub mod Streams
+pub mod Tellings
+pub mod Traces
 pub mod Versions

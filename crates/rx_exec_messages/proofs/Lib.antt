@@ -1,0 +1,2 @@
+pub mod ExchangedLemmas
+mod ScriptLemmas

@@ -1,0 +1,7 @@
+use Rattle.rx_exec_messages.proofs.ScriptLemmas.{script-stays}
+use Rattle.rx_exec_messages.proofs.script.ScriptCaller.get_result.Goals as goal
+
+pub returns-clause-stays : goal.returns-clause-stays
+returns-clause-stays g c =
+    script-stays g.W.World.blob g.W.World.operation c.args.self.now c.tell.new.self c.get_result-answer.new.self
+    c.get_result-answer.ensures.stays c.tell.ensures.state

@@ -1,0 +1,7 @@
+use Rattle.rx_exec_messages.proofs.ScriptLemmas.{script-stays}
+use Rattle.rx_exec_messages.proofs.script.ScriptCaller.write_stream.Goals as goal
+
+pub returns-clause-stays : goal.returns-clause-stays
+returns-clause-stays g c =
+    script-stays g.W.World.blob g.W.World.operation c.args.self.now c.tell.new.self c.write_stream-answer.new.self
+    c.write_stream-answer.ensures.stays c.tell.ensures.state
