@@ -1,0 +1,43 @@
+//! Fetches of blobs, limits of batches, dialects of farms and the client in memory, as rows: see the headings of `stdin`.
+#![tactic(auto)]
+
+mod answers;
+mod asks;
+mod dialects;
+mod fetches;
+mod lines;
+mod names;
+
+use rx_blobs::batch_limit;
+use rx_rows::{Answer, Calls, Row, RowFault, TableFault, answer_rows};
+use std::alloc::Global;
+use std::io;
+use std::io::BufReader;
+
+/// The calls of the rows. They keep nothing from row to row.
+#[derive(Drop)]
+struct BlobCalls {
+    alloc: Global,
+}
+
+impl Calls for BlobCalls {
+    fn call(&mut self, row: &mut Row<'_>, answer: &mut Answer) -> Result<(), RowFault> {
+        match row.word()? {
+            b"ask" => asks::answer_asks(self.alloc, row, answer),
+            b"batch_limit" => {
+                answer.number(batch_limit(row.number()?))?;
+                Ok(())
+            }
+            b"dialect" => dialects::answer_dialect(row, answer),
+            b"fetch" => fetches::answer_fetch(self.alloc, row, answer),
+            _ => Err(RowFault::NoCall),
+        }
+    }
+}
+
+fn main(rt: HostRuntime) -> Result<(), TableFault> {
+    let alloc = rt.alloc();
+    let input = BufReader::new(alloc, rt.reader())?;
+    let mut calls = BlobCalls { alloc };
+    answer_rows(alloc, input, &mut io::writer(&rt), &mut calls)
+}
