@@ -1,0 +1,109 @@
+//! What is heard, as events of rows: see the headings of `stdin`.
+
+use crate::faults::{read_blobs, read_fault};
+use crate::results::{read_name, read_result};
+use rx_base::{Bytes, Items, Text};
+use rx_exec_messages::{Capabilities, ExecuteResponse, Operation};
+use rx_remote::Heard;
+use rx_rows::{Row, RowFault};
+use rx_world::{Attempt, Decision, SemVer};
+use std::alloc::Global;
+
+/// The event of this word, whose arguments are the next words.
+pub(crate) fn read_heard(alloc: Global, word: &[u8], row: &mut Row<'_>) -> Result<Heard, RowFault> {
+    match word {
+        b"told" => read_told(row),
+        b"cached" => read_cached(alloc, row),
+        b"uploaded" => Ok(Heard::Uploaded(Items::new(alloc))),
+        b"begun" => Ok(Heard::Begun),
+        b"state" => read_state(alloc, row),
+        b"done" => read_done(alloc, row),
+        b"fetched" => read_fetched(alloc, row),
+        b"fault" => read_call(row),
+        b"blobs" => read_transfer(alloc, row),
+        b"stopped" => read_stopped(row),
+        _ => Err(RowFault::BadCall),
+    }
+}
+
+/// `told LOW HIGH`: what the farm says of itself.
+fn read_told(row: &mut Row<'_>) -> Result<Heard, RowFault> {
+    let low = read_version(row)?;
+    let high = read_version(row)?;
+    Ok(Heard::Told(Capabilities { most: 0, low, high }))
+}
+
+/// The next word, a version by its name, or `none`.
+fn read_version(row: &mut Row<'_>) -> Result<Option<SemVer>, RowFault> {
+    let (major, minor) = match row.word()? {
+        b"none" => return Ok(None),
+        b"1.9.0" => (1, 9),
+        b"2.0.0" => (2, 0),
+        b"2.1.0" => (2, 1),
+        b"3.0.0" => (3, 0),
+        b"3.1.0" => (3, 1),
+        _ => return Err(RowFault::BadCall),
+    };
+    Ok(Some(SemVer {
+        major,
+        minor,
+        patch: 0,
+    }))
+}
+
+/// `cached RESULT`: what the action cache has.
+fn read_cached(alloc: Global, row: &mut Row<'_>) -> Result<Heard, RowFault> {
+    Ok(Heard::Cached(read_result(alloc, row)?))
+}
+
+/// `state NAME`: a state of an execution that isn't done.
+fn read_state(alloc: Global, row: &mut Row<'_>) -> Result<Heard, RowFault> {
+    let name = read_name(alloc, row)?;
+    Ok(Heard::Next(Operation { name, done: None }))
+}
+
+/// `done NAME ORIGIN RESULT`: the end of an execution, whose result was `kept` or is of a `run`.
+fn read_done(alloc: Global, row: &mut Row<'_>) -> Result<Heard, RowFault> {
+    let name = read_name(alloc, row)?;
+    let cached_result = match row.word()? {
+        b"kept" => true,
+        b"run" => false,
+        _ => return Err(RowFault::BadCall),
+    };
+    let response = ExecuteResponse {
+        result: read_result(alloc, row)?,
+        cached_result,
+        status: None,
+        message: Text::new(alloc),
+    };
+    Ok(Heard::Next(Operation {
+        name,
+        done: Some(response),
+    }))
+}
+
+/// `fetched TEXT`: the bytes of the one digest that was asked for.
+fn read_fetched(alloc: Global, row: &mut Row<'_>) -> Result<Heard, RowFault> {
+    let mut texts = Items::new(alloc);
+    texts.push(Bytes::from_vec(row.text(alloc)?))?;
+    Ok(Heard::Fetched(texts))
+}
+
+/// `fault FAULT`: the call failed.
+fn read_call(row: &mut Row<'_>) -> Result<Heard, RowFault> {
+    Ok(Heard::Fault(read_fault(row)?))
+}
+
+/// `blobs FAULT`: the upload or the fetch failed.
+fn read_transfer(alloc: Global, row: &mut Row<'_>) -> Result<Heard, RowFault> {
+    Ok(Heard::Blobs(read_blobs(alloc, row)?))
+}
+
+/// `stopped DECISION`: the race is decided.
+fn read_stopped(row: &mut Row<'_>) -> Result<Heard, RowFault> {
+    match row.word()? {
+        b"Local" => Ok(Heard::Stopped(Decision::By(Attempt::Local))),
+        b"Cancelled" => Ok(Heard::Stopped(Decision::Cancelled)),
+        _ => Err(RowFault::BadCall),
+    }
+}

@@ -1,0 +1,77 @@
+//! The faults of calls, of uploads and of fetches, as arguments of rows.
+
+use rx_base::digest_of;
+use rx_blobs::BlobFault;
+use rx_row_values::path_of;
+use rx_rows::{Row, RowFault};
+use rx_world::{CallFault, ChangedInput, Look, Seen};
+use std::alloc::Global;
+
+/// The next words, a fault of a call: its name, and its number where it has one.
+pub(crate) fn read_fault(row: &mut Row<'_>) -> Result<CallFault, RowFault> {
+    match row.word()? {
+        b"Link" => Ok(CallFault::Link),
+        b"Cut" => Ok(CallFault::Cut),
+        b"NoStatus" => Ok(CallFault::NoStatus),
+        b"Compressed" => Ok(CallFault::Compressed),
+        b"TooLarge" => Ok(CallFault::TooLarge),
+        b"NoMemory" => Ok(CallFault::NoMemory),
+        b"BadMessage" => Ok(CallFault::BadMessage(0)),
+        b"Status" => read_status(row),
+        b"Protocol" => read_protocol(row),
+        _ => Err(RowFault::BadCall),
+    }
+}
+
+/// A status of gRPC.
+fn read_status(row: &mut Row<'_>) -> Result<CallFault, RowFault> {
+    Ok(CallFault::Status(read_code(row)?))
+}
+
+/// An error of HTTP/2.
+fn read_protocol(row: &mut Row<'_>) -> Result<CallFault, RowFault> {
+    Ok(CallFault::Protocol(read_code(row)?))
+}
+
+/// The next word, a number of 32 bits.
+fn read_code(row: &mut Row<'_>) -> Result<u32, RowFault> {
+    u32::try_from(row.number()?).map_err(|_| RowFault::BadNumber)
+}
+
+/// The next words, a fault of an upload or of a fetch.
+pub(crate) fn read_blobs(alloc: Global, row: &mut Row<'_>) -> Result<BlobFault, RowFault> {
+    match row.word()? {
+        b"Call" => Ok(BlobFault::Call(read_fault(row)?)),
+        b"Missing" => Ok(BlobFault::Missing(digest_of(b"abc"))),
+        b"Refused" => Ok(BlobFault::Refused(digest_of(b"abc"), read_code(row)?)),
+        b"BadBlob" => Ok(bad_blob()),
+        b"InputChanged" => changed_input(alloc),
+        b"SourceFault" => source_fault(alloc),
+        b"NoMemory" => Ok(BlobFault::NoMemory),
+        _ => Err(RowFault::BadCall),
+    }
+}
+
+/// `abd` came for the digest of `abc`.
+fn bad_blob() -> BlobFault {
+    BlobFault::BadBlob {
+        expected: digest_of(b"abc"),
+        got: digest_of(b"abd"),
+    }
+}
+
+/// The input `a` was a directory first, and then nothing.
+fn changed_input(alloc: Global) -> Result<BlobFault, RowFault> {
+    Ok(BlobFault::InputChanged(ChangedInput {
+        path: path_of(alloc, "a")?,
+        first: Seen::from(Look::Dir),
+        second: Seen::from(Look::Absent),
+    }))
+}
+
+/// The source tree failed at `a`.
+fn source_fault(alloc: Global) -> Result<BlobFault, RowFault> {
+    Ok(BlobFault::SourceFault {
+        path: path_of(alloc, "a")?,
+    })
+}

@@ -1,0 +1,97 @@
+-- What faults and texts lead to, and which causes they leave out.
+use Rattle.std.proofs.Common.{◌≡◌, ℕ, Bool, true, false, cond, List, [], ◌∷◌, Option, None, Some, refl}
+use Rattle.std.specs.Prelude.{nat_lt}
+use Rattle.rx_base.specs.declared.digests.Digest.{Digest}
+use Rattle.rx_world.specs.declared.call_faults.CallFault.{CallFault}
+use Rattle.rx_world.specs.declared.remote_causes.RemoteCause.TheVariants as causes
+use Rattle.rx_world.specs.declared.versions.SemVer.{SemVer}
+use Rattle.rx_blobs.specs.declared.blob_fault.BlobFault.{BlobFault}
+use Rattle.rx_blobs.specs.declared.blob_fault.BlobFault.TheVariants as blobs
+use Rattle.rx_remote.specs.declared.asks.Ask.{Ask}
+use Rattle.rx_remote.specs.declared.asks.Ask.TheVariants.{Execute, NextOperation, Upload}
+use Rattle.rx_remote.specs.declared.marks.Found.{Found}
+use Rattle.rx_remote.specs.declared.marks.Marks.{Marks}
+use Rattle.rx_remote.specs.declared.phases.Phase.{Phase}
+use Rattle.rx_remote.specs.declared.phases.Phase.TheVariants as phases
+use Rattle.rx_remote.specs.declared.tasks.Task.{Task}
+use Rattle.rx_remote.specs.Faults.{has_code, is_no_memory}
+use Rattle.rx_remote.specs.Fine.{IfEnded}
+use Rattle.rx_remote.specs.History.{after_blobs, after_fault, after_missing, after_range, again, asks_again, by_name, counts_as_miss, excludes, failed, fetch_again, finished, first_ask, most_waits, next_or_spent, skips, unless_asked_again}
+use Rattle.rx_world.specs.declared.remote_causes.RemoteCause.{RemoteCause}
+use Rattle.rx_world.specs.declared.looks.ChangedInput.{ChangedInput}
+
+-- the causes that faults and versions may leave
+pub record IsPlain (P : RemoteCause → Type 0) : Type 0 where
+  pub version : (low high : SemVer) → P (causes.WrongVersion low high)
+  pub spent : P causes.OperationsSpent
+  pub calls : (faults : List CallFault) → P (causes.CallFailed faults)
+  pub memory : P causes.NoMemory
+  pub changed : (input : ChangedInput) → P (causes.InputChanged input)
+  pub source : (path : List ℕ) → P (causes.SourceFault path)
+
+pub either-ends : (P : RemoteCause → Type 0) (b : Bool) (x y : Ask) → IfEnded P x → IfEnded P y → IfEnded P (cond b x y)
+either-ends P true x y f g = f
+either-ends P false x y f g = g
+
+first-ends : (P : RemoteCause → Type 0) (accepts : Bool) → IfEnded P (first_ask accepts)
+first-ends P true = tt
+first-ends P false = tt
+
+pub range-ends : (P : RemoteCause → Type 0) → IsPlain P → (accepts : Bool) (low high : Option SemVer) → IfEnded P (after_range accepts low high)
+range-ends P plain accepts (Some low) (Some high) =
+    either-ends P (excludes low high) (failed (causes.WrongVersion low high)) (first_ask accepts) (plain.version low high) (first-ends P accepts)
+range-ends P plain accepts None high = first-ends P accepts
+range-ends P plain accepts (Some low) None = first-ends P accepts
+
+pub spent-ends : (P : RemoteCause → Type 0) → IsPlain P → (marks : Marks) → IfEnded P (next_or_spent marks)
+spent-ends P plain marks = either-ends P (nat_lt marks.waits most_waits) NextOperation (failed causes.OperationsSpent) tt plain.spent
+
+pub finished-ends : (P : RemoteCause → Type 0) → IsPlain P → (found : Option Found) (texts : List (List ℕ)) → IfEnded P (finished found texts)
+finished-ends P plain None texts = plain.memory
+finished-ends P plain (Some f) texts = tt
+
+name-ends : (P : RemoteCause → Type 0) (task : Task) (marks : Marks) (name : List ℕ) → IfEnded P (by_name task marks name)
+name-ends P task marks [] = tt
+name-ends P task marks (byte ∷ bytes) = tt
+
+refetch-ends : (P : RemoteCause → Type 0) (found : Option Found) → IfEnded P (fetch_again found)
+refetch-ends P None = tt
+refetch-ends P (Some f) = tt
+
+again-ends : (P : RemoteCause → Type 0) → IsPlain P → (task : Task) (marks : Marks) (phase : Phase) (fault : CallFault) → IfEnded P (again task marks phase fault)
+again-ends P plain task marks phases.Capabilities fault = tt
+again-ends P plain task marks phases.GetResult fault = tt
+again-ends P plain task marks (phases.Upload fresh) fault = tt
+again-ends P plain task marks phases.Execute fault = either-ends P (has_code 9 fault) (Upload true) (Execute (skips task marks)) tt tt
+again-ends P plain task marks phases.NextOperation fault =
+    either-ends P (has_code 9 fault) (Upload true) (by_name task marks marks.name) tt (name-ends P task marks marks.name)
+again-ends P plain task marks phases.Wait fault =
+    either-ends P (has_code 5 fault) (Execute (skips task marks)) (by_name task marks marks.name) tt (name-ends P task marks marks.name)
+again-ends P plain task marks phases.Fetch fault = refetch-ends P marks.found
+again-ends P plain task marks phases.Ended fault = plain.memory
+
+unless-ends : (P : RemoteCause → Type 0) → IsPlain P → (task : Task) (marks : Marks) (phase : Phase) (fault : CallFault) (b : Bool) →
+    IfEnded P (unless_asked_again task marks phase fault b)
+unless-ends P plain task marks phase fault true = again-ends P plain task marks phase fault
+unless-ends P plain task marks phase fault false = plain.calls marks.faults
+
+pub fault-ends : (P : RemoteCause → Type 0) → IsPlain P → (task : Task) (marks : Marks) (phase : Phase) (fault : CallFault) → IfEnded P (after_fault task marks phase fault)
+unfolding after_fault
+fault-ends P plain task marks phase fault =
+    either-ends P (is_no_memory fault) (failed causes.NoMemory) (unless_asked_again task marks phase fault (asks_again marks phase fault)) plain.memory
+    (unless-ends P plain task marks phase fault (asks_again marks phase fault))
+
+missing-ends : (P : RemoteCause → Type 0) → IsPlain P → (marks : Marks) (phase : Phase) → IfEnded P (after_missing marks phase)
+unfolding after_missing
+missing-ends P plain marks phase = either-ends P (counts_as_miss marks phase) (Upload false) (failed (causes.CallFailed marks.faults)) tt (plain.calls marks.faults)
+
+-- of an upload or a fetch that failed, where a bad blob may be told or wasn't
+pub blobs-ends : (P : RemoteCause → Type 0) → IsPlain P → (task : Task) (marks : Marks) (phase : Phase) (fault : BlobFault) →
+    ((expected got : Digest) → fault ≡ blobs.BadBlob expected got → P (causes.BadBlob expected got)) → IfEnded P (after_blobs task marks phase fault)
+blobs-ends P plain task marks phase (blobs.Call fault) bad = fault-ends P plain task marks phase fault
+blobs-ends P plain task marks phase (blobs.Missing digest) bad = missing-ends P plain marks phase
+blobs-ends P plain task marks phase (blobs.Refused digest code) bad = plain.calls marks.faults
+blobs-ends P plain task marks phase (blobs.BadBlob expected got) bad = bad expected got refl
+blobs-ends P plain task marks phase (blobs.InputChanged input) bad = plain.changed input
+blobs-ends P plain task marks phase (blobs.SourceFault path) bad = plain.source path
+blobs-ends P plain task marks phase blobs.NoMemory bad = plain.memory
