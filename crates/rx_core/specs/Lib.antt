@@ -3,6 +3,8 @@ pub mod Answering
 pub mod AtOnce
 pub mod Attempts
 pub mod Facts
+pub mod FarmHistories
+pub mod FarmLaws
 pub mod Honest
 pub mod Publications
 pub mod Remote

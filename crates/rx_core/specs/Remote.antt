@@ -1,5 +1,6 @@
 -- What a remote attempt may hear, and what that leaves.
 use Rattle.std.specs.Prelude.{◌≡◌, Bool, List, [], ◌∷◌, Option, Some}
+use Rattle.rx_base.specs.declared.digests.Digest.{Digest}
 use Rattle.rx_world.specs.declared.attempts.End.{End}
 use Rattle.rx_world.specs.declared.attempts.End.TheVariants.{Done, Failed}
 use Rattle.rx_world.specs.declared.attempts.Origin.{Origin}
@@ -11,11 +12,13 @@ use Rattle.rx_world.specs.declared.remote_causes.RemoteCause.TheVariants.{Stoppe
 use Rattle.rx_world.specs.declared.trees.Tree.{Tree}
 use Rattle.rx_world.specs.Outcomes.{IsClean, IsProper}
 
--- what an action is to run, and whether a result of the farm's cache is accepted for it
+-- what an action is to run, whether a result of the farm's cache is accepted for it, and the digests
+-- of the blobs that a farm needs for it
 pub record Job : Type 0 where
   pub command : Command
   pub tree : Tree
   pub accept_cached : Bool
+  pub blobs : List Digest
 
 -- H is what a remote attempt hears at once: an answer to what it asked, the loss of one, or its
 -- race's decision. In a list of what was heard the latest stands first.

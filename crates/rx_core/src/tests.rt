@@ -8,7 +8,7 @@ ghost use Rattle.rx_world.specs.declared.outcomes.FileOut.{FileOut};
 ghost use Rattle.rx_world.specs.declared.outcomes.Outcome.{Outcome};
 ghost use Rattle.rx_world.specs.Outcomes.{IsProper};
 
-use crate::{RemoteHistory, every_run, every_step};
+use crate::{FarmHistory, RemoteHistory, every_run, every_step};
 use rx_world::{Toy, World};
 use std::marker::Brand;
 
@@ -40,6 +40,8 @@ fn races<W: World>()
 fn the_laws_hold_of_runs(rt: HostRuntime) {
     every_run::<Toy<Brand>, AtOnce>();
     every_step::<Toy<Brand>, AtOnce>();
+    every_run::<Toy<Brand>, FarmHistory>();
+    every_step::<Toy<Brand>, FarmHistory>();
     falls_back::<Toy<Brand>>();
     races::<Toy<Brand>>();
 }
