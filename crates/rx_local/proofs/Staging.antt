@@ -23,8 +23,10 @@ use Rattle.rx_world.specs.Sources.{entry_at, given_bytes}
 use Rattle.rx_world.specs.Trees.{tree_with_files}
 use Rattle.rx_world.proofs.AnswerLemmas.{gives-join, gives-none}
 use Rattle.rx_world.specs.Inputs.{IsAsListed, listed_copy, look_of, world_copy}
-use Rattle.rx_local.specs.Reads.{Differ, IsNextRead, IsReadCause}
-use Rattle.rx_local.specs.Stage.{AreStaged, HasFailedStaging, HasStaged, IsChangedInput, IsFront, IsRefusedInput, IsStageCause, PutsAll}
+use Rattle.rx_inputs.specs.declared.read_fault.ReadFault.{ReadFault}
+use Rattle.rx_inputs.specs.declared.read_fault.ReadFault.TheVariants as reads
+use Rattle.rx_inputs.specs.Reads.{Differ, IsNextRead, IsReadCause}
+use Rattle.rx_local.specs.Stage.{AreStaged, HasFailedStaging, HasStaged, IsChangedInput, IsFront, IsRefusedInput, IsStageCause, PutsAll, cause_of_read}
 
 -- ---- one file
 
@@ -41,15 +43,11 @@ staged-one file bytes d = (record { read = refl; digest_is = d; path_is = refl; 
 no-front : (file : InputFile) (answers last : List Given) → answers ≡ last → IsFront (file ∷ []) (file ∷ []) answers last
 no-front file answers last e = record { front = []; read = []; staged = []; files_are = refl; answers_are = e; each = tt }
 
-pub read-cause : (file : InputFile) (before now : ℕ) (answers : List Given) (cause : Cause) → IsReadCause file before now answers cause → IsStageCause (file ∷ []) answers cause
-read-cause file before now answers (InputChanged input) h =
+pub read-cause : (file : InputFile) (before now : ℕ) (answers : List Given) (fault : ReadFault) → IsReadCause file before now answers fault → IsStageCause (file ∷ []) answers (cause_of_read fault)
+read-cause file before now answers (reads.InputChanged input) h =
     record { file = file; rest = []; last = answers; front = no-front file answers answers refl; change = h }
-read-cause file before now answers (SourceFault path) h = record { file = file; rest = []; front = no-front file answers [] h.0; path_is = h.1 }
-read-cause file before now answers (BenchFault step) h = absurd h
-read-cause file before now answers (OutputMissing path) h = absurd h
-read-cause file before now answers (OutputTooLarge limit n) h = absurd h
-read-cause file before now answers (Stopped decision) h = absurd h
-read-cause file before now answers NoMemory h = record { rest = file ∷ []; last = answers; front = no-front file answers answers refl; next = h }
+read-cause file before now answers (reads.SourceFault path) h = record { file = file; rest = []; front = no-front file answers [] h.0; path_is = h.1 }
+read-cause file before now answers reads.NoMemory h = record { rest = file ∷ []; last = answers; front = no-front file answers answers refl; next = h }
 
 pub refused-one : (file : InputFile) (bytes : List ℕ) → digest_of bytes ≡ file.digest → IsRefusedInput (file ∷ []) (read_of file bytes ∷ [])
 refused-one file bytes d = record {

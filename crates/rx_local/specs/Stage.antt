@@ -22,7 +22,9 @@ use Rattle.rx_world.specs.Causes.{Rose}
 use Rattle.rx_world.specs.Inputs.{look_of}
 use Rattle.rx_world.specs.Sources.{given_bytes}
 use Rattle.rx_world.specs.Trees.{tree_with_directories, tree_with_files}
-use Rattle.rx_local.specs.Reads.{IsChange, IsNextRead}
+use Rattle.rx_inputs.specs.declared.read_fault.ReadFault.{ReadFault}
+use Rattle.rx_inputs.specs.declared.read_fault.ReadFault.TheVariants as reads
+use Rattle.rx_inputs.specs.Reads.{IsChange, IsNextRead}
 
 -- all these files are put into the tree
 abbrev pub PutsAll : Option Tree → Option Tree → List FileOut → Type 0
@@ -93,6 +95,12 @@ IsStageCause files answers (OutputMissing path) = ⊥
 IsStageCause files answers (OutputTooLarge limit n) = ⊥
 IsStageCause files answers (Stopped decision) = ⊥
 IsStageCause files answers NoMemory = IsCutShort files answers
+
+-- the cause of an attempt for which a file isn't read as it was gathered
+abbrev pub cause_of_read : ReadFault → Cause
+cause_of_read (reads.InputChanged input) = InputChanged input
+cause_of_read (reads.SourceFault path) = SourceFault path
+cause_of_read reads.NoMemory = NoMemory
 
 -- From one state of a source tree to another all these files were staged, and this holds of what was put.
 pub record HasStaged {T W : Type 0} (w : world.Ghosts W) (s : sources.Ghosts T W) (before after : T)

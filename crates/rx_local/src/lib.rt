@@ -4,7 +4,6 @@
 #![tactic(auto)]
 
 mod local;
-mod reads;
 mod stage;
 mod take;
 

@@ -7,11 +7,11 @@ ghost use Rattle.rx_world.specs.declared.failures.Refused.TheVariants.{Failed as
 ghost use Rattle.rx_world.specs.Causes.{HasCause, HasCauseOf};
 ghost use Rattle.rx_world.specs.Trees.{parents_of, tree_with_directories, tree_with_files, with_parents};
 ghost use Rattle.rx_local.specs.Local.{IsCauseOf, IsCounted, IsPrepareCause, job};
-ghost use Rattle.rx_local.specs.Stage.{HasFailedStaging, HasStaged, IsStepCause, IsStageCause, MakesAll, PutsAll};
+ghost use Rattle.rx_local.specs.Stage.{HasFailedStaging, HasStaged, IsStepCause, IsStageCause, MakesAll, PutsAll, cause_of_read};
 
-use crate::reads::read_again;
 use crate::take::cause_of;
 use rx_base::RelPath;
+use rx_inputs::{ReadFault, read_again};
 use rx_world::{Bench, BenchStep, Cause, Command, Failed, InputFile, Refused, Sources, World};
 use std::alloc::Global;
 
@@ -79,12 +79,26 @@ fn stage_file<W: World, B: Bench<W>, S: Sources<W>>(
     ensures cause { IfErr result (IsCounted (B.faults bench.old) (B.faults bench.new)
         (S.faults sources.old) (S.faults sources.new)) }
 {
-    let bytes = read_again::<W, S>(alloc, file, sources)?;
+    let bytes = match read_again::<W, S>(alloc, file, sources) {
+        Ok(bytes) => bytes,
+        Err(fault) => return Err(cause_of_read(fault)),
+    };
     match bench.put(&file.path, bytes.as_slice(), file.executable) {
         Ok(()) => Ok(()),
         Err(_) => Err(Cause::BenchFault {
             step: BenchStep::Put,
         }),
+    }
+}
+
+/// Why the attempt failed, where a file isn't read as it was gathered.
+fn cause_of_read(fault: ReadFault) -> Cause
+    ensures { result ≡ cause_of_read fault }
+{
+    match fault {
+        ReadFault::InputChanged(input) => Cause::InputChanged(input),
+        ReadFault::SourceFault { path } => Cause::SourceFault { path },
+        ReadFault::NoMemory => Cause::NoMemory,
     }
 }
 

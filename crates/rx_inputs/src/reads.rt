@@ -1,4 +1,4 @@
-//! The files of the inputs, read again: each must be as it was gathered.
+//! One file of the inputs, read again: it must be as it was gathered.
 
 ghost use Rattle.std.specs.Prelude.{◌≡◌, ◌≤◌, [], ◌∷◌, List, IfErr, IfNone, IfOk, IfSome};
 ghost use Rattle.rx_base.specs.declared.digests.Digest.{Digest};
@@ -7,43 +7,44 @@ ghost use Rattle.rx_world.specs.declared.sources.Given.{Given};
 ghost use Rattle.rx_world.specs.Answers.{Gives};
 ghost use Rattle.rx_world.specs.Inputs.{look_of};
 ghost use Rattle.rx_world.specs.Sources.{given_bytes};
-ghost use Rattle.rx_local.specs.Reads.{Differ, IsReadCause, seen_content};
-ghost use Rattle.rx_local.specs.Stage.{HasFailedStaging};
+ghost use Rattle.rx_inputs.specs.Reads.{Differ, HasFailedRead, seen_content};
 
+use crate::ReadFault;
 use rx_base::{Bytes, Digest, RelPath, TryClone, digest_of};
-use rx_world::{Cause, ChangedInput, InputFile, Look, Refused, Seen, Sources, World};
+use rx_world::{ChangedInput, InputFile, Look, Refused, Seen, Sources, World};
 use std::alloc::Global;
 
-/// The bytes of a file, which is read once.
+/// The bytes of a file, which is read once. Its look, so its stamp and its mark too, and the digest
+/// of its bytes are those that were gathered. Errors: `InputChanged` where one of them isn't,
+/// `SourceFault` where the source tree fails, `NoMemory`.
 pub fn read_again<W: World, S: Sources<W>>(
     alloc: Global,
     file: &InputFile,
     sources: &mut S,
-) -> Result<Bytes, Cause>
+) -> Result<Bytes, ReadFault>
     ensures digest { IfOk result (λ bytes. digest_of bytes ≡ file.now.digest) }
     ensures gives { IfOk result (λ bytes. Gives W.World S.Sources sources.old sources.new
         (given_bytes file.now.path (look_of file.now) bytes ∷ [])) }
-    ensures err { IfErr result (HasFailedStaging W.World S.Sources sources.old sources.new
-        (IsReadCause file.now (S.faults sources.old) (S.faults sources.new))) }
+    ensures err { IfErr result (HasFailedRead W.World S.Sources sources.old sources.new file.now) }
     ensures later { S.faults sources.old ≤ S.faults sources.new }
 {
     match sources.read(&file.path) {
         Ok((look, bytes)) => match change_of(file, look, bytes.as_slice()) {
             None => Ok(bytes),
             Some((first, second)) => match file.path.try_clone(alloc) {
-                Ok(path) => Err(Cause::InputChanged(ChangedInput {
+                Ok(path) => Err(ReadFault::InputChanged(ChangedInput {
                     path,
                     first,
                     second,
                 })),
-                Err(_) => Err(Cause::NoMemory),
+                Err(_) => Err(ReadFault::NoMemory),
             },
         },
         Err(Refused::Failed) => match file.path.try_clone(alloc) {
-            Ok(path) => Err(Cause::SourceFault { path }),
-            Err(_) => Err(Cause::NoMemory),
+            Ok(path) => Err(ReadFault::SourceFault { path }),
+            Err(_) => Err(ReadFault::NoMemory),
         },
-        Err(Refused::NoMemory) => Err(Cause::NoMemory),
+        Err(Refused::NoMemory) => Err(ReadFault::NoMemory),
     }
 }
 

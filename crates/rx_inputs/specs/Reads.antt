@@ -2,13 +2,16 @@
 use Rattle.std.specs.Prelude.{◌≡◌, ◌≢◌, ◌⊎◌, ℕ, List, [], ◌∷◌, None, Some}
 use Rattle.rx_base.specs.declared.digests.Digest.{Digest}
 use Rattle.rx_base.specs.Digests.{digest_of}
-use Rattle.rx_world.specs.declared.attempts.Cause.{Cause}
-use Rattle.rx_world.specs.declared.attempts.Cause.TheVariants.{BenchFault, InputChanged, NoMemory, OutputMissing, OutputTooLarge, SourceFault, Stopped}
+use Rattle.rx_inputs.specs.declared.read_fault.ReadFault.{ReadFault}
+use Rattle.rx_inputs.specs.declared.read_fault.ReadFault.TheVariants.{InputChanged, NoMemory, SourceFault}
 use Rattle.rx_world.specs.declared.input_files.InputFile.{InputFile}
 use Rattle.rx_world.specs.declared.looks.Look.{Look}
 use Rattle.rx_world.specs.declared.looks.ChangedInput.{ChangedInput}
 use Rattle.rx_world.specs.declared.looks.Seen.{Seen}
 use Rattle.rx_world.specs.declared.sources.Given.{Given}
+use Rattle.rx_world.specs.declared.sources.Sources as sources
+use Rattle.rx_world.specs.declared.world.World as world
+use Rattle.rx_world.specs.Answers.{Gives}
 use Rattle.rx_world.specs.Causes.{Rose}
 use Rattle.rx_world.specs.Inputs.{look_of}
 use Rattle.rx_world.specs.Sources.{given_bytes}
@@ -40,11 +43,14 @@ IsNextRead [] answers = answers ≡ []
 IsNextRead (file ∷ rest) answers = (answers ≡ []) ⊎ ((look : Look) × (bytes : List ℕ) × (answers ≡ given_bytes file.path look bytes ∷ []))
 
 -- each cause of a file that can't be read as it was gathered, over what was answered and the count of faults
-abbrev pub IsReadCause : InputFile → ℕ → ℕ → List Given → Cause → Type 0
+abbrev pub IsReadCause : InputFile → ℕ → ℕ → List Given → ReadFault → Type 0
 IsReadCause file before now answers (InputChanged input) = IsChange file answers input
 IsReadCause file before now answers (SourceFault path) = (answers ≡ []) × (path ≡ file.path) × Rose before now
-IsReadCause file before now answers (BenchFault step) = ⊥
-IsReadCause file before now answers (OutputMissing path) = ⊥
-IsReadCause file before now answers (OutputTooLarge limit n) = ⊥
-IsReadCause file before now answers (Stopped decision) = ⊥
 IsReadCause file before now answers NoMemory = IsNextRead (file ∷ []) answers
+
+-- Between two states of a source tree the file wasn't read as it was gathered, for this cause.
+pub record HasFailedRead {T W : Type 0} (w : world.Ghosts W) (s : sources.Ghosts T W) (before after : T) (file : InputFile)
+    (fault : ReadFault) : Type 0 where
+  pub answers : List Given
+  pub gives : Gives w s before after answers
+  pub caused : IsReadCause file (s.faults before) (s.faults after) answers fault
