@@ -8,32 +8,37 @@ use Rattle.rx_world.specs.declared.attempts.Cause.TheVariants.{BenchFault, Input
 use Rattle.rx_world.specs.declared.benches.Bench as benches
 use Rattle.rx_world.specs.declared.benches.BenchMaker as makers
 use Rattle.rx_world.specs.declared.benches.BenchRun.{BenchRun}
+use Rattle.rx_world.specs.declared.decisions.Decision.{Decision}
 use Rattle.rx_world.specs.declared.input_files.InputFile.{InputFile}
 use Rattle.rx_world.specs.declared.outcomes.Exit.{Exit}
 use Rattle.rx_world.specs.declared.outcomes.FileOut.{FileOut}
 use Rattle.rx_world.specs.declared.outcomes.Outcome.{Outcome}
+use Rattle.rx_world.specs.declared.refusals.OutputLimit.{OutputLimit}
 use Rattle.rx_world.specs.declared.sources.Given.{Given}
 use Rattle.rx_world.specs.declared.sources.Sources as sources
 use Rattle.rx_world.specs.declared.trees.Tree.{Tree}
 use Rattle.rx_world.specs.declared.world.World as world
+use Rattle.rx_world.proofs.AnswerLemmas.{gives-none}
 use Rattle.rx_world.specs.Benches.{IsFresh, Runs}
 use Rattle.rx_world.specs.Files.{cut_files}
-use Rattle.rx_world.specs.Outcomes.{IsClean}
+use Rattle.rx_world.specs.Outcomes.{IsClean, IsProper}
 use Rattle.rx_world.specs.Trees.{empty_tree, tree_of, tree_with_directories, tree_with_files, with_parents}
-use Rattle.rx_local.specs.Local.{HasAttempted, HasEnded, IfRunsTold, IfMissing, IsAfterRun, IsBeforeRun, IsCauseOf, IsOnlyRun, IsPrepareCause, IsReadBefore, IsUnmade, Job, LacksOutput, RanAtMostOnce, first_missing, run_of}
+use Rattle.rx_local.specs.declared.limits.Passed.{Passed}
+use Rattle.rx_local.specs.Limits.{passed_of}
+use Rattle.rx_local.specs.Local.{HasAttempted, HasEnded, IfRunsTold, IfMissing, IfTooLarge, IsTakeCause, IsBeforeRun, IsCauseOf, IsOnlyRun, IsPrepareCause, IsReadBefore, IsStopped, IsUnmade, Job, LacksOutput, RanAtMostOnce, first_missing, run_of}
 use Rattle.rx_local.specs.Stage.{AreStaged, HasFailedStaging, HasRunToZero, HasStaged, IsCutShort, IsStepCause}
 
 -- ---- causes before the run
 
-prepare-not-after : (cause : Cause) → IsPrepareCause cause → IsAfterRun cause → ⊥
-prepare-not-after (BenchFault step) (inl e) after = absurd (cc)
-prepare-not-after (BenchFault step) (inr e) after = absurd (cc)
-prepare-not-after (InputChanged input) p after = after
-prepare-not-after (OutputMissing path) p after = p
-prepare-not-after (OutputTooLarge limit n) p after = p
-prepare-not-after (SourceFault path) p after = after
-prepare-not-after (Stopped decision) p after = p
-prepare-not-after NoMemory p after = after
+prepare-not-take : (cause : Cause) → IsPrepareCause cause → IsTakeCause cause → ⊥
+prepare-not-take (BenchFault step) (inl e) after = absurd (cc)
+prepare-not-take (BenchFault step) (inr e) after = absurd (cc)
+prepare-not-take (InputChanged input) p after = after
+prepare-not-take (OutputMissing path) p after = p
+prepare-not-take (OutputTooLarge limit n) p after = p
+prepare-not-take (SourceFault path) p after = after
+prepare-not-take (Stopped decision) p after = p
+prepare-not-take NoMemory p after = after
 
 prepare-not-unmade : (cause : Cause) → IsPrepareCause cause → IsUnmade cause → ⊥
 prepare-not-unmade (BenchFault step) (inl e) unmade = absurd (cc)
@@ -53,6 +58,24 @@ prepare-not-missing (OutputTooLarge limit n) Fact p = tt
 prepare-not-missing (SourceFault path) Fact p = tt
 prepare-not-missing (Stopped decision) Fact p = tt
 prepare-not-missing NoMemory Fact p = tt
+
+prepare-not-past : (cause : Cause) (Fact : OutputLimit → ℕ → Type 0) → IsPrepareCause cause → IfTooLarge cause Fact
+prepare-not-past (BenchFault step) Fact p = tt
+prepare-not-past (InputChanged input) Fact p = tt
+prepare-not-past (OutputMissing path) Fact p = tt
+prepare-not-past (OutputTooLarge limit n) Fact p = absurd p
+prepare-not-past (SourceFault path) Fact p = tt
+prepare-not-past (Stopped decision) Fact p = tt
+prepare-not-past NoMemory Fact p = tt
+
+prepare-not-stopped : (cause : Cause) → IsPrepareCause cause → IsStopped cause → ⊥
+prepare-not-stopped (BenchFault step) p stopped = stopped
+prepare-not-stopped (InputChanged input) p stopped = stopped
+prepare-not-stopped (OutputMissing path) p stopped = stopped
+prepare-not-stopped (OutputTooLarge limit n) p stopped = stopped
+prepare-not-stopped (SourceFault path) p stopped = stopped
+prepare-not-stopped (Stopped decision) p stopped = p
+prepare-not-stopped NoMemory p stopped = stopped
 
 -- ---- the runs and the tree of a fresh bench
 
@@ -137,10 +160,12 @@ ends-unready w b s j old new before after cause fresh failed prepare runs =
       ended = record {
         caused = failed.caused;
         not_run = λ _. none;
-        run_once = λ ran. absurd (prepare-not-after cause prepare ran);
+        run_once = λ ran. absurd (prepare-not-take cause prepare ran);
+        run_past = prepare-not-past cause _ prepare;
         at_most_once = none-at-most (b.runs new) none;
         unmade = λ e. absurd (cc);
         made_none = λ unmade. absurd (prepare-not-unmade cause prepare unmade);
+        stopped = λ stopped. absurd (prepare-not-stopped cause prepare stopped);
         lacks = prepare-not-missing cause _ prepare;
       };
     }
@@ -182,6 +207,26 @@ run-not-unmade was now (SourceFault path) step unmade = unmade
 run-not-unmade was now (Stopped decision) step unmade = unmade
 run-not-unmade was now NoMemory step unmade = unmade
 
+run-not-past : (was now : ℕ) (cause : Cause) (Fact : OutputLimit → ℕ → Type 0) → IsStepOfRun was now cause → IfTooLarge cause Fact
+run-not-past was now (BenchFault step) Fact p = tt
+run-not-past was now (InputChanged input) Fact p = tt
+run-not-past was now (OutputMissing path) Fact p = tt
+run-not-past was now (OutputTooLarge limit n) Fact (inl h) = absurd h
+run-not-past was now (OutputTooLarge limit n) Fact (inr h) = absurd h
+run-not-past was now (SourceFault path) Fact p = tt
+run-not-past was now (Stopped decision) Fact p = tt
+run-not-past was now NoMemory Fact p = tt
+
+run-not-stopped : (was now : ℕ) (cause : Cause) → IsStepOfRun was now cause → IsStopped cause → ⊥
+run-not-stopped was now (BenchFault step) p stopped = stopped
+run-not-stopped was now (InputChanged input) p stopped = stopped
+run-not-stopped was now (OutputMissing path) p stopped = stopped
+run-not-stopped was now (OutputTooLarge limit n) p stopped = stopped
+run-not-stopped was now (SourceFault path) p stopped = stopped
+run-not-stopped was now (Stopped decision) (inl h) stopped = h
+run-not-stopped was now (Stopped decision) (inr h) stopped = h
+run-not-stopped was now NoMemory p stopped = stopped
+
 if-missing : (cause : Cause) (F G : List ℕ → Type 0) → ((path : List ℕ) → F path → G path) → IfMissing cause F → IfMissing cause G
 if-missing (BenchFault step) F G says h = tt
 if-missing (OutputMissing path) F G says h = says path h
@@ -214,7 +259,7 @@ module _ {B T W : Type 0} (w : world.Ghosts W) (b : benches.Ghosts B W) (s : sou
       → IfOk result (λ outcome. IfSome (b.tree new) (λ tree. outcome.exit.code ≡ pos 0 → outcome.files ≡ cut_files j.command.outputs tree.files))
       → IfErr result (IsStepOfRun was now)
       → IfErr result (λ cause. IsBeforeRun cause → b.runs new ≡ b.runs mid)
-      → IfErr result (λ cause. IsAfterRun cause → HasRunToZero b j.command mid new)
+      → IfErr result (λ cause. IsTakeCause cause → HasRunToZero b j.command mid new)
       → IfErr result (λ cause. (b.runs new ≡ b.runs mid) ⊎ HasRunToZero b j.command mid new)
       → IfErr result (λ cause. IfMissing cause (λ path. w.tools_honest → IfSome (b.tree mid) (λ tree. LacksOutput w.tool j.command tree path)))
       → IfErr result (λ cause. IfMissing cause (λ path. IfSome (b.tree new) (λ tree. first_missing j.command.outputs tree.files ≡ Some path)))
@@ -241,18 +286,61 @@ module _ {B T W : Type 0} (w : world.Ghosts W) (b : benches.Ghosts B W) (s : sou
           (if-missing cause _ _ (λ path h so. lacks-run w j staged.staged path (b.tree old) (b.tree mid) (fresh.tells so) staged.put (h so)) missing);
       not_run = λ unrun. none-run (not_run unrun);
       run_once = λ over. let ran = ended over in record { staged = staged.staged; each = staged.each; exit = ran.exit; code_is = ran.code_is; ran = one-run ran.exit ran.ran };
+      run_past = run-not-past was now cause _ step;
       at_most_once = at-most-once once;
       unmade = λ e. absurd (cc);
       made_none = λ unmade. absurd (run-not-unmade was now cause step unmade);
+      stopped = λ stopped. absurd (run-not-stopped was now cause step stopped);
       lacks = lacks;
     };
   }
+
+-- a decision was told before a bench was made
+pub ends-unbegun : {B T W : Type 0} (w : world.Ghosts W) (b : benches.Ghosts B W) (s : sources.Ghosts T W) (j : Job) (before : T) (decision : Decision)
+    → HasEnded w b s None j before before (Err (Stopped decision))
+ends-unbegun w b s j before decision = record {
+  answers = [];
+  gives = gives-none w s before;
+  ended = record {
+    caused = inl refl;
+    not_run = λ _. tt;
+    run_once = λ x. absurd x;
+    run_past = tt;
+    at_most_once = tt;
+    unmade = λ _. inr tt;
+    made_none = λ x. absurd x;
+    stopped = λ _. refl;
+    lacks = tt;
+  };
+}
 
 -- ---- an outcome that is let go
 
 told-at-most : {B W : Type 0} (b : benches.Ghosts B W) (made : Option B) (run : BenchRun) → IfRunsTold b made (λ all. all ≡ run ∷ []) → IfRunsTold b made RanAtMostOnce
 told-at-most b None run h = tt
 told-at-most b (Some bench) run h = one-at-most (b.runs bench) run h
+
+-- the outcome passes a limit
+pub ends-past : {B T W : Type 0} (w : world.Ghosts W) (b : benches.Ghosts B W) (s : sources.Ghosts T W) (made : Option B) (j : Job) (before after : T) (outcome : Outcome) (over : Passed)
+    → HasEnded w b s made j before after (Ok outcome) → IsProper j.command outcome → passed_of outcome ≡ Some over
+    → HasEnded w b s made j before after (Err (OutputTooLarge over.limit over.n))
+ends-past w b s made j before after outcome over h proper passes =
+    let run = h.ended in
+    record {
+      answers = h.answers;
+      gives = h.gives;
+      ended = record {
+        caused = record { outcome = outcome; of = run.of; proper = proper; passes = passes };
+        not_run = λ x. absurd x;
+        run_once = λ x. absurd x;
+        run_past = record { outcome = outcome; run = run; passes = passes };
+        at_most_once = told-at-most b made (run_of j run.of.staged outcome.exit) run.ran;
+        unmade = λ e. absurd (true≢false (rw e at run.made_one));
+        made_none = λ x. absurd x;
+        stopped = λ x. absurd x;
+        lacks = tt;
+      };
+    }
 
 -- an attempt whose outcome is let go for want of memory ended as one that memory ran out in
 pub forgets : {M B T W : Type 0} (w : world.Ghosts W) (m : makers.Ghosts M W B) (b : benches.Ghosts B W) (s : sources.Ghosts T W) (j : Job) (benches_before benches_after : M) (before after : T) (outcome : Outcome)
@@ -269,12 +357,15 @@ forgets w m b s j benches_before benches_after before after outcome h =
           caused = all-read j.files h.on.answers run.of.staged run.of.each;
           not_run = λ x. absurd x;
           run_once = λ x. absurd x;
+          run_past = tt;
           at_most_once = told-at-most b h.made (run_of j run.of.staged outcome.exit) run.ran;
           unmade = λ e. absurd (true≢false (rw e at run.made_one));
           made_none = λ x. absurd x;
+          stopped = λ x. absurd x;
           lacks = tt;
         };
       };
       later = h.later;
       counted = tt;
+      untouched = λ x. absurd x;
     }

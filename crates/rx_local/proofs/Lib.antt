@@ -1,4 +1,5 @@
 pub mod Ends
 mod HonestRuns
 mod Lacking
+pub mod LimitLemmas
 pub mod Staging

@@ -8,12 +8,14 @@ use Rattle.rx_world.specs.declared.benches.Bench as benches
 use Rattle.rx_world.specs.declared.benches.BenchMaker as makers
 use Rattle.rx_world.specs.declared.benches.BenchRun.{BenchRun}
 use Rattle.rx_world.specs.declared.commands.Command.{Command}
+use Rattle.rx_world.specs.declared.decisions.Decision.{Decision}
 use Rattle.rx_world.specs.declared.failures.Refused.{Refused}
 use Rattle.rx_world.specs.declared.failures.Refused.TheVariants.{Failed, NoMemory as no_memory}
 use Rattle.rx_world.specs.declared.input_files.InputFile.{InputFile}
 use Rattle.rx_world.specs.declared.outcomes.Exit.{Exit}
 use Rattle.rx_world.specs.declared.outcomes.FileOut.{FileOut}
 use Rattle.rx_world.specs.declared.outcomes.Outcome.{Outcome}
+use Rattle.rx_world.specs.declared.refusals.OutputLimit.{OutputLimit}
 use Rattle.rx_world.specs.declared.sources.Given.{Given}
 use Rattle.rx_world.specs.declared.sources.Sources as sources
 use Rattle.rx_world.specs.declared.trees.Tree.{Tree}
@@ -21,9 +23,12 @@ use Rattle.rx_world.specs.declared.world.World as world
 use Rattle.rx_world.specs.Answers.{Gives}
 use Rattle.rx_world.specs.Benches.{Returns}
 use Rattle.rx_world.specs.Causes.{Rose}
+use Rattle.rx_world.specs.Decisions.{StopsBy}
 use Rattle.rx_world.specs.Files.{cut_files, file_at}
-use Rattle.rx_world.specs.Outcomes.{IsClean}
+use Rattle.rx_world.specs.Outcomes.{IsClean, IsProper}
 use Rattle.rx_world.specs.Trees.{tree_of, with_parents}
+use Rattle.rx_local.specs.declared.local.LocalJob.{LocalJob}
+use Rattle.rx_local.specs.Limits.{passed, passed_of}
 use Rattle.rx_local.specs.Stage.{AreStaged, IsChangedInput, IsCutShort, IsLostInput, IsRefusedInput}
 
 -- what an attempt runs: a command on these files and directories
@@ -34,6 +39,10 @@ pub record Job : Type 0 where
 
 abbrev pub job : Command → List InputFile → List (List ℕ) → Job
 job command files directories = record { command = command; files = files; directories = directories }
+
+-- the job that is handed in
+abbrev pub local_job : LocalJob → Job
+local_job l = job l.command.now l.files.now l.directories.now
 
 -- ---- what the tool makes
 
@@ -114,14 +123,25 @@ pub record IsMissingOf {W : Type 0} (w : world.Ghosts W) (j : Job) (answers : Li
   pub each : AreStaged j.files answers staged
   pub lacks : w.tools_honest → LacksOutput w.tool j.command (tree_of staged j.directories) path
 
+-- The outcome that would else be given passes this limit first. Where tools are honest, it is the tool's.
+pub record IsTooLargeOf {W : Type 0} (w : world.Ghosts W) (j : Job) (answers : List Given) (limit : OutputLimit) (n : ℕ) : Type 0 where
+  pub outcome : Outcome
+  pub of : IsOutcomeOf w j answers outcome
+  pub proper : IsProper j.command outcome
+  pub passes : passed_of outcome ≡ Some (passed limit n)
+
+-- what was read before a decision was told: nothing, or all files
+abbrev pub IsReadBeforeStop : List InputFile → List Given → Type 0
+IsReadBeforeStop files answers = (answers ≡ []) ⊎ HaveStaged files answers
+
 -- each cause only with what was read before it
 abbrev pub IsCauseOf : {W : Type 0} → world.Ghosts W → Job → List Given → Cause → Type 0
 IsCauseOf w j answers (BenchFault step) = IsReadBefore step j.files answers
 IsCauseOf w j answers (OutputMissing path) = IsMissingOf w j answers path
 IsCauseOf w j answers (InputChanged input) = IsChangedInput j.files answers input
-IsCauseOf w j answers (OutputTooLarge limit n) = ⊥
+IsCauseOf w j answers (OutputTooLarge limit n) = IsTooLargeOf w j answers limit n
 IsCauseOf w j answers (SourceFault path) = IsLostInput j.files answers path
-IsCauseOf w j answers (Stopped decision) = ⊥
+IsCauseOf w j answers (Stopped decision) = IsReadBeforeStop j.files answers
 IsCauseOf w j answers NoMemory = IsCutShort j.files answers
 
 -- the steps of a bench before the command runs on it
@@ -139,7 +159,7 @@ IsBeforeRun (InputChanged input) = Unit {0}
 IsBeforeRun (SourceFault path) = Unit {0}
 IsBeforeRun (OutputMissing path) = ⊥
 IsBeforeRun (OutputTooLarge limit n) = ⊥
-IsBeforeRun (Stopped decision) = ⊥
+IsBeforeRun (Stopped decision) = Unit {0}
 IsBeforeRun NoMemory = ⊥
 
 -- the causes for which a bench doesn't stand ready for a run
@@ -152,17 +172,17 @@ IsPrepareCause (OutputTooLarge limit n) = ⊥
 IsPrepareCause (Stopped decision) = ⊥
 IsPrepareCause NoMemory = Unit {0}
 
--- the causes after the command ran
-abbrev pub IsAfterRun : Cause → Type 0
-IsAfterRun (BenchFault step) = step ≡ Take
-IsAfterRun (OutputMissing path) = Unit {0}
-IsAfterRun (InputChanged input) = ⊥
-IsAfterRun (OutputTooLarge limit n) = ⊥
-IsAfterRun (SourceFault path) = ⊥
-IsAfterRun (Stopped decision) = ⊥
-IsAfterRun NoMemory = ⊥
+-- the causes at which outputs are taken, after the command ran to code 0
+abbrev pub IsTakeCause : Cause → Type 0
+IsTakeCause (BenchFault step) = step ≡ Take
+IsTakeCause (OutputMissing path) = Unit {0}
+IsTakeCause (InputChanged input) = ⊥
+IsTakeCause (OutputTooLarge limit n) = ⊥
+IsTakeCause (SourceFault path) = ⊥
+IsTakeCause (Stopped decision) = ⊥
+IsTakeCause NoMemory = ⊥
 
--- no bench could be made
+-- a bench couldn't be made
 abbrev pub IsUnmade : Cause → Type 0
 IsUnmade (BenchFault step) = step ≡ Make
 IsUnmade (InputChanged input) = ⊥
@@ -182,6 +202,26 @@ IfMissing (SourceFault path) Fact = Unit {0}
 IfMissing (Stopped decision) Fact = Unit {0}
 IfMissing NoMemory Fact = Unit {0}
 
+-- for an outcome that is too large this is so of the limit and of the bytes
+abbrev pub IfTooLarge : Cause → (OutputLimit → ℕ → Type 0) → Type 0
+IfTooLarge (BenchFault step) Fact = Unit {0}
+IfTooLarge (OutputMissing path) Fact = Unit {0}
+IfTooLarge (InputChanged input) Fact = Unit {0}
+IfTooLarge (OutputTooLarge limit n) Fact = Fact limit n
+IfTooLarge (SourceFault path) Fact = Unit {0}
+IfTooLarge (Stopped decision) Fact = Unit {0}
+IfTooLarge NoMemory Fact = Unit {0}
+
+-- a decision was told
+abbrev pub IsStopped : Cause → Type 0
+IsStopped (BenchFault step) = ⊥
+IsStopped (OutputMissing path) = ⊥
+IsStopped (InputChanged input) = ⊥
+IsStopped (OutputTooLarge limit n) = ⊥
+IsStopped (SourceFault path) = ⊥
+IsStopped (Stopped decision) = Unit {0}
+IsStopped NoMemory = ⊥
+
 -- the files were staged, and the bench ran just once, over them and to code 0
 pub record HasRunOnce {B W : Type 0} (b : benches.Ghosts B W) (made : Option B) (j : Job) (answers : List Given) : Type 0 where
   pub staged : List FileOut
@@ -190,16 +230,30 @@ pub record HasRunOnce {B W : Type 0} (b : benches.Ghosts B W) (made : Option B) 
   pub code_is : exit.code ≡ pos 0
   pub ran : IfRunsTold b made (IsOnlyRun j staged exit)
 
+-- the bench ran just once, and the outcome of this run passes this limit first
+pub record HasRunPast {B W : Type 0} (w : world.Ghosts W) (b : benches.Ghosts B W) (made : Option B) (j : Job) (answers : List Given)
+    (limit : OutputLimit) (n : ℕ) : Type 0 where
+  pub outcome : Outcome
+  pub run : IsRunOf w b made j answers outcome
+  pub passes : passed_of outcome ≡ Some (passed limit n)
+
+-- a decision was told before a bench was made and anything was read, or when the bench stood ready
+abbrev pub IsReadAtStop : {B : Type 0} → Option B → List InputFile → List Given → Type 0
+IsReadAtStop None files answers = answers ≡ []
+IsReadAtStop (Some bench) files answers = HaveStaged files answers
+
 -- A cause, with what was read and what had run on the bench: nothing before it, one run, or at most one. There is no bench exactly where
--- none could be made, and a missing output is missing on it.
+-- none could be made or a decision was told before, and a missing output is missing on it.
 pub record IsFailureOf {B W : Type 0} (w : world.Ghosts W) (b : benches.Ghosts B W) (made : Option B) (j : Job) (answers : List Given)
     (cause : Cause) : Type 0 where
   pub caused : IsCauseOf w j answers cause
   pub not_run : IsBeforeRun cause → IfRunsTold b made (λ all. all ≡ [])
-  pub run_once : IsAfterRun cause → HasRunOnce b made j answers
+  pub run_once : IsTakeCause cause → HasRunOnce b made j answers
+  pub run_past : IfTooLarge cause (HasRunPast w b made j answers)
   pub at_most_once : IfRunsTold b made RanAtMostOnce
-  pub unmade : made ≡ None → IsUnmade cause
+  pub unmade : made ≡ None → IsUnmade cause ⊎ IsStopped cause
   pub made_none : IsUnmade cause → made ≡ None
+  pub stopped : IsStopped cause → IsReadAtStop made j.files answers
   pub lacks : IfMissing cause (λ path. IfTreeTold b made (λ tree. first_missing j.command.outputs tree.files ≡ Some path))
 
 -- for a fault the count of its part rose, of the benches or of the source tree
@@ -226,7 +280,13 @@ pub record HasEnded {B T W : Type 0} (w : world.Ghosts W) (b : benches.Ghosts B 
   pub gives : Gives w s before after answers
   pub ended : MatchResult result (IsRunOf w b made j answers) (IsFailureOf w b made j answers)
 
--- The same, and the bench that was made for it, at most one, came back; no count fell, and that of the part that failed rose.
+-- no count changed
+pub record IsUntouched (benches_before benches_now sources_before sources_now : ℕ) : Type 0 where
+  pub benches_are : benches_now ≡ benches_before
+  pub sources_are : sources_now ≡ sources_before
+
+-- The same, and the bench that was made for it, at most one, came back; no count fell, and that of the part that failed rose. Where a
+-- decision was told before a bench was made, none changed.
 pub record HasAttempted {M B T W : Type 0} (w : world.Ghosts W) (m : makers.Ghosts M W B) (b : benches.Ghosts B W) (s : sources.Ghosts T W)
     (j : Job) (benches_before benches_after : M) (before after : T) (result : Result Outcome Cause) : Type 0 where
   pub made : Option B
@@ -234,6 +294,8 @@ pub record HasAttempted {M B T W : Type 0} (w : world.Ghosts W) (m : makers.Ghos
   pub on : HasEnded w b s made j before after result
   pub later : m.faults benches_before ≤ m.faults benches_after
   pub counted : IfErr result (IsCounted (m.faults benches_before) (m.faults benches_after) (s.faults before) (s.faults after))
+  pub untouched : IfErr result (λ cause. IsStopped cause → made ≡ None →
+      IsUntouched (m.faults benches_before) (m.faults benches_after) (s.faults before) (s.faults after))
 
 -- an input changed
 abbrev pub IsChanged : Cause → Type 0
@@ -244,3 +306,19 @@ IsChanged (OutputTooLarge limit n) = ⊥
 IsChanged (SourceFault path) = ⊥
 IsChanged (Stopped decision) = ⊥
 IsChanged NoMemory = ⊥
+
+-- ---- what a stop tells
+
+-- at the end of an attempt for this cause
+abbrev pub Tells : Option Decision → Option Decision → Cause → Type 0
+Tells before now (Stopped decision) = StopsBy now decision
+Tells before now (BenchFault step) = now ≡ before
+Tells before now (OutputMissing path) = now ≡ before
+Tells before now (InputChanged input) = now ≡ before
+Tells before now (OutputTooLarge limit n) = now ≡ before
+Tells before now (SourceFault path) = now ≡ before
+Tells before now NoMemory = now ≡ before
+
+-- A stop that was asked tells the decision of the cause, where that is Stopped, and else what it told before.
+abbrev pub HasTold : Option Decision → Option Decision → Result Outcome Cause → Type 0
+HasTold before now result = MatchResult result (λ outcome. now ≡ before) (Tells before now)

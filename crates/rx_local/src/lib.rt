@@ -3,8 +3,9 @@
 //! a program.
 #![tactic(auto)]
 
+mod limits;
 mod local;
 mod stage;
 mod take;
 
-pub use local::run_local;
+pub use local::{LocalJob, run_local};
