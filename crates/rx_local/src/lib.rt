@@ -5,7 +5,12 @@
 
 mod limits;
 mod local;
+mod slots;
 mod stage;
 mod take;
 
 pub use local::{LocalJob, run_local};
+pub use slots::{Places, SlotPass, Slots, blank_for};
+
+#[cfg(test)]
+mod tests;
