@@ -1,17 +1,19 @@
-//! `action WORDS ENVIRONMENT DIRECTORY OUTPUTS PLATFORM SECONDS`: the key of a command on the input root
-//! whose bytes are `abc`: the bytes of the Command and of the Action, and the Action's digest.
+//! `action WORDS ENVIRONMENT DIRECTORY OUTPUTS PLATFORM SECONDS DIALECT`: the key of a command on the
+//! input root whose bytes are `abc`, on a farm of this dialect, `New` or `Old`: the bytes of the Command
+//! and of the Action, and the Action's digest.
 
 use crate::arguments::{path, paths, text, write_digest};
 use rx_action::{ActionFault, ActionKey, action_of};
 use rx_base::{Items, Text, digest_of};
 use rx_rows::{Answer, Row, RowFault};
-use rx_world::{Command, Pair};
+use rx_world::{Command, Dialect, Pair};
 use std::alloc::Global;
 
 /// Makes the key of the command that the next words tell.
 pub(crate) fn call(alloc: Global, row: &mut Row<'_>, answer: &mut Answer) -> Result<(), RowFault> {
     let command = command(alloc, row)?;
-    match action_of(alloc, &command, &digest_of(b"abc")) {
+    let dialect = dialect(row)?;
+    match action_of(alloc, &command, &digest_of(b"abc"), dialect) {
         Ok(key) => write_key(alloc, &key, answer),
         Err(ActionFault::NoMemory) => Err(RowFault::NoMemory),
         Err(fault) => {
@@ -44,6 +46,15 @@ fn command(alloc: Global, row: &mut Row<'_>) -> Result<Command, RowFault> {
         platform,
         timeout_seconds: u32::try_from(seconds).map_err(|_| RowFault::BadNumber)?,
     })
+}
+
+/// The next word, a dialect. `BadCall` where it is none.
+fn dialect(row: &mut Row<'_>) -> Result<Dialect, RowFault> {
+    match row.word()? {
+        b"New" => Ok(Dialect::New),
+        b"Old" => Ok(Dialect::Old),
+        _ => Err(RowFault::BadCall),
+    }
 }
 
 /// The next word, words with a space between each two in one pair of quotes.

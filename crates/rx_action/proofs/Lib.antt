@@ -1,2 +1,3 @@
 pub mod PathsBehind
 pub mod InOrder
+pub mod OutputsBelow

@@ -10,6 +10,8 @@ use Rattle.rx_messages.specs.declared.commands.Command.{Command as Message}
 use Rattle.rx_codec.specs.declared.faults.MessageFault.{MessageFault}
 use Rattle.rx_world.specs.declared.commands.Command.{Command}
 use Rattle.rx_world.specs.declared.commands.Pair.{Pair}
+use Rattle.rx_world.specs.declared.versions.Dialect.{Dialect}
+use Rattle.rx_world.specs.declared.versions.Dialect.TheVariants.{New, Old}
 use Rattle.rx_action.specs.OutputPaths.{output_paths}
 use Rattle.rx_action.specs.Pairs.{sorted_pairs}
 
@@ -28,17 +30,27 @@ platform_of (pair ∷ pairs) = Some (record { properties = map property_of (sort
 abbrev pub read_command : List ℕ → Result Message MessageFault
 read_command bytes = decoded command_parts command_from any_form bytes
 
--- The outputs are told by output_paths alone.
-abbrev pub command_message : Command → Message
-command_message command = record {
+-- the outputs that a farm of this dialect reads in output_paths
+abbrev pub in_output_paths : Dialect → List (List ℕ) → List (List ℕ)
+in_output_paths New paths = paths
+in_output_paths Old paths = []
+
+-- those that it reads in output_files
+abbrev pub in_output_files : Dialect → List (List ℕ) → List (List ℕ)
+in_output_files New paths = []
+in_output_files Old paths = paths
+
+-- The outputs are told in one field alone, that of the dialect.
+abbrev pub command_message : Command → Dialect → Message
+command_message command dialect = record {
   arguments = command.words;
   environment_variables = map variable_of (sorted_pairs command.environment);
-  output_files = [];
+  output_files = in_output_files dialect (output_paths command.working_directory command.outputs);
   output_directories = [];
   platform = platform_of command.platform;
   working_directory = command.working_directory;
-  output_paths = output_paths command.working_directory command.outputs;
+  output_paths = in_output_paths dialect (output_paths command.working_directory command.outputs);
 }
 
-abbrev pub command_bytes : Command → List ℕ
-command_bytes command = fields_bytes (command_fields (command_message command))
+abbrev pub command_bytes : Command → Dialect → List ℕ
+command_bytes command dialect = fields_bytes (command_fields (command_message command dialect))
