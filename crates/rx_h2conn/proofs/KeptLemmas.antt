@@ -10,6 +10,7 @@ use Rattle.rx_h2frame.specs.declared.kind.Kind.TheVariants.{Data, Headers, Prior
 use Rattle.rx_h2frame.specs.Flags.{is_set}
 use Rattle.rx_h2frame.specs.Frame.{Whole, Seen, Complete, Lacks, next}
 use Rattle.rx_h2conn.specs.declared.fault.ConnFault.{ConnFault}
+use Rattle.rx_h2conn.specs.declared.fault.ConnFault.TheVariants.{Protocol, GoneAway, StreamsSpent, NoMemory as Starved}
 use Rattle.rx_h2conn.specs.declared.settings.Asked.{Asked}
 use Rattle.rx_h2conn.specs.declared.stream.Stream.{Stream}
 use Rattle.rx_h2conn.specs.Session.{Session, Reading, Queued, Block}
@@ -20,6 +21,7 @@ use Rattle.rx_h2conn.specs.Updates.{overflows, on_connection_update, on_stream_u
 use Rattle.rx_h2conn.specs.Ping.{is_flooded, on_ping}
 use Rattle.rx_h2conn.specs.Settings.{widens, on_entries, on_settings}
 use Rattle.rx_h2conn.specs.Ends.{on_reset, on_go_away}
+use Rattle.rx_h2conn.specs.State.{UnlessStarved}
 use Rattle.rx_h2conn.specs.Steps.{took_by, code_of, judged, settled, more, unless_failed, byte, fed, handed, FeedsAt}
 use Rattle.rx_h2conn.specs.Output.{told, emptied}
 use Rattle.rx_h2conn.proofs.ListLemmas.{either, or_false, and_true, not_false}
@@ -214,10 +216,23 @@ pub leaves_fed : (r : Reading) (p : List ℕ) → Leaves r.state (fed r p).state
 leaves_fed r [] = leaves_same r.state r.state refl
 leaves_fed r (b ∷ p) = leaves_trans r.state (byte r b).state (fed (byte r b) p).state (leaves_byte r b) (leaves_fed (byte r b) p)
 
-pub held_feeds : (o : Option ConnFault) (old new : Reading) (p : List ℕ) (r : Result (Unit {0}) ConnFault) → FeedsAt o old p new r → OnOk r (KeepsHeld old.state new.state)
-held_feeds (Some e) old new p r d = let err = d.1 in rw err tt
-held_feeds None old new p (Ok u) d = let is = d.0 in rw is (leaves_held old.state (fed old p).state (leaves_fed old p))
-held_feeds None old new p (Err e) d = tt
+pub held_fed : (old new : Reading) (p : List ℕ) → new ≡ fed old p → KeepsHeld old.state new.state
+held_fed old new p is = rw is (leaves_held old.state (fed old p).state (leaves_fed old p))
+
+pub held_same : (old new : Reading) (r : Result (Unit {0}) ConnFault) → new ≡ old → UnlessStarved r (KeepsHeld old.state new.state)
+held_same old new (Ok u) is = rw is (λ id over h. h)
+held_same old new (Err Starved) is = tt
+held_same old new (Err (Protocol code)) is = rw is (λ id over h. h)
+held_same old new (Err (GoneAway last)) is = rw is (λ id over h. h)
+held_same old new (Err StreamsSpent) is = rw is (λ id over h. h)
+
+pub held_feeds : (o : Option ConnFault) (old new : Reading) (p : List ℕ) (r : Result (Unit {0}) ConnFault) → FeedsAt o old p new r → UnlessStarved r (KeepsHeld old.state new.state)
+held_feeds (Some e) old new p r d = held_same old new r d.0
+held_feeds None old new p (Ok u) d = held_fed old new p d.0
+held_feeds None old new p (Err Starved) d = tt
+held_feeds None old new p (Err (Protocol code)) d = held_fed old new p d.0
+held_feeds None old new p (Err (GoneAway last)) d = held_fed old new p d.0
+held_feeds None old new p (Err StreamsSpent) d = held_fed old new p d.0
 
 -- events and output
 pub leaves_owe : (s : Session) (id credit : ℕ) → Leaves s (owe s id credit)

@@ -17,4 +17,14 @@ pub mod CarriedLemmas
 pub mod StaysLemmas
 pub mod GrantLemmas
 pub mod LeftLemmas
+pub mod EventLemmas
+pub mod HearingLemmas
+pub mod HeardFrameLemmas
+pub mod HeardCallLemmas
+pub mod HeardRunLemmas
+pub mod UsesLemmas
+pub mod UsesFrameLemmas
+pub mod FitLemmas
+pub mod PaceLemmas
+pub mod RestoreLemmas
 pub mod StartLemmas

@@ -11,6 +11,14 @@ each_set none P (x ∷ xs) zero t small h p (suc k) = h (suc k) (λ e. absurd (o
 each_set none P (x ∷ xs) (suc i) t small h p zero = h zero (λ e. absurd (omega (arith, e)))
 each_set none P (x ∷ xs) (suc i) t small h p (suc k) = each_set none (λ n. P (suc n)) xs i t (omega arith) (λ n other. h (suc n) (λ e. other (omega (arith, e)))) p k
 
+-- what holds beside the old list, where one of them is written or the place isn't there
+pub each_beside : (none : Stream) (P : ℕ → Stream → Stream → Type 0) → ((k : ℕ) (t : Stream) → P k t t) → (xs : List Stream) (i : ℕ) (t : Stream) → P i (get_or xs i none) t → (k : ℕ) → P k (get_or xs k none) (get_or (set xs i t) k none)
+each_beside none P same [] i t p k = same k none
+each_beside none P same (x ∷ xs) zero t p zero = p
+each_beside none P same (x ∷ xs) zero t p (suc k) = same (suc k) (get_or xs k none)
+each_beside none P same (x ∷ xs) (suc i) t p zero = same zero x
+each_beside none P same (x ∷ xs) (suc i) t p (suc k) = each_beside none (λ n. P (suc n)) (λ n. same (suc n)) xs i t p k
+
 -- in range the default doesn't count
 pub get_or_within : (a b : Stream) (xs : List Stream) (k : ℕ) → k < length xs → get_or xs k a ≡ get_or xs k b
 get_or_within a b [] k small = absurd (omega arith)

@@ -9,6 +9,10 @@ use Rattle.rx_h2conn.specs.History.{Call, run, bytewise, SameRuns, all_given, em
 use Rattle.rx_h2conn.specs.Parts.{part_of, all_parts}
 use Rattle.rx_h2conn.specs.Carried.{bytes_on, all_written, bytes_in}
 use Rattle.rx_h2conn.specs.Granted.{all_granted, window_left, AllSendHeld}
+use Rattle.rx_h2conn.specs.Heard.{Hears}
+use Rattle.rx_h2conn.specs.Paced.{Restores, FitsNext}
+use Rattle.rx_h2conn.proofs.HeardRunLemmas.{hears}
+use Rattle.rx_h2conn.proofs.RestoreLemmas.{restores, fits_next}
 use Rattle.rx_h2conn.proofs.CarriedLemmas.{all_carried}
 use Rattle.rx_h2conn.proofs.GrantLemmas.{all_within}
 use Rattle.rx_h2conn.proofs.LeftLemmas.{all_left}
@@ -46,3 +50,15 @@ started_window (Err e) = tt
 pub started_stream_window : {E : Type 0} (r : Result Reading E) → IfOk r (λ conn. conn ≡ started) → IfOk r (λ conn. (id : ℕ) (calls : List Call) (last : Call) → AllSendHeld conn (calls ++ last ∷ []) → length (bytes_on id (emitted (run conn calls) last)) ≤ window_left conn id calls)
 started_stream_window (Ok conn) new = λ id calls last held. all_left conn id calls last new held
 started_stream_window (Err e) new = tt
+
+pub started_hears : {E : Type 0} (r : Result Reading E) → IfOk r (λ conn. conn ≡ started) → IfOk r (λ conn. (calls : List Call) → Hears conn calls)
+started_hears (Ok conn) new = λ calls. rw new (hears calls)
+started_hears (Err e) new = tt
+
+pub started_restores : {E : Type 0} (r : Result Reading E) → IfOk r (λ conn. conn ≡ started) → IfOk r (λ conn. (calls : List Call) → Restores conn calls)
+started_restores (Ok conn) new = λ calls. rw new (restores calls)
+started_restores (Err e) new = tt
+
+pub started_fits : {E : Type 0} (r : Result Reading E) → IfOk r (λ conn. conn ≡ started) → IfOk r (λ conn. (calls : List Call) → FitsNext conn calls)
+started_fits (Ok conn) new = λ calls. rw new (fits_next calls)
+started_fits (Err e) new = tt

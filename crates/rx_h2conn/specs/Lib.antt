@@ -21,3 +21,7 @@ pub mod History
 pub mod Parts
 pub mod Carried
 pub mod Granted
+pub mod Incoming
+pub mod Part
+pub mod Heard
+pub mod Paced

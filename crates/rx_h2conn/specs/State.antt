@@ -36,3 +36,8 @@ abbrev pub Does : Session → Session → Session → Result (Unit {0}) ConnFaul
 Does old new want (Ok _) = (new ≡ want) × (want.fault ≡ None)
 Does old new want (Err NoMemory) = Keeps old new
 Does old new want (Err e) = (new ≡ want) × (want.fault ≡ Some e)
+
+-- what holds of a call unless memory ran out in it
+abbrev pub UnlessStarved : {A : Type 0} → Result A ConnFault → Type 0 → Type 0
+UnlessStarved (Err NoMemory) P = Unit {0}
+UnlessStarved _ P = P

@@ -13,6 +13,9 @@ ghost use Rattle.rx_h2conn.specs.Output.{AnswersAt, allowed, sent, reset, output
 ghost use Rattle.rx_h2conn.specs.Parts.{part_of, all_parts};
 ghost use Rattle.rx_h2conn.specs.Carried.{bytes_on, all_written, bytes_in};
 ghost use Rattle.rx_h2conn.specs.Granted.{all_granted, window_left, AllSendHeld};
+ghost use Rattle.rx_h2conn.specs.Heard.{Hears};
+ghost use Rattle.rx_h2conn.specs.Paced.{Restores, FitsNext};
+ghost use Rattle.rx_h2conn.specs.State.{UnlessStarved};
 ghost use Rattle.rx_h2conn.specs.Steps.{Feeds, first, after_event};
 ghost use Rattle.rx_h2conn.specs.Streams.{is_open, stream_at, IsHeld, KeepsHeld};
 
@@ -128,6 +131,15 @@ impl Conn {
         // What a call writes of a stream never passes what the stream's own window then lets through, in each run whose
         // calls of `send` are on streams that are held.
         ensures stream_window { IfOk result (λ conn. (id : ℕ) (calls : List Call) (last : Call) → AllSendHeld conn (calls ++ last ∷ []) → length (bytes_on id (emitted (run conn calls) last)) ≤ window_left conn id calls) }
+
+        // What is told of a stream that the client holds is its part of the received bytes, whatever calls stand between.
+        ensures heard { IfOk result (λ conn. (calls : List Call) → Hears conn calls) }
+
+        // Once no event waits and the output was taken, all credit was told, and no acknowledgement waits.
+        ensures restores { IfOk result (λ conn. (calls : List Call) → Restores conn calls) }
+
+        // Then a piece of at most 8,192 bytes passes no window, and asks for few acknowledgements.
+        ensures fits { IfOk result (λ conn. (calls : List Call) → FitsNext conn calls) }
     {
         start(alloc)
     }
@@ -183,7 +195,7 @@ impl Conn {
     /// of 6, 3, 9, 11 and 1; `NoMemory`, and then none of the piece counts.
     pub fn feed(&mut self, piece: &[u8]) -> Result<(), ConnFault>
         ensures feeds { Feeds self.old piece.now self.new result }
-        ensures held { OnOk result (KeepsHeld self.old.state self.new.state) }
+        ensures held { UnlessStarved result (KeepsHeld self.old.state self.new.state) }
     {
         self.reader.feed(piece)
     }

@@ -1,4 +1,4 @@
-use Rattle.rx_h2conn.proofs.StartLemmas.{started_cutting, started_output, started_streams, started_bytes, started_window, started_stream_window}
+use Rattle.rx_h2conn.proofs.StartLemmas.{started_cutting, started_output, started_streams, started_bytes, started_window, started_stream_window, started_hears, started_restores, started_fits}
 use Rattle.rx_h2conn.proofs.conn.Conn.new.Goals as goal
 
 pub returns-clause-any_cutting : goal.returns-clause-any_cutting
@@ -18,3 +18,12 @@ returns-clause-window c = started_window c.start.result
 
 pub returns-clause-stream_window : goal.returns-clause-stream_window
 returns-clause-stream_window c = started_stream_window c.start.result c.start.ensures
+
+pub returns-clause-heard : goal.returns-clause-heard
+returns-clause-heard c = started_hears c.start.result c.start.ensures
+
+pub returns-clause-restores : goal.returns-clause-restores
+returns-clause-restores c = started_restores c.start.result c.start.ensures
+
+pub returns-clause-fits : goal.returns-clause-fits
+returns-clause-fits c = started_fits c.start.result c.start.ensures
