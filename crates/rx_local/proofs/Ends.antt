@@ -295,6 +295,38 @@ module _ {B T W : Type 0} (w : world.Ghosts W) (b : benches.Ghosts B W) (s : sou
     };
   }
 
+-- a bench that was made ready holds the tree of the run, where it tells that it was empty
+stands-ready : (j : Job) (staged : List FileOut) (old mid : Option Tree) → old ≡ Some empty_tree → Stands j staged old mid → mid ≡ Some (with_parents j.command.outputs (tree_of staged j.directories))
+stands-ready j staged None mid e told = absurd (cc)
+stands-ready j staged (Some x) None e told = absurd told
+stands-ready j staged (Some x) (Some t) e told = ap (λ tree. Some tree) (stands-is j staged x t e told)
+
+-- a decision was told when the bench stood ready
+pub ends-stopped : {B T W : Type 0} (w : world.Ghosts W) (b : benches.Ghosts B W) (s : sources.Ghosts T W) (j : Job) (old new : B) (before after : T) (decision : Decision)
+    → IsFresh w.tools_honest (b.tree old) (b.runs old) (b.faults old) → b.runs new ≡ b.runs old → HasStaged w s before after j.files (λ files. Stands j files (b.tree old) (b.tree new))
+    → HasEnded w b s (Some new) j before after (Err (Stopped decision))
+ends-stopped w b s j old new before after decision fresh runs staged =
+    let none : IfSome (b.runs new) (λ all. all ≡ []) = subst (λ o. IfSome o (λ all. all ≡ [])) (sym runs) (no-runs (b.runs old) (b.tree old) fresh.no_runs) in
+    record {
+      answers = staged.answers;
+      gives = staged.gives;
+      ended = record {
+        caused = inr (staged.staged, staged.each);
+        not_run = λ _. none;
+        run_once = λ x. absurd x;
+        run_past = tt;
+        at_most_once = none-at-most (b.runs new) none;
+        unmade = λ e. absurd (cc);
+        made_none = λ x. absurd x;
+        stopped = λ _. record {
+          staged = staged.staged;
+          each = staged.each;
+          stands = λ so. stands-ready j staged.staged (b.tree old) (b.tree new) (fresh.tells so) staged.put;
+        };
+        lacks = tt;
+      };
+    }
+
 -- a decision was told before a bench was made
 pub ends-unbegun : {B T W : Type 0} (w : world.Ghosts W) (b : benches.Ghosts B W) (s : sources.Ghosts T W) (j : Job) (before : T) (decision : Decision)
     → HasEnded w b s None j before before (Err (Stopped decision))

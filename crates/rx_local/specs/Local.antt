@@ -237,10 +237,16 @@ pub record HasRunPast {B W : Type 0} (w : world.Ghosts W) (b : benches.Ghosts B 
   pub run : IsRunOf w b made j answers outcome
   pub passes : passed_of outcome ≡ Some (passed limit n)
 
+-- the files were staged and, where tools are honest, the bench holds the tree over which the command is to run
+pub record IsReady {B W : Type 0} (w : world.Ghosts W) (b : benches.Ghosts B W) (bench : B) (j : Job) (answers : List Given) : Type 0 where
+  pub staged : List FileOut
+  pub each : AreStaged j.files answers staged
+  pub stands : w.tools_honest → b.tree bench ≡ Some (with_parents j.command.outputs (tree_of staged j.directories))
+
 -- a decision was told before a bench was made and anything was read, or when the bench stood ready
-abbrev pub IsReadAtStop : {B : Type 0} → Option B → List InputFile → List Given → Type 0
-IsReadAtStop None files answers = answers ≡ []
-IsReadAtStop (Some bench) files answers = HaveStaged files answers
+abbrev pub IsAtStop : {B W : Type 0} → world.Ghosts W → benches.Ghosts B W → Option B → Job → List Given → Type 0
+IsAtStop w b None j answers = answers ≡ []
+IsAtStop w b (Some bench) j answers = IsReady w b bench j answers
 
 -- A cause, with what was read and what had run on the bench: nothing before it, one run, or at most one. There is no bench exactly where
 -- none could be made or a decision was told before, and a missing output is missing on it.
@@ -253,7 +259,7 @@ pub record IsFailureOf {B W : Type 0} (w : world.Ghosts W) (b : benches.Ghosts B
   pub at_most_once : IfRunsTold b made RanAtMostOnce
   pub unmade : made ≡ None → IsUnmade cause ⊎ IsStopped cause
   pub made_none : IsUnmade cause → made ≡ None
-  pub stopped : IsStopped cause → IsReadAtStop made j.files answers
+  pub stopped : IsStopped cause → IsAtStop w b made j answers
   pub lacks : IfMissing cause (λ path. IfTreeTold b made (λ tree. first_missing j.command.outputs tree.files ≡ Some path))
 
 -- for a fault the count of its part rose, of the benches or of the source tree

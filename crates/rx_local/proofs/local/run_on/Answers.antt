@@ -1,7 +1,7 @@
 use Rattle.std.proofs.Common.{◌≡◌, Err, None, Ok, Some}
 use Rattle.std.proofs.lemmas.Result.{err_from_is_err_and}
 use Rattle.rx_local.specs.Limits.{passed_of}
-use Rattle.rx_local.proofs.Ends.{ends-past, ends-ready, ends-unready}
+use Rattle.rx_local.proofs.Ends.{ends-past, ends-ready, ends-stopped, ends-unready}
 use Rattle.rx_local.proofs.LimitLemmas.{passes-none}
 use Rattle.rx_local.proofs.local.run_on.Goals as goal
 
@@ -10,6 +10,10 @@ returns-in_err-prepare-clause-ended g c =
     let p = err_from_is_err_and c.from_residual.result c.from_residual.ensures.1 in
     let h = c.in_err-prepare.ensures in
     rw (p.1, p.2) (ends-unready _ _ _ _ _ _ _ _ _ c.requires.no_runs h.err h.before h.runs)
+
+pub returns-in-Some-clause-ended : goal.returns-in-Some-clause-ended
+returns-in-Some-clause-ended g c =
+    ends-stopped _ _ _ _ _ _ _ _ _ c.requires c.in_ok-prepare.ensures.runs c.in_ok-prepare.ensures.ok
 
 pub returns-in_err-outcome-clause-ended : goal.returns-in_err-outcome-clause-ended
 returns-in_err-outcome-clause-ended g c =
