@@ -1,8 +1,9 @@
 -- From the end of the local attempt to the attempts of a plan.
 use Rattle.std.proofs.Common.{◌≡◌, true, false, List, [], ap, inl, inr, refl, sym}
-use Rattle.std.specs.Prelude.{Err, IfOk, None, Ok, Option, Result, Some}
+use Rattle.std.specs.Prelude.{Err, IfErr, IfOk, None, Ok, Option, Result, Some}
 use Rattle.rx_local.proofs.Ends.{forgets}
-use Rattle.rx_local.specs.Local.{HasAttempted, Job}
+use Rattle.rx_local.specs.Limits.{IsWithinLimits}
+use Rattle.rx_local.specs.Local.{HasAttempted, HasTold, IsStopped, Job, Tells}
 use Rattle.rx_scan.specs.declared.gathering.Gathered.{Gathered}
 use Rattle.rx_world.specs.declared.attempts.Cause.{Cause}
 use Rattle.rx_world.specs.declared.attempts.Cause.TheVariants as causes
@@ -31,6 +32,20 @@ use Rattle.rx_engine.proofs.Moves.{gives-in}
 some-inj : {A : Type 0} {a b : A} → Some a ≡ Some b → a ≡ b
 some-inj h = cc
 
+-- an attempt whose stop tells no decision isn't stopped
+unstopped-for : (cause : Cause) → Tells None None cause → IsStopped cause → ⊥
+unstopped-for (causes.Stopped decision) told stopped = let e : None ≡ Some decision = told.1 in cc
+unstopped-for (causes.BenchFault step) told stopped = stopped
+unstopped-for (causes.OutputMissing path) told stopped = stopped
+unstopped-for (causes.InputChanged input) told stopped = stopped
+unstopped-for (causes.OutputTooLarge limit n) told stopped = stopped
+unstopped-for (causes.SourceFault path) told stopped = stopped
+unstopped-for causes.NoMemory told stopped = stopped
+
+pub unstopped-by : (result : Result Outcome Cause) → HasTold None None result → IfErr result (λ cause. IsStopped cause → ⊥)
+unstopped-by (Ok outcome) told = tt
+unstopped-by (Err cause) told = unstopped-for cause told
+
 abbrev Only : Option (End Outcome Cause) → Attempts
 Only local = record { local = local; remote = None }
 
@@ -56,25 +71,28 @@ module _ {W I O T L M B : Type 0} (w : world.Ghosts W) (i : inputs.Ghosts I) (o 
     };
     later = a.later;
     counted = a.counted;
+    untouched = a.untouched;
   }
 
   -- the local attempt of a plan that has one was made
   pub made-here : (p q : Parts I O T L M) (gathered : Gathered) (ended : Result Outcome Cause) (made : Attempted)
       → has_local gathered.plan ≡ true → HasAttempted w k b l (job_of gathered) p.benches q.benches p.tree_local q.tree_local ended
-      → IfOk ended (IsProper gathered.command) → KeepsHere ended made
+      → IfOk ended (IsProper gathered.command) → IfOk ended IsWithinLimits → IfErr ended (λ cause. IsStopped cause → ⊥) → KeepsHere ended made
       → HasMade (meanings w i o t l k b) gathered p q made
-  made-here p q gathered (Ok outcome) made planned a proper (inl e) = record {
+  made-here p q gathered (Ok outcome) made planned a proper within unstopped (inl e) = record {
     attempts = Only (Some (ends.Done outcome origins.Local));
-    each = record { local = record { attempted = attempted-in p q (job_of gathered) (Ok outcome) a; proper = proper; from = refl }; planned = sym planned; remote = refl };
+    each = record { local = record { attempted = attempted-in p q (job_of gathered) (Ok outcome) a; proper = proper; within = within; unstopped = tt; from = refl }; planned = sym planned; remote = refl };
     ends_are = ap (λ (x : Attempted). x.ends) e;
     won_is = ap (λ (x : Attempted). x.won) e;
   }
-  made-here p q gathered (Ok outcome) made planned a proper (inr e) = record {
+  made-here p q gathered (Ok outcome) made planned a proper within unstopped (inr e) = record {
     attempts = Only (Some (ends.Failed causes.NoMemory));
     each = record {
       local = record {
         attempted = attempted-in p q (job_of gathered) (Err causes.NoMemory) (forgets w k b l (job_of gathered) p.benches q.benches p.tree_local q.tree_local outcome a);
         proper = tt;
+        within = tt;
+        unstopped = λ stopped. absurd stopped;
         from = tt;
       };
       planned = sym planned;
@@ -83,9 +101,9 @@ module _ {W I O T L M B : Type 0} (w : world.Ghosts W) (i : inputs.Ghosts I) (o 
     ends_are = ap (λ (x : Attempted). x.ends) e;
     won_is = ap (λ (x : Attempted). x.won) e;
   }
-  made-here p q gathered (Err cause) made planned a proper e = record {
+  made-here p q gathered (Err cause) made planned a proper within unstopped e = record {
     attempts = Only (Some (ends.Failed cause));
-    each = record { local = record { attempted = attempted-in p q (job_of gathered) (Err cause) a; proper = tt; from = tt }; planned = sym planned; remote = refl };
+    each = record { local = record { attempted = attempted-in p q (job_of gathered) (Err cause) a; proper = tt; within = tt; unstopped = unstopped; from = tt }; planned = sym planned; remote = refl };
     ends_are = ap (λ (x : Attempted). x.ends) e;
     won_is = ap (λ (x : Attempted). x.won) e;
   }

@@ -70,8 +70,11 @@ module _ {W I O T L M B : Type 0} (w : world.Ghosts W) (i : inputs.Ghosts I) (o 
           };
           later = a.later;
           counted = a.counted;
+          untouched = a.untouched;
         };
         proper = h.proper;
+        within = h.within;
+        unstopped = h.unstopped;
         from = h.from;
       }
 

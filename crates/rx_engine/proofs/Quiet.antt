@@ -8,6 +8,7 @@ use Rattle.rx_board.specs.declared.journal.Entry.{Entry}
 use Rattle.rx_board.specs.declared.journal.Receipt.{Receipt}
 use Rattle.rx_local.specs.Local.{LacksOutput}
 use Rattle.rx_local.specs.Stage.{IsChangedInput}
+use Rattle.rx_local.proofs.LimitLemmas.{within-none}
 use Rattle.rx_local.proofs.Staging.{staged-listed}
 use Rattle.rx_scan.specs.declared.gather_fault.GatherFault.{GatherFault}
 use Rattle.rx_scan.specs.declared.gather_fault.GatherFault.TheVariants as fault
@@ -43,6 +44,7 @@ use Rattle.rx_world.specs.declared.sources.SourceEntry.{SourceEntry}
 use Rattle.rx_world.specs.Answers.{HasContent, IsAnswerOf}
 use Rattle.rx_world.specs.Causes.{Rose}
 use Rattle.rx_world.specs.Inputs.{look_of}
+use Rattle.rx_world.specs.Outcomes.{IsClean}
 use Rattle.rx_world.specs.Sources.{entry_at, given_bytes, is_file}
 use Rattle.rx_world.specs.Trees.{tree_of}
 use Rattle.rx_engine.specs.declared.transcripts.Ending.{Ending}
@@ -52,7 +54,7 @@ use Rattle.rx_engine.specs.Answers.{Answers, Grounds, HasGathered, HasLost, IsRe
 use Rattle.rx_engine.specs.Attempts.{AreTellable, HasEndedHere, HasLocal, IsTellable, has_local, kept_ends, winner}
 use Rattle.rx_engine.specs.Journal.{IsEntry, IsJournalled, IsPlaced, files_of}
 use Rattle.rx_engine.specs.Meanings.{Meanings}
-use Rattle.rx_engine.specs.Quiet.{AreApart, CanGather, HasRoom, IsDoneOr, IsDoneReply, IsQuiet, MakesFrom}
+use Rattle.rx_engine.specs.Quiet.{AreApart, CanGather, HasRoom, IsDoneOr, IsDoneReply, KeepsLimitsFrom, IsQuiet, MakesFrom}
 use Rattle.rx_engine.specs.Session.{IsCourse, IsSession, Replies, RepliesTo}
 use Rattle.rx_engine.proofs.Early.{early}
 use Rattle.rx_engine.proofs.HonestRuns.{IsByList, again, by-list, grounds_of, same-request, shows}
@@ -141,6 +143,7 @@ record IsCalm {P W B : Type 0} (m : Meanings P W B) (entries : List SourceEntry)
   apart : AreApart entries
   gathers : CanGather (scene_of entries) (asked_of asked)
   proper : MakesFrom m.world.tool entries (asked_of asked)
+  limits : KeepsLimitsFrom m.world.tool entries (asked_of asked)
   here : asked.strategy ≡ strategies.Local
   tree : Rose (m.tree.faults g.before) (m.tree.faults g.after) → ⊥
   tree_local : Rose (m.tree_local.faults g.before) (m.tree_local.faults g.after) → ⊥
@@ -154,6 +157,7 @@ calm m root before after t bytes asked s q = record {
   apart = q.apart;
   gathers = q.gathers;
   proper = q.proper;
+  limits = q.limits;
   here = strategy-served root bytes asked q.honest.valid;
   tree = q.tree;
   tree_local = q.tree_local;
@@ -194,8 +198,13 @@ module _ {P W B : Type 0} (m : Meanings P W B) (entries : List SourceEntry) (g :
   not-failed-for gathered (causes.BenchFault step) inputs h n = c.benches h.attempted.counted
   not-failed-for gathered (causes.SourceFault path) inputs h n = c.tree_local h.attempted.counted
   not-failed-for gathered causes.NoMemory inputs h n = n refl
-  not-failed-for gathered (causes.OutputTooLarge limit count) inputs h n = h.attempted.on.ended.caused
-  not-failed-for gathered (causes.Stopped decision) inputs h n = h.attempted.on.ended.caused
+  not-failed-for gathered (causes.Stopped decision) inputs h n = h.unstopped tt
+  not-failed-for gathered (causes.OutputTooLarge limit count) inputs h n =
+      let caused = h.attempted.on.ended.caused in
+      let here = inputs.by.shown (scene_of entries) (shows m entries g c.by_list) in
+      let same = staged-listed entries gathered.files h.attempted.on.answers caused.of.staged caused.of.each (again m entries g gathered _ c.by_list h) in
+      let clean = subst (λ copies. IsClean m.world.tool gathered.command (tree_of copies gathered.dirs) caused.outcome) same (caused.of.clean c.by_list.tools_hold) in
+      none-some (sym (within-none caused.outcome (c.limits gathered here inputs.orderly caused.outcome clean)) ∙ caused.passes)
   not-failed-for gathered (causes.OutputMissing path) inputs h n =
       let caused = h.attempted.on.ended.caused in
       let here = inputs.by.shown (scene_of entries) (shows m entries g c.by_list) in

@@ -1,6 +1,7 @@
 -- The attempts of a session: which a plan has, how they ended, and what is published of them.
-use Rattle.std.specs.Prelude.{◌≡◌, ◌≢◌, ◌⊎◌, ◌||◌, ◌==◌, ℤ, Bool, true, false, List, [], ◌∷◌, ◌++◌, Option, None, Some, Result, Ok, Err, All, IfOk, if◌then◌else◌, is_some, negsuc, pos}
-use Rattle.rx_local.specs.Local.{HasAttempted, Job, job}
+use Rattle.std.specs.Prelude.{◌≡◌, ◌≢◌, ◌⊎◌, ◌||◌, ◌==◌, ℤ, Bool, true, false, List, [], ◌∷◌, ◌++◌, Option, None, Some, Result, Ok, Err, All, IfErr, IfOk, if◌then◌else◌, is_some, negsuc, pos}
+use Rattle.rx_local.specs.Limits.{IsWithinLimits}
+use Rattle.rx_local.specs.Local.{HasAttempted, IsStopped, Job, job}
 use Rattle.rx_scan.specs.declared.gathering.Gathered.{Gathered}
 use Rattle.rx_world.specs.declared.attempts.Cause.{Cause}
 use Rattle.rx_world.specs.declared.attempts.Cause.TheVariants as causes
@@ -134,10 +135,12 @@ pub record IsIdle {P W B : Type 0} (m : Meanings P W B) (before after : P) : Typ
   pub bench_is : m.benches.faults after ≡ m.benches.faults before
   pub returned_is : m.benches.returned after ≡ m.benches.returned before
 
--- the local attempt was made on what was gathered, and ended so
+-- The local attempt was made on what was gathered, and ended so. It runs alone, and nothing stops it.
 pub record HasEndedHere {P W B : Type 0} (m : Meanings P W B) (gathered : Gathered) (before after : P) (end : End Outcome Cause) : Type 0 where
   pub attempted : HasAttempted m.world m.benches m.bench m.tree_local (job_of gathered) before after before after (result_of end)
   pub proper : IfOk (result_of end) (IsProper gathered.command)
+  pub within : IfOk (result_of end) IsWithinLimits
+  pub unstopped : IfErr (result_of end) (λ cause. IsStopped cause → ⊥)
   pub from : IsFromHere end
 
 abbrev pub HasLocal : {P W B : Type 0} → Meanings P W B → Gathered → P → P → Option (End Outcome Cause) → Type 0

@@ -3,6 +3,7 @@ use Rattle.std.specs.Prelude.{◌≡◌, ◌≢◌, ◌↔◌, ℕ, true, List, 
 use Rattle.rx_base.specs.Paths.{is_below}
 use Rattle.rx_base.specs.SortedPaths.{AreSorted}
 use Rattle.rx_board.specs.declared.journal.Entry.{Entry}
+use Rattle.rx_local.specs.Limits.{IsWithinLimits}
 use Rattle.rx_local.specs.Local.{first_missing}
 use Rattle.rx_scan.specs.declared.gathering.Gathered.{Gathered}
 use Rattle.rx_scan.specs.Gathering.{Asked, IsGathered, IsInput, IsKept, IsOrderly, PassesList, PassesScan, command_asked, plan_of}
@@ -20,6 +21,7 @@ use Rattle.rx_world.specs.declared.refusals.LocalCause.{LocalCause}
 use Rattle.rx_world.specs.declared.sources.SourceEntry.{SourceEntry}
 use Rattle.rx_world.specs.declared.trees.Tree.{Tree}
 use Rattle.rx_world.specs.Causes.{Rose}
+use Rattle.rx_world.specs.Outcomes.{IsClean}
 use Rattle.rx_world.specs.Sources.{entry_at, is_file}
 use Rattle.rx_engine.specs.declared.transcripts.Ending.{Ending}
 use Rattle.rx_engine.specs.declared.transcripts.Ending.TheVariants.{NoMemory, Replied, SinkLost, SourceLost}
@@ -55,8 +57,17 @@ abbrev pub MakesFrom : (Command → Tree → Outcome) → List SourceEntry → A
 MakesFrom tool entries asked =
     (gathered : Gathered) → IsGathered (scene_of entries) asked gathered → IsOrderly asked gathered → MakesOutputs tool gathered.command (listed_tree entries gathered)
 
--- The session is honest, stamps are too, what is asked for can be gathered from the list, the clean outcome of its command is proper, and
--- no count rises.
+-- the clean outcome is within the limits on what a command writes
+abbrev pub KeepsLimits : (Command → Tree → Outcome) → Command → Tree → Type 0
+KeepsLimits tool command tree = (outcome : Outcome) → IsClean tool command tree outcome → IsWithinLimits outcome
+
+-- so it is for whatever is gathered from the list
+abbrev pub KeepsLimitsFrom : (Command → Tree → Outcome) → List SourceEntry → Asked → Type 0
+KeepsLimitsFrom tool entries asked =
+    (gathered : Gathered) → IsGathered (scene_of entries) asked gathered → IsOrderly asked gathered → KeepsLimits tool gathered.command (listed_tree entries gathered)
+
+-- The session is honest, stamps are too, what is asked for can be gathered from the list, the clean outcome of its command is proper and
+-- within the limits, and no count rises.
 pub record IsQuiet {P W B : Type 0} (m : Meanings P W B) (root : List ℕ) (before after : P) (bytes : List ℕ) (asked : Request) : Type 0 where
   pub entries : List SourceEntry
   pub honest : IsHonest m root before bytes asked entries
@@ -64,6 +75,7 @@ pub record IsQuiet {P W B : Type 0} (m : Meanings P W B) (root : List ℕ) (befo
   pub apart : AreApart entries
   pub gathers : CanGather (scene_of entries) (asked_of asked)
   pub proper : MakesFrom m.world.tool entries (asked_of asked)
+  pub limits : KeepsLimitsFrom m.world.tool entries (asked_of asked)
   pub input : Rose (m.input.faults before) (m.input.faults after) → ⊥
   pub tree : Rose (m.tree.faults before) (m.tree.faults after) → ⊥
   pub tree_local : Rose (m.tree_local.faults before) (m.tree_local.faults after) → ⊥

@@ -7,9 +7,9 @@ ghost use Rattle.rx_engine.specs.Meanings.{meanings};
 
 use crate::desk::{Desk, Parts};
 use rx_base::{Items, NoMemory};
-use rx_local::run_local;
+use rx_local::{LocalJob, run_local};
 use rx_scan::Gathered;
-use rx_world::{Cause, End, Ended, Origin, Outcome, Plan, World, keep_outcome};
+use rx_world::{Attempt, Cause, End, Ended, Origin, Outcome, Plan, Unstopped, World, keep_outcome};
 use std::alloc::Global;
 
 /// The most attempts of a session: one here, and one on the farm.
@@ -77,13 +77,20 @@ pub(crate) fn make_attempts<W: World, D: Desk<W>>(
             won: None,
         };
     }
-    let ended = run_local::<W, D::B, D::L>(
+    let job = LocalJob {
+        command: &gathered.command,
+        files: gathered.files.as_slice(),
+        directories: gathered.dirs.as_slice(),
+    };
+    let mut stop = Unstopped {
+        attempt: Attempt::Local,
+    };
+    let ended = run_local::<W, D::B, D::L, Unstopped>(
         alloc,
-        &gathered.command,
-        gathered.files.as_slice(),
-        gathered.dirs.as_slice(),
+        &job,
         &mut parts.benches,
         &mut parts.tree_local,
+        &mut stop,
     );
     keep_local(alloc, ended, room)
 }
