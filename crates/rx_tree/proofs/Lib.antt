@@ -26,3 +26,7 @@ pub mod FoundLaws
 pub mod CountLaws
 pub mod OnceLaws
 pub mod BackLaws
+pub mod TreeAbove
+pub mod PlacedMembers
+pub mod WorldRoots
+pub mod FitLemmas

@@ -9,3 +9,4 @@ pub mod Search
 pub mod Shelves
 pub mod Trees
 pub mod Walks
+pub mod WorldTrees

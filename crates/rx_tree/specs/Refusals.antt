@@ -61,6 +61,11 @@ pub record IsApart (entries : List Entry) : Type 0 where
   pub once : (path : List ℕ) → IsTwice entries path → ⊥
   pub apart : (paths : List ℕ × List ℕ) → IsClash entries paths → ⊥
 
+-- nothing of the list is to be refused
+pub record CanBeBuilt (files : List InputFile) (dirs : List (List ℕ)) : Type 0 where
+  pub few : length files ≤ most_files
+  pub apart : IsApart (entries_of files dirs)
+
 -- What a call says of a list of paths: the first refusal of this order that holds, or none where none does.
 abbrev pub Judges : {A : Type 0} → List InputFile → List (List ℕ) → Result A TreeFault → Type 0
 Judges files dirs (Ok x) = (length files ≤ most_files) × IsApart (entries_of files dirs)
