@@ -1,3 +1,4 @@
 pub mod PathsBehind
 pub mod InOrder
 pub mod OutputsBelow
+pub mod DigestsSorted

@@ -1,3 +1,4 @@
+pub mod ActionBlobs
 pub mod ActionKeys
 pub mod Commands
 pub mod OutputPaths
