@@ -43,7 +43,7 @@ pub read-gave-nothing : (digests : List Digest) (fault : CallFault) → IsFetche
 read-gave-nothing digests fault = record { reads = (tt, tt); given = refl; texts_are = refl }
 
 -- a fault of a call is shown by the last exchange, and want of memory needn't be
-shown-by : (fault : BlobFault) (last : Exchange) → fault_shown last ≡ Some fault → IsShown fault (last ∷ [])
+pub shown-by : (fault : BlobFault) (last : Exchange) → fault_shown last ≡ Some fault → IsShown fault (last ∷ [])
 shown-by (faults.Call f) last e = record { front = []; last = last; part_is = refl; shown = e }
 shown-by (faults.Missing d) last e = record { front = []; last = last; part_is = refl; shown = e }
 shown-by (faults.Refused d code) last e = record { front = []; last = last; part_is = refl; shown = e }
@@ -52,7 +52,7 @@ shown-by (faults.InputChanged input) last e = tt
 shown-by (faults.SourceFault path) last e = tt
 shown-by faults.NoMemory last e = tt
 
-not-without : (b : Bool) (fault : BlobFault) → b ≡ false → (if b then None else Some fault) ≡ Some fault
+pub not-without : (b : Bool) (fault : BlobFault) → b ≡ false → (if b then None else Some fault) ≡ Some fault
 not-without false fault e = refl
 not-without true fault e = cc e
 
@@ -116,7 +116,7 @@ ends-later : (fault : BlobFault) (ps qs : List Exchange) → EndsIn fault qs →
 ends-later fault ps qs e =
     record { front = ps ++ e.front; last = e.last; part_is = ap (λ (all : List Exchange). ps ++ all) e.part_is ∙ sym (append_assoc ps e.front (e.last ∷ [])); shown = e.shown }
 
-shown-later : (fault : BlobFault) (ps qs : List Exchange) → IsShown fault qs → IsShown fault (ps ++ qs)
+pub shown-later : (fault : BlobFault) (ps qs : List Exchange) → IsShown fault qs → IsShown fault (ps ++ qs)
 shown-later (faults.Call f) ps qs e = ends-later (faults.Call f) ps qs e
 shown-later (faults.Missing d) ps qs e = ends-later (faults.Missing d) ps qs e
 shown-later (faults.Refused d code) ps qs e = ends-later (faults.Refused d code) ps qs e
@@ -207,5 +207,5 @@ cause-of-part before between now done part others all (faults.SourceFault path) 
 cause-of-part before between now done part others all faults.NoMemory later e cause = tt
 
 -- a list that was split
-pub split-whole : (count : ℕ) (rest part others : List Digest) → part ≡ take count rest → others ≡ drop count rest → rest ≡ part ++ others
+pub split-whole : {A : Type 0} (count : ℕ) (rest part others : List A) → part ≡ take count rest → others ≡ drop count rest → rest ≡ part ++ others
 split-whole count rest part others f b = sym (rw (f, b) (take-append-drop count rest))

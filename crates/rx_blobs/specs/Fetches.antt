@@ -11,7 +11,7 @@ use Rattle.rx_exec_messages.specs.declared.exchanges.Exchange.TheVariants.{Capab
 use Rattle.rx_exec_messages.specs.Exchanged.{HasExchanged}
 use Rattle.rx_blobs.specs.declared.blob_fault.BlobFault.{BlobFault}
 use Rattle.rx_blobs.specs.declared.blob_fault.BlobFault.TheVariants as faults
-use Rattle.rx_blobs.specs.Faults.{is_without_batches, of_batch, of_stream}
+use Rattle.rx_blobs.specs.Faults.{is_without_batches, is_without_updates, of_ask, of_batch, of_stream, of_update, of_write}
 
 -- a list that was answered, or nothing
 abbrev pub if_answered : {T A : Type 0} → Result T CallFault → List A → List A
@@ -60,15 +60,27 @@ abbrev pub stream_fault : {T : Type 0} → Digest → Result T CallFault → Opt
 stream_fault digest (Ok answer) = None
 stream_fault digest (Err fault) = Some (of_stream digest fault)
 
--- the fault that an exchange ends a fetch with; a farm without batches is asked for streams
+abbrev pub ask_fault : {T : Type 0} → Result T CallFault → Option BlobFault
+ask_fault (Ok answer) = None
+ask_fault (Err fault) = Some (of_ask fault)
+
+abbrev pub update_fault : {T : Type 0} → Result T CallFault → Option BlobFault
+update_fault (Ok answer) = None
+update_fault (Err fault) = if is_without_updates fault then None else Some (of_update fault)
+
+abbrev pub write_fault : {T : Type 0} → Digest → Result T CallFault → Option BlobFault
+write_fault digest (Ok answer) = None
+write_fault digest (Err fault) = Some (of_write digest fault)
+
+-- the fault that an exchange ends a fetch or an upload with; a farm without batches is asked for streams
 abbrev pub fault_shown : Exchange → Option BlobFault
 fault_shown (Read digests answer) = batch_fault answer
 fault_shown (ReadStream digest answer) = stream_fault digest answer
 fault_shown (Capabilities answer) = None
 fault_shown (GetResult action answer) = None
-fault_shown (FindMissing digests answer) = None
-fault_shown (Update blobs answer) = None
-fault_shown (WriteStream digest bytes answer) = None
+fault_shown (FindMissing digests answer) = ask_fault answer
+fault_shown (Update blobs answer) = update_fault answer
+fault_shown (WriteStream digest bytes answer) = write_fault digest answer
 fault_shown (Execute action skip answer) = None
 fault_shown (Wait name answer) = None
 fault_shown (NextOperation answer) = None

@@ -2,7 +2,7 @@
 
 ghost use Rattle.std.specs.Prelude.{◌≡◌};
 ghost use Rattle.rx_blobs.specs.declared.blob_fault.BlobFault.TheVariants.{NoMemory};
-ghost use Rattle.rx_blobs.specs.Faults.{has_code, is_without_batches, of_batch, of_stream};
+ghost use Rattle.rx_blobs.specs.Faults.{has_code, is_without_batches, is_without_updates, of_ask, of_batch, of_stream, of_update, of_write};
 
 use rx_base::{Digest, RelPath};
 use rx_world::{CallFault, ChangedInput};
@@ -72,6 +72,47 @@ pub(crate) fn is_without_batches(fault: CallFault) -> bool
     ensures { result ≡ is_without_batches fault }
 {
     has_code(fault, UNIMPLEMENTED)
+}
+
+/// Whether a batch failed since the farm has no such call, or leaves the digests out of its answer.
+pub(crate) fn is_without_updates(fault: CallFault) -> bool
+    ensures { result ≡ is_without_updates fault }
+{
+    match fault {
+        CallFault::Status(code) => code == UNIMPLEMENTED,
+        CallFault::BadMessage(at) => at == 0,
+        _ => false,
+    }
+}
+
+/// What a fault of the question which blobs are missing is for an upload.
+pub(crate) fn of_ask(fault: CallFault) -> BlobFault
+    ensures { result ≡ of_ask fault }
+{
+    match fault {
+        CallFault::NoMemory => BlobFault::NoMemory,
+        fault => BlobFault::Call(fault),
+    }
+}
+
+/// What a fault of a batch is for an upload.
+pub(crate) fn of_update(fault: CallFault) -> BlobFault
+    ensures { result ≡ of_update fault }
+{
+    match fault {
+        CallFault::BlobRefused(digest, code) => BlobFault::Refused(digest, code),
+        fault => of_ask(fault),
+    }
+}
+
+/// What a fault of the stream of one blob is for an upload.
+pub(crate) fn of_write(digest: Digest, fault: CallFault) -> BlobFault
+    ensures { result ≡ of_write digest fault }
+{
+    match fault {
+        CallFault::BlobRefused(_, code) => BlobFault::Refused(digest, code),
+        fault => of_ask(fault),
+    }
 }
 
 /// What a fault of a batch is for a fetch.
