@@ -1,5 +1,5 @@
 -- In an honest history no result and no blob is blamed.
-use Rattle.std.proofs.Common.{ℕ, ◌==◌, List, [], ◌∷◌, Option, None, Some, length, subst, sym}
+use Rattle.std.proofs.Common.{ℕ, ◌==◌, List, [], ◌∷◌, Option, None, Some, length}
 use Rattle.std.specs.Prelude.{IfSome}
 use Rattle.rx_base.specs.declared.digests.Digest.{Digest}
 use Rattle.rx_messages.specs.declared.results.ActionResult.{ActionResult}
@@ -10,6 +10,8 @@ use Rattle.rx_world.specs.declared.outcomes.Outcome.{Outcome}
 use Rattle.rx_exec_messages.specs.declared.executions.ExecuteResponse.{ExecuteResponse}
 use Rattle.rx_results.specs.Agreement.{Agrees}
 use Rattle.rx_results.specs.Results.{wanted_of}
+use Rattle.rx_blobs.specs.declared.blob_fault.BlobFault.{BlobFault}
+use Rattle.rx_blobs.specs.declared.blob_fault.BlobFault.TheVariants as blobs
 use Rattle.rx_blobs.specs.Faults.{IsBadBlob}
 use Rattle.rx_remote.specs.declared.asks.Ask.{Ask}
 use Rattle.rx_remote.specs.declared.asks.Ask.TheVariants.{Fetch}
@@ -23,6 +25,7 @@ use Rattle.rx_remote.specs.Honest.{HasAgreed, IsHonestDone, IsHonestHeard, IsHon
 use Rattle.rx_remote.specs.Marks.{Turn, found_as, found_of, marks_of, origin_of, phase_of}
 use Rattle.rx_results.proofs.AgreementLemmas.{agrees-unspoiled}
 use Rattle.rx_remote.specs.Fine.{IsFineCause}
+use Rattle.rx_remote.specs.Reading.{BlobsGive}
 use Rattle.rx_remote.proofs.PlainEnds.{IsPlain, blobs-ends, either-ends, fault-ends, finished-ends, range-ends, spent-ends}
 
 plain : IsPlain IsFineCause
@@ -31,8 +34,6 @@ plain = record {
   spent = tt;
   calls = λ faults. tt;
   memory = tt;
-  changed = λ input. tt;
-  source = λ path. tt;
 }
 
 judged-fine : (blob : Digest → List ℕ) (command : Command) (outcome : Outcome) (result : ActionResult) (origin : Origin) → Agrees blob command outcome result →
@@ -57,6 +58,15 @@ next-fine : (blob : Digest → List ℕ) (task : Task) (marks : Marks) (outcome 
 next-fine blob task marks outcome None a = spent-ends IsFineCause plain marks
 next-fine blob task marks outcome (Some response) a = response-fine blob task outcome (origin_of response.cached_result) response.result a
 
+fine-blobs : (fault : BlobFault) → (IsBadBlob fault → ⊥) → BlobsGive IsFineCause fault
+fine-blobs (blobs.BadBlob expected got) good = good tt
+fine-blobs (blobs.Call fault) good = tt
+fine-blobs (blobs.Missing digest) good = tt
+fine-blobs (blobs.Refused digest code) good = tt
+fine-blobs (blobs.InputChanged input) good = tt
+fine-blobs (blobs.SourceFault path) good = tt
+fine-blobs blobs.NoMemory good = tt
+
 turn-fine : (blob : Digest → List ℕ) (task : Task) (outcome : Outcome) (ask : Ask) (heard : Heard) (earlier : List Turn) →
     IsHonestHeard blob task.command outcome ask heard → IsFine (next_of task (record { ask = ask; heard = heard } ∷ earlier))
 turn-fine blob task outcome ask (Told told) earlier h = range-ends IsFineCause plain task.accept_cached told.low told.high
@@ -69,8 +79,7 @@ turn-fine blob task outcome ask (Fetched texts) earlier h = finished-ends IsFine
 turn-fine blob task outcome ask (Fault fault) earlier h =
     fault-ends IsFineCause plain task (marks_of task.command (record { ask = ask; heard = Fault fault } ∷ earlier)) (phase_of ask) fault
 turn-fine blob task outcome ask (Blobs fault) earlier h =
-    blobs-ends IsFineCause plain task (marks_of task.command (record { ask = ask; heard = Blobs fault } ∷ earlier)) (phase_of ask) fault
-    (λ expected got e. absurd (h (subst IsBadBlob (sym e) tt)))
+    blobs-ends IsFineCause plain task (marks_of task.command (record { ask = ask; heard = Blobs fault } ∷ earlier)) (phase_of ask) fault (fine-blobs fault h)
 turn-fine blob task outcome ask (Stopped decision) earlier h = tt
 
 -- In an honest history there is no BadResult and no BadBlob.

@@ -1,8 +1,19 @@
+mod CallTurns
 pub mod CleanEnds
+mod CountLemmas
 pub mod Fetching
 mod FineEnds
+mod FirstLemmas
+mod HonestTurns
+mod LeftAsks
+mod LoopLemmas
+pub mod MeasureLemmas
 mod PlainEnds
+mod ReadLemmas
 mod RightEnds
+mod RunEnds
+mod RunLemmas
 pub mod SoundEnds
-pub mod StopEnds
 mod StepLemmas
+pub mod StopEnds
+mod StoreLemmas

@@ -1,7 +1,6 @@
 -- What faults and texts lead to, and which causes they leave out.
 use Rattle.std.proofs.Common.{◌≡◌, ℕ, Bool, true, false, cond, List, [], ◌∷◌, Option, None, Some, refl}
 use Rattle.std.specs.Prelude.{nat_lt}
-use Rattle.rx_base.specs.declared.digests.Digest.{Digest}
 use Rattle.rx_world.specs.declared.call_faults.CallFault.{CallFault}
 use Rattle.rx_world.specs.declared.remote_causes.RemoteCause.TheVariants as causes
 use Rattle.rx_world.specs.declared.versions.SemVer.{SemVer}
@@ -18,7 +17,7 @@ use Rattle.rx_remote.specs.Faults.{has_code, is_no_memory}
 use Rattle.rx_remote.specs.Fine.{IfEnded}
 use Rattle.rx_remote.specs.History.{after_blobs, after_fault, after_missing, after_range, again, asks_again, by_name, counts_as_miss, excludes, failed, fetch_again, finished, first_ask, most_waits, next_or_spent, skips, unless_asked_again}
 use Rattle.rx_world.specs.declared.remote_causes.RemoteCause.{RemoteCause}
-use Rattle.rx_world.specs.declared.looks.ChangedInput.{ChangedInput}
+use Rattle.rx_remote.specs.Reading.{BlobsGive}
 
 -- the causes that faults and versions may leave
 pub record IsPlain (P : RemoteCause → Type 0) : Type 0 where
@@ -26,8 +25,6 @@ pub record IsPlain (P : RemoteCause → Type 0) : Type 0 where
   pub spent : P causes.OperationsSpent
   pub calls : (faults : List CallFault) → P (causes.CallFailed faults)
   pub memory : P causes.NoMemory
-  pub changed : (input : ChangedInput) → P (causes.InputChanged input)
-  pub source : (path : List ℕ) → P (causes.SourceFault path)
 
 pub either-ends : (P : RemoteCause → Type 0) (b : Bool) (x y : Ask) → IfEnded P x → IfEnded P y → IfEnded P (cond b x y)
 either-ends P true x y f g = f
@@ -85,13 +82,13 @@ missing-ends : (P : RemoteCause → Type 0) → IsPlain P → (marks : Marks) (p
 unfolding after_missing
 missing-ends P plain marks phase = either-ends P (counts_as_miss marks phase) (Upload false) (failed (causes.CallFailed marks.faults)) tt (plain.calls marks.faults)
 
--- of an upload or a fetch that failed, where a bad blob may be told or wasn't
-pub blobs-ends : (P : RemoteCause → Type 0) → IsPlain P → (task : Task) (marks : Marks) (phase : Phase) (fault : BlobFault) →
-    ((expected got : Digest) → fault ≡ blobs.BadBlob expected got → P (causes.BadBlob expected got)) → IfEnded P (after_blobs task marks phase fault)
-blobs-ends P plain task marks phase (blobs.Call fault) bad = fault-ends P plain task marks phase fault
-blobs-ends P plain task marks phase (blobs.Missing digest) bad = missing-ends P plain marks phase
-blobs-ends P plain task marks phase (blobs.Refused digest code) bad = plain.calls marks.faults
-blobs-ends P plain task marks phase (blobs.BadBlob expected got) bad = bad expected got refl
-blobs-ends P plain task marks phase (blobs.InputChanged input) bad = plain.changed input
-blobs-ends P plain task marks phase (blobs.SourceFault path) bad = plain.source path
-blobs-ends P plain task marks phase blobs.NoMemory bad = plain.memory
+-- of an upload or a fetch that failed
+pub blobs-ends : (P : RemoteCause → Type 0) → IsPlain P → (task : Task) (marks : Marks) (phase : Phase) (fault : BlobFault) → BlobsGive P fault →
+    IfEnded P (after_blobs task marks phase fault)
+blobs-ends P plain task marks phase (blobs.Call fault) given = fault-ends P plain task marks phase fault
+blobs-ends P plain task marks phase (blobs.Missing digest) given = missing-ends P plain marks phase
+blobs-ends P plain task marks phase (blobs.Refused digest code) given = plain.calls marks.faults
+blobs-ends P plain task marks phase (blobs.BadBlob expected got) given = given
+blobs-ends P plain task marks phase (blobs.InputChanged input) given = given
+blobs-ends P plain task marks phase (blobs.SourceFault path) given = given
+blobs-ends P plain task marks phase blobs.NoMemory given = plain.memory

@@ -1,8 +1,14 @@
+pub mod Actions
 pub mod Ends
 pub mod Faults
 pub mod Fine
+pub mod Grown
 pub mod History
 pub mod Honest
 pub mod Legal
 pub mod Marks
+pub mod Measure
+pub mod Reading
+pub mod Runs
 pub mod States
+pub mod Turns
