@@ -22,6 +22,8 @@ pub mod HearingLemmas
 pub mod HeardFrameLemmas
 pub mod HeardCallLemmas
 pub mod HeardRunLemmas
+pub mod GrowLemmas
+pub mod BlockLemmas
 pub mod UsesLemmas
 pub mod UsesFrameLemmas
 pub mod FitLemmas

@@ -9,8 +9,10 @@ use Rattle.rx_h2conn.specs.History.{Call, run, bytewise, SameRuns, all_given, em
 use Rattle.rx_h2conn.specs.Parts.{part_of, all_parts}
 use Rattle.rx_h2conn.specs.Carried.{bytes_on, all_written, bytes_in}
 use Rattle.rx_h2conn.specs.Granted.{all_granted, window_left, AllSendHeld}
+use Rattle.rx_h2conn.specs.Blocks.{WritesEachBlock}
 use Rattle.rx_h2conn.specs.Heard.{Hears}
 use Rattle.rx_h2conn.specs.Paced.{Restores, FitsNext}
+use Rattle.rx_h2conn.proofs.BlockLemmas.{only_block}
 use Rattle.rx_h2conn.proofs.HeardRunLemmas.{hears}
 use Rattle.rx_h2conn.proofs.RestoreLemmas.{restores, fits_next}
 use Rattle.rx_h2conn.proofs.CarriedLemmas.{all_carried}
@@ -62,3 +64,7 @@ started_restores (Err e) new = tt
 pub started_fits : {E : Type 0} (r : Result Reading E) → IfOk r (λ conn. conn ≡ started) → IfOk r (λ conn. (calls : List Call) → FitsNext conn calls)
 started_fits (Ok conn) new = λ calls. rw new (fits_next calls)
 started_fits (Err e) new = tt
+
+pub started_blocks : {E : Type 0} (r : Result Reading E) → IfOk r WritesEachBlock
+started_blocks (Ok conn) = only_block conn
+started_blocks (Err e) = tt

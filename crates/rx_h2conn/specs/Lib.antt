@@ -20,6 +20,7 @@ pub mod Conn
 pub mod History
 pub mod Parts
 pub mod Carried
+pub mod Blocks
 pub mod Granted
 pub mod Incoming
 pub mod Part

@@ -11,6 +11,7 @@ ghost use Rattle.rx_h2conn.specs.History.{Call, run, bytewise, SameRuns, all_giv
 ghost use Rattle.rx_h2conn.specs.Open.{refusal, next_id, opened};
 ghost use Rattle.rx_h2conn.specs.Output.{AnswersAt, allowed, sent, reset, output, emptied};
 ghost use Rattle.rx_h2conn.specs.Parts.{part_of, all_parts};
+ghost use Rattle.rx_h2conn.specs.Blocks.{WritesEachBlock};
 ghost use Rattle.rx_h2conn.specs.Carried.{bytes_on, all_written, bytes_in};
 ghost use Rattle.rx_h2conn.specs.Granted.{all_granted, window_left, AllSendHeld};
 ghost use Rattle.rx_h2conn.specs.Heard.{Hears};
@@ -121,6 +122,9 @@ impl Conn {
 
         // Of these, the frames of a stream are its headers, then what `send` took with the end, and its reset.
         ensures streams { IfOk result (λ conn. (id : ℕ) (calls : List Call) → part_of id (all_emitted conn calls) ≡ all_parts conn id calls) }
+
+        // The header block of a stream is that of the call that opened it, whatever calls stand before and after.
+        ensures blocks { IfOk result WritesEachBlock }
 
         // The bytes of a stream are those that `send` took and wrote, in their order.
         ensures bytes { IfOk result (λ conn. (id : ℕ) (calls : List Call) → bytes_on id (all_emitted conn calls) ≡ all_written conn id calls) }

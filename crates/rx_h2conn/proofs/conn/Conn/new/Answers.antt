@@ -1,4 +1,4 @@
-use Rattle.rx_h2conn.proofs.StartLemmas.{started_cutting, started_output, started_streams, started_bytes, started_window, started_stream_window, started_hears, started_restores, started_fits}
+use Rattle.rx_h2conn.proofs.StartLemmas.{started_cutting, started_output, started_streams, started_bytes, started_window, started_stream_window, started_hears, started_restores, started_fits, started_blocks}
 use Rattle.rx_h2conn.proofs.conn.Conn.new.Goals as goal
 
 pub returns-clause-any_cutting : goal.returns-clause-any_cutting
@@ -27,3 +27,6 @@ returns-clause-restores c = started_restores c.start.result c.start.ensures
 
 pub returns-clause-fits : goal.returns-clause-fits
 returns-clause-fits c = started_fits c.start.result c.start.ensures
+
+pub returns-clause-blocks : goal.returns-clause-blocks
+returns-clause-blocks c = started_blocks c.start.result
