@@ -1,0 +1,115 @@
+//! What a call hears of its answer over gRPC, as rows: see the headings of `stdin`.
+#![tactic(auto)]
+
+mod cuts;
+mod events;
+mod headers;
+
+use crate::events::{bytes_event, list_event, number_32, read_last};
+use crate::headers::read_headers;
+use rx_grpc::Answers;
+use rx_h2conn::ConnEvent;
+use rx_rows::{Answer, Calls, Row, RowFault, TableFault, answer_rows};
+use std::alloc::Global;
+use std::io;
+use std::io::BufReader;
+
+/// The reader that the rows work on, which `answer new` makes anew.
+#[derive(Drop)]
+struct Grpc {
+    alloc: Global,
+    answers: Answers,
+}
+
+impl Grpc {
+    fn add(&mut self, event: ConnEvent, answer: &mut Answer) -> Result<(), RowFault> {
+        self.answers.add(event)?;
+        Ok(answer.word("ok")?)
+    }
+
+    /// `headers last|more HEADER ..`.
+    fn headers(&mut self, row: &mut Row<'_>, answer: &mut Answer) -> Result<(), RowFault> {
+        let last = read_last(row)?;
+        let list = read_headers(self.alloc, row)?;
+        self.add(list_event(list, last), answer)
+    }
+
+    /// `bytes last|more BYTES`.
+    fn bytes(&mut self, row: &mut Row<'_>, answer: &mut Answer) -> Result<(), RowFault> {
+        let last = read_last(row)?;
+        let bytes = row.bytes(self.alloc)?;
+        self.add(bytes_event(bytes, last), answer)
+    }
+
+    /// `next`: the message that is handed out, or `none`.
+    fn next(&mut self, answer: &mut Answer) -> Result<(), RowFault> {
+        match self.answers.next_message() {
+            Some(message) => answer.bytes(message.as_slice())?,
+            None => answer.word("none")?,
+        }
+        Ok(())
+    }
+
+    /// `size`: how many bytes the message has that is handed out, or `none`.
+    fn size(&mut self, answer: &mut Answer) -> Result<(), RowFault> {
+        match self.answers.next_message() {
+            Some(message) => answer.number(message.len() as u64)?,
+            None => answer.word("none")?,
+        }
+        Ok(())
+    }
+
+    /// `end`: what ended the answer, or `none`.
+    fn end(&self, answer: &mut Answer) -> Result<(), RowFault> {
+        match self.answers.end() {
+            Some(end) => answer.value(&end)?,
+            None => answer.word("none")?,
+        }
+        Ok(())
+    }
+
+    /// `unary ended|open`: the answer of a call that expects one message, or `none`.
+    fn unary(&mut self, row: &mut Row<'_>, answer: &mut Answer) -> Result<(), RowFault> {
+        let ended = match row.word()? {
+            b"ended" => true,
+            b"open" => false,
+            _ => return Err(RowFault::BadCall),
+        };
+        Ok(cuts::write_unary(&mut self.answers, ended, answer)?)
+    }
+}
+
+impl Calls for Grpc {
+    fn call(&mut self, row: &mut Row<'_>, answer: &mut Answer) -> Result<(), RowFault> {
+        match row.word()? {
+            b"new" => {
+                self.answers = Answers::new(self.alloc);
+                Ok(answer.word("ok")?)
+            }
+            b"headers" => self.headers(row, answer),
+            b"bytes" => self.bytes(row, answer),
+            b"reset" => {
+                let code = number_32(row)?;
+                self.add(ConnEvent::Reset { stream: 1, code }, answer)
+            }
+            b"gone" => self.add(ConnEvent::Gone { last: 0 }, answer),
+            b"next" => self.next(answer),
+            b"size" => self.size(answer),
+            b"end" => self.end(answer),
+            b"cut" => Ok(answer.value(&self.answers.is_cut())?),
+            b"text" => Ok(answer.text(&self.answers.status_text(self.alloc)?)?),
+            b"unary" => self.unary(row, answer),
+            b"cuts" => cuts::call(self.alloc, row, answer),
+            _ => Err(RowFault::NoCall),
+        }
+    }
+}
+
+fn main(rt: HostRuntime) -> Result<(), TableFault> {
+    let mut calls = Grpc {
+        alloc: rt.alloc(),
+        answers: Answers::new(rt.alloc()),
+    };
+    let input = BufReader::new(rt.alloc(), rt.reader())?;
+    answer_rows(rt.alloc(), input, &mut io::writer(&rt), &mut calls)
+}
