@@ -46,7 +46,7 @@ pub record Halts (s x : Session) : Type 0 where
 
 -- a frame leaves both telling the same, or it breaks a rule and tells nothing
 abbrev pub Goes : List Event → Session → Incoming → Session → Type 0
-Goes h s u x = Hearing h x u ⊎ Halts s x
+Goes h s u x = ((x.fault ≡ s.fault) × Hearing h x u) ⊎ Halts s x
 
 pub halts : (s x : Session) (e : ConnFault) → x.fault ≡ Some e → x.streams ≡ s.streams → x.events ≡ s.events → Halts s x
 halts s x e fault streams events = record {
@@ -58,12 +58,12 @@ pub fails : (h : List Event) (u : Incoming) (s : Session) (code : ℕ) → Goes 
 fails h u s code = inr (halts s _ (Protocol code) refl refl refl)
 
 -- the same from a state with the same streams and events
-pub goes_from : (h : List Event) (s r : Session) (u : Incoming) (x : Session) → r.streams ≡ s.streams → r.events ≡ s.events → Goes h r u x → Goes h s u x
-goes_from h s r u x streams events (inl hear) = inl hear
-goes_from h s r u x streams events (inr bad) = inr (record { failed = bad.failed; quiet = quiet_from s r x streams events bad.quiet })
+pub goes_from : (h : List Event) (s r : Session) (u : Incoming) (x : Session) → r.streams ≡ s.streams → r.events ≡ s.events → r.fault ≡ s.fault → Goes h r u x → Goes h s u x
+goes_from h s r u x streams events fault (inl hear) = inl (hear.0 ∙ fault, hear.1)
+goes_from h s r u x streams events fault (inr bad) = inr (record { failed = bad.failed; quiet = quiet_from s r x streams events bad.quiet })
 
 pub goes_on : (h : List Event) (s x : Session) (t new : Incoming) → t.sequence ≡ s.sequence → is_interrupted s ≡ false → Goes h s new x → Goes h s (uninterrupted t new) x
-goes_on h s x t new e i (inl hear) = inl (on_going h s x t new e i hear)
+goes_on h s x t new e i (inl hear) = inl (hear.0, on_going h s x t new e i hear.1)
 goes_on h s x t new e i (inr bad) = inr bad
 
 pub stays : (h : List Event) (s : Session) (t : Incoming) → Hearing h s t → is_interrupted s ≡ false → Hearing h s (uninterrupted t t)
@@ -75,7 +75,7 @@ quiet h s x t hear i q d e = on_going h s x t t hear.sequence i (hearing_quiet h
 
 pub goes_passed : (h : List Event) (s : Session) (t : Incoming) → Hearing h s t → Goes h s (uninterrupted t t) (passed s)
 unfolding passed
-goes_passed h s t hear = either (Goes h s (uninterrupted t t)) (is_interrupted s) _ _ (λ _. fails h _ s 1) (λ i. inl (stays h s t hear i))
+goes_passed h s t hear = either (Goes h s (uninterrupted t t)) (is_interrupted s) _ _ (λ _. fails h _ s 1) (λ i. inl (refl, stays h s t hear i))
 
 pub goes_ping : (h : List Event) (s : Session) (t : Incoming) (f : Whole) → Hearing h s t → Goes h s (uninterrupted t t) (on_ping s f)
 unfolding on_ping
@@ -83,7 +83,7 @@ goes_ping h s t f hear =
     let P = Goes h s (uninterrupted t t) in
     either P (not (is_set f.flags 1) && is_flooded s) _ _ (λ _. fails h _ s 11) (λ _.
     either P (is_interrupted s) _ _ (λ _. fails h _ s 1) (λ i.
-    either P (is_set f.flags 1) _ _ (λ _. inl (stays h s t hear i)) (λ _. inl (quiet h s _ t hear i (quiet_same s _ refl refl) refl refl))))
+    either P (is_set f.flags 1) _ _ (λ _. inl (refl, stays h s t hear i)) (λ _. inl (refl, quiet h s _ t hear i (quiet_same s _ refl refl) refl refl))))
 
 pub goes_entries : (h : List Event) (s : Session) (t : Incoming) (a : Asked) → Hearing h s t → Goes h s (uninterrupted t t) (on_entries s a)
 unfolding on_entries
@@ -92,7 +92,7 @@ goes_entries h s t a hear =
     either P (widens s a) _ _ (λ _. fails h _ s 3) (λ _.
     either P (is_flooded s) _ _ (λ _. fails h _ s 11) (λ _.
     either P (is_interrupted s || a.is_wrong) _ _ (λ _. fails h _ s 1) (λ fine.
-    inl (quiet h s _ t hear (or_false _ _ fine).0 (quiet_same s _ refl refl) refl refl))))
+    inl (refl, quiet h s _ t hear (or_false _ _ fine).0 (quiet_same s _ refl refl) refl refl))))
 
 pub goes_settings : (h : List Event) (s : Session) (t : Incoming) (f : Whole) → Hearing h s t → Goes h s (uninterrupted t t) (on_settings s f)
 unfolding on_settings
@@ -104,7 +104,7 @@ goes_connection_update h s t n hear =
     let P = Goes h s (uninterrupted t t) in
     either P (nat_lt 2147483647 (s.send + n)) _ _ (λ _. fails h _ s 3) (λ _.
     either P (is_interrupted s || nat_eq n 0) _ _ (λ _. fails h _ s 1) (λ fine.
-    inl (quiet h s _ t hear (or_false _ _ fine).0 (quiet_same s _ refl refl) refl refl)))
+    inl (refl, quiet h s _ t hear (or_false _ _ fine).0 (quiet_same s _ refl refl) refl refl)))
 
 pub goes_stream_update : (h : List Event) (s : Session) (t : Incoming) (id n : ℕ) → Hearing h s t → Goes h s (uninterrupted t t) (on_stream_update s id n)
 unfolding on_stream_update
@@ -113,9 +113,9 @@ goes_stream_update h s t id n hear =
     either P (not (is_open s id)) _ _ (λ _. fails h _ s 1) (λ opened.
     either P (overflows s.initial (stream_at s id) n) _ _ (λ _. fails h _ s 3) (λ _.
     either P (is_interrupted s) _ _ (λ _. fails h _ s 1) (λ i.
-    either P (stream_at s id).client_reset _ _ (λ _. inl (stays h s t hear i)) (λ _.
+    either P (stream_at s id).client_reset _ _ (λ _. inl (refl, stays h s t hear i)) (λ _.
     either P (nat_eq n 0) _ _ (λ _. fails h _ s 1) (λ _.
-    inl (quiet h s _ t hear i (quiet_set s _ (id / 2) _ refl (record { given_up = refl; over = refl }) refl) refl refl))))))
+    inl (refl, quiet h s _ t hear i (quiet_set s _ (id / 2) _ refl (record { given_up = refl; over = refl }) refl) refl refl))))))
 
 pub goes_window_update : (h : List Event) (s : Session) (t : Incoming) (f : Whole) → Hearing h s t → Goes h s (uninterrupted t t) (on_window_update s f)
 unfolding on_window_update
@@ -126,7 +126,7 @@ unfolding on_go_away
 goes_go_away h s t f hear =
     let u = telling t (Gone (number_31 f.body) ∷ []) in
     either (Goes h s (uninterrupted t u)) (is_interrupted s) _ _ (λ _. fails h _ s 1) (λ i.
-    inl (on_going h s _ t u hear.sequence i (hearing_other h s _ t u (Gone (number_31 f.body)) hear (λ id. refl) refl (events_of_append s.events _) hear.going hear.decoder hear.sequence refl)))
+    inl (refl, on_going h s _ t u hear.sequence i (hearing_other h s _ t u (Gone (number_31 f.body)) hear (λ id. refl) refl (events_of_append s.events _) hear.going hear.decoder hear.sequence refl)))
 
 -- DATA
 pub on_bytes : (i : ℕ) (bytes : List ℕ) (last : Bool) → OnStream i (Bytes i bytes last)
@@ -158,8 +158,8 @@ goes_data h s t f hear =
     let i = (or_false _ _ fine).0 in
     let is = not_false _ (or_false _ _ fine).1 in
     either P (is_dropped (stream_at s f.stream)) _ _
-    (λ dropped. inl (on_going h s _ t _ hear.sequence i (data_dropped b h s t f last hear is dropped)))
-    (λ _. inl (on_going h s _ t _ hear.sequence i (data_taken b h s (taken_data s f last) t f.stream f.body last (heard (stream_at s f.stream) f.size _ last) (record { event = Bytes f.stream f.body last; stream = f.stream; credit = carried f }) hear (λ e. not_true last (and_true _ _ e).1) is refl refl refl refl refl refl refl)))))
+    (λ dropped. inl (refl, on_going h s _ t _ hear.sequence i (data_dropped b h s t f last hear is dropped)))
+    (λ _. inl (refl, on_going h s _ t _ hear.sequence i (data_taken b h s (taken_data s f last) t f.stream f.body last (heard (stream_at s f.stream) f.size _ last) (record { event = Bytes f.stream f.body last; stream = f.stream; credit = carried f }) hear (λ e. not_true last (and_true _ _ e).1) is refl refl refl refl refl refl refl)))))
 
 -- header lists
 pub in_block : (h : List Event) (s : Session) (t : Incoming) (o : Option Block) → Hearing h s t → Hearing h (record s { sequence = o }) (record t { sequence = o })
@@ -175,13 +175,13 @@ goes_list h s t u i list last hear going d e events =
     either P (not (is_open s i)) _ _ (λ _. fails h _ s 1) (λ opened.
     let is = not_false _ opened in
     either P (is_dropped (stream_at s i)) _ _
-    (λ dropped. inl (hearing_dropped h s s t u i (HeaderList i list last) hear is dropped (on_list i list last) (quiet_same s s refl refl) going d e events))
-    (λ _. inl (hearing_event h s _ t u i _ (HeaderList i list last) hear is (on_list i list last) refl refl refl (events_of_append s.events _) going d e events)))
+    (λ dropped. inl (refl, hearing_dropped h s s t u i (HeaderList i list last) hear is dropped (on_list i list last) (quiet_same s s refl refl) going d e events))
+    (λ _. inl (refl, hearing_event h s _ t u i _ (HeaderList i list last) hear is (on_list i list last) refl refl refl (events_of_append s.events _) going d e events)))
 
 pub goes_block : (x : Result Progress HpackFault) (h : List Event) (s : Session) (t : Incoming) (i : ℕ) (last : Bool) → Hearing h s t → Goes h s (block_read x t i last) (told_block x s i last)
 goes_block (Ok read) h s t i last hear =
     let again : Hearing h (record s { decoder = Ready read.table }) (record t { decoder = Ready read.table }) = record { going = hear.going; decoder = refl; sequence = hear.sequence; opened = hear.opened; unopened = hear.unopened; silent = hear.silent } in
-    goes_from h s (record s { decoder = Ready read.table }) _ _ refl refl (goes_list h (record s { decoder = Ready read.table }) (record t { decoder = Ready read.table }) _ i read.fields last again hear.going refl hear.sequence refl)
+    goes_from h s (record s { decoder = Ready read.table }) _ _ refl refl refl (goes_list h (record s { decoder = Ready read.table }) (record t { decoder = Ready read.table }) _ i read.fields last again hear.going refl hear.sequence refl)
 goes_block (Err ListTooLarge) h s t i last hear = inr (halts s _ (Protocol 11) refl refl refl)
 goes_block (Err BadIndex) h s t i last hear = inr (halts s _ (Protocol 9) refl refl refl)
 goes_block (Err BadInteger) h s t i last hear = inr (halts s _ (Protocol 9) refl refl refl)
@@ -203,7 +203,7 @@ goes_headers h s t f hear =
     either P (is_set f.flags 4) _ _
     (λ four. goes_on h s _ t _ hear.sequence i (rw four (goes_ended h s t f.stream f.body (is_set f.flags 1) hear)))
     (λ four. either P (not (is_open s f.stream)) _ _ (λ _. fails h _ s 1) (λ _.
-    inl (on_going h s _ t _ hear.sequence i (rw four (in_block h s t _ hear))))))
+    inl (refl, on_going h s _ t _ hear.sequence i (rw four (in_block h s t _ hear))))))
 
 pub goes_continued : (q : Block) (h : List Event) (s : Session) (t : Incoming) (f : Whole) → Hearing h s t → Goes h s (block_goes_on q t f) (continued q s f)
 unfolding continued
@@ -213,11 +213,11 @@ goes_continued q h s t f hear =
     either P (nat_lt 65536 (length q.block + length f.body) || not (nat_lt q.count 1024)) _ _ (λ _. fails h _ s 11) (λ few.
     either P (is_set f.flags 4) _ _
     (λ four. rw (same, few, four) (goes_ended h s t q.stream (q.block ++ f.body) q.last hear))
-    (λ four. inl (rw (same, few, four) (in_block h s t _ hear)))))
+    (λ four. inl (refl, rw (same, few, four) (in_block h s t _ hear)))))
 
 pub goes_continued_by : (o : Option Block) (h : List Event) (s : Session) (t : Incoming) (f : Whole) → Hearing h s t → Goes h s (continuation_told o t f) (continued_by o (record s { sequence = None }) f)
 goes_continued_by None h s t f hear = inr (halts s _ (Protocol 1) refl refl refl)
-goes_continued_by (Some q) h s t f hear = goes_from h s (record s { sequence = None }) _ _ refl refl (goes_continued q h (record s { sequence = None }) (record t { sequence = None }) f (in_block h s t None hear))
+goes_continued_by (Some q) h s t f hear = goes_from h s (record s { sequence = None }) _ _ refl refl refl (goes_continued q h (record s { sequence = None }) (record t { sequence = None }) f (in_block h s t None hear))
 
 pub goes_continuation : (h : List Event) (s : Session) (t : Incoming) (f : Whole) → Hearing h s t → Goes h s (continuation_told t.sequence t f) (on_continuation s f)
 unfolding on_continuation
@@ -248,8 +248,8 @@ goes_reset h s t f hear =
     let i = (or_false _ _ fine).0 in
     let is = not_false _ (or_false _ _ fine).1 in
     either P (stream_at s f.stream).client_reset _ _
-    (λ given. inl (on_going h s s t _ hear.sequence i (hearing_dropped h s s t _ f.stream (Reset f.stream (number f.body)) hear is (rw given refl) (on_end f.stream (number f.body)) (quiet_same s s refl refl) hear.going hear.decoder hear.sequence refl)))
-    (λ _. inl (on_going h s _ t _ hear.sequence i (reset_taken (stream_at s f.stream).server_done h s _ t f _ hear refl is refl refl refl refl refl refl))))
+    (λ given. inl (refl, on_going h s s t _ hear.sequence i (hearing_dropped h s s t _ f.stream (Reset f.stream (number f.body)) hear is (rw given refl) (on_end f.stream (number f.body)) (quiet_same s s refl refl) hear.going hear.decoder hear.sequence refl)))
+    (λ _. inl (refl, on_going h s _ t _ hear.sequence i (reset_taken (stream_at s f.stream).server_done h s _ t f _ hear refl is refl refl refl refl refl refl))))
 
 pub goes_by : (k : Kind) (h : List Event) (s : Session) (t : Incoming) (f : Whole) → Hearing h s t → Goes h s (frame_in k t f) (took_by k s f)
 goes_by Data h s t f hear = goes_data h s t f hear
