@@ -1,10 +1,11 @@
-//! Answers of fetches, with each digest as the text that has it.
+//! Answers of uploads and fetches, with each digest as the text that has it.
 
 use crate::names::Names;
 use rx_base::{Bytes, Digest, NoMemory};
 use rx_blobs::BlobFault;
 use rx_exec_messages::Ask;
 use rx_rows::Answer;
+use rx_world::Seen;
 
 /// Writes each text, or `nothing`.
 pub(crate) fn write_texts(texts: &[Bytes], answer: &mut Answer) -> Result<(), NoMemory> {
@@ -17,7 +18,7 @@ pub(crate) fn write_texts(texts: &[Bytes], answer: &mut Answer) -> Result<(), No
     Ok(())
 }
 
-/// Writes why nothing was fetched.
+/// Writes why blobs weren't uploaded or fetched.
 pub(crate) fn write_why(
     fault: &BlobFault,
     names: &Names,
@@ -38,7 +39,25 @@ pub(crate) fn write_why(
             names.write(digest, answer)?;
             answer.number(u64::from(*code))
         }
+        BlobFault::InputChanged(input) => {
+            answer.word("InputChanged")?;
+            answer.text(input.path.as_str().as_bytes())?;
+            write_seen(&input.first, names, answer)?;
+            write_seen(&input.second, names, answer)
+        }
+        BlobFault::SourceFault { path } => {
+            answer.word("SourceFault")?;
+            answer.text(path.as_str().as_bytes())
+        }
         fault => answer.value(fault),
+    }
+}
+
+/// Writes the text that was seen of a file, or its look where that alone was seen.
+fn write_seen(seen: &Seen, names: &Names, answer: &mut Answer) -> Result<(), NoMemory> {
+    match &seen.digest {
+        Some(digest) => names.write(digest, answer),
+        None => answer.value(&seen.look),
     }
 }
 
@@ -54,9 +73,21 @@ pub(crate) fn write_asks(asks: &[Ask], names: &Names, answer: &mut Answer) -> Re
     Ok(())
 }
 
-/// Writes a call that reads blobs, with their texts, or the name of another one.
+/// Writes a call that asks for, stores or reads blobs, with their texts, or the name of another one.
 fn write_ask(ask: &Ask, names: &Names, answer: &mut Answer) -> Result<(), NoMemory> {
     match ask {
+        Ask::FindMissing(digests) => {
+            answer.word("find_missing")?;
+            write_digests(digests.as_slice(), names, answer)
+        }
+        Ask::Update(digests) => {
+            answer.word("update")?;
+            write_digests(digests.as_slice(), names, answer)
+        }
+        Ask::WriteStream(digest) => {
+            answer.word("write_stream")?;
+            names.write(digest, answer)
+        }
         Ask::Read(digests) => {
             answer.word("read")?;
             write_digests(digests.as_slice(), names, answer)

@@ -1,4 +1,5 @@
-//! Fetches of blobs, limits of batches, dialects of farms and the client in memory, as rows: see the headings of `stdin`.
+//! Uploads and fetches of blobs, limits of batches, dialects of farms and the client in memory, as
+//! rows: see the headings of `stdin`.
 #![tactic(auto)]
 
 mod answers;
@@ -7,20 +8,23 @@ mod dialects;
 mod fetches;
 mod lines;
 mod names;
+mod uploads;
 
 use rx_blobs::batch_limit;
 use rx_rows::{Answer, Calls, Row, RowFault, TableFault, answer_rows};
 use std::alloc::Global;
 use std::io;
 use std::io::BufReader;
+use std::sync::Wait;
 
 /// The calls of the rows. They keep nothing from row to row.
 #[derive(Drop)]
-struct BlobCalls {
+struct BlobCalls<'a, R> {
+    rt: &'a R,
     alloc: Global,
 }
 
-impl Calls for BlobCalls {
+impl<'a, R: Wait> Calls for BlobCalls<'a, R> {
     fn call(&mut self, row: &mut Row<'_>, answer: &mut Answer) -> Result<(), RowFault> {
         match row.word()? {
             b"ask" => asks::answer_asks(self.alloc, row, answer),
@@ -30,6 +34,7 @@ impl Calls for BlobCalls {
             }
             b"dialect" => dialects::answer_dialect(row, answer),
             b"fetch" => fetches::answer_fetch(self.alloc, row, answer),
+            b"upload" => uploads::answer_upload(self.rt, self.alloc, row, answer),
             _ => Err(RowFault::NoCall),
         }
     }
@@ -38,6 +43,6 @@ impl Calls for BlobCalls {
 fn main(rt: HostRuntime) -> Result<(), TableFault> {
     let alloc = rt.alloc();
     let input = BufReader::new(alloc, rt.reader())?;
-    let mut calls = BlobCalls { alloc };
+    let mut calls = BlobCalls { rt: &rt, alloc };
     answer_rows(alloc, input, &mut io::writer(&rt), &mut calls)
 }

@@ -1,0 +1,150 @@
+//! `upload LIMIT MOST TIMES BLOBS TREE LINE ..`: uploads of blobs over one set of at most LIMIT digests, with
+//! this limit of a batch, to a farm that answers these lines. The blobs stand in one pair of quotes with a
+//! space between each two; `@TEXT` is the file at the path TEXT, which was gathered with that text and the
+//! mark 0, and any other is its own text. TIMES is `once`, `twice`, or `fresh`: once, and once more fresh.
+
+ghost use Rattle.std.specs.Prelude.{IfOk};
+ghost use Rattle.rx_blobs.specs.Uploads.{AreMade, IsMade};
+
+use crate::answers::{write_asks, write_digests, write_why};
+use crate::lines::read_lines;
+use crate::names::Names;
+use rx_base::{Bytes, Items, RelPath, digest_of};
+use rx_blobs::{Blob, Presence, ToUpload, upload};
+use rx_exec_messages::{NamedBlob, Script};
+use rx_fakes::{MemorySources, TreeFault, read_tree};
+use rx_row_values::{path_of, read_string};
+use rx_rows::{Answer, Row, RowFault};
+use rx_world::{Dialect, InputFile, Stamp, Toy};
+use std::alloc::Global;
+use std::marker::Brand;
+use std::sync::Wait;
+
+/// Writes what each upload answered, the calls that were made, how many of them failed, and how many files
+/// were read.
+pub(crate) fn answer_upload<R: Wait>(
+    rt: &R,
+    alloc: Global,
+    row: &mut Row<'_>,
+    answer: &mut Answer,
+) -> Result<(), RowFault> {
+    let mut names = Names::new(alloc);
+    let limit = row.number()?;
+    let most = row.number()?;
+    let (times, fresh) = read_times(row)?;
+    let blobs = read_blobs(alloc, row, &mut names)?;
+    let mut sources = read_sources(alloc, row)?;
+    let lines = read_lines(alloc, row, &mut names)?;
+    let mut farm = Script::new(alloc, lines, Dialect::New);
+    let presence = Presence::new(
+        alloc,
+        usize::try_from(limit).map_err(|_| RowFault::BadNumber)?,
+    );
+    for round in 0..times {
+        let what = ToUpload {
+            blobs: blobs.as_slice(),
+            most,
+            fresh: fresh && round > 0,
+        };
+        let result = upload::<Toy<Brand>, Script, MemorySources<Brand>, R>(
+            rt,
+            alloc,
+            &mut farm,
+            &mut sources,
+            &presence,
+            &what,
+        );
+        name_reads(&sources, &mut names)?;
+        match result {
+            Ok(left_out) => write_digests(left_out.as_slice(), &names, answer)?,
+            Err(fault) => write_why(&fault, &names, answer)?,
+        }
+    }
+    write_asks(farm.asks(), &names, answer)?;
+    answer.word("faults")?;
+    answer.number(farm.faults())?;
+    answer.word("reads")?;
+    answer.number(sources.reads() as u64)?;
+    Ok(())
+}
+
+/// How many uploads there are, and whether those behind the first are fresh.
+fn read_times(row: &mut Row<'_>) -> Result<(u64, bool), RowFault> {
+    match row.word()? {
+        b"once" => Ok((1, false)),
+        b"twice" => Ok((2, false)),
+        b"fresh" => Ok((2, true)),
+        _ => Err(RowFault::BadCall),
+    }
+}
+
+/// The source tree of the next word, whose files have the mark 0.
+fn read_sources(alloc: Global, row: &mut Row<'_>) -> Result<MemorySources<Brand>, RowFault> {
+    let text = read_string(alloc, row)?;
+    match read_tree(alloc, text.as_str(), 0) {
+        Ok(tree) => Ok(tree),
+        Err(TreeFault::NoMemory) => Err(RowFault::NoMemory),
+        Err(_) => Err(RowFault::BadCall),
+    }
+}
+
+/// The blobs of the next word.
+fn read_blobs(alloc: Global, row: &mut Row<'_>, names: &mut Names) -> Result<Items<Blob>, RowFault>
+    ensures { IfOk result AreMade }
+{
+    let texts = row.text(alloc)?;
+    let mut blobs = Items::new(alloc);
+    for text in texts.split(|byte| *byte == b' ') {
+        let blob = read_blob(alloc, text, names)?;
+        let Ok(()) = blobs.push(blob) else {
+            return Err(RowFault::NoMemory);
+        };
+    }
+    Ok(blobs)
+}
+
+/// A blob of a text: a file where it begins with `@`.
+fn read_blob(alloc: Global, text: &[u8], names: &mut Names) -> Result<Blob, RowFault>
+    ensures { IfOk result IsMade }
+{
+    match text.split_first() {
+        Some((b'@', content)) => {
+            names.digest(content)?;
+            Ok(Blob::File(input_file(alloc, content)?))
+        }
+        _ => {
+            names.digest(text)?;
+            Ok(Blob::Made(NamedBlob {
+                digest: digest_of(text),
+                bytes: Bytes::copy_of(alloc, text)?,
+            }))
+        }
+    }
+}
+
+/// The file at the path of a text, as it is gathered where it has just this text.
+fn input_file(alloc: Global, content: &[u8]) -> Result<InputFile, RowFault> {
+    let Ok(name) = std::str::from_utf8(content) else {
+        return Err(RowFault::BadText);
+    };
+    let path: RelPath = path_of(alloc, name)?;
+    Ok(InputFile {
+        path,
+        digest: digest_of(content),
+        stamp: Stamp {
+            size: content.len() as u64,
+            mark: 0,
+        },
+        executable: false,
+    })
+}
+
+/// Gives a name to each text that was read.
+fn name_reads(sources: &MemorySources<Brand>, names: &mut Names) -> Result<(), RowFault> {
+    for given in sources.given.as_slice() {
+        if let Some(bytes) = &given.bytes {
+            names.digest(bytes.as_slice())?;
+        }
+    }
+    Ok(())
+}
