@@ -1,6 +1,9 @@
 //! The one command of the rows.
 
-ghost use Rattle.std.specs.Prelude.{IfOk};
+ghost use Rattle.std.specs.Prelude.{◌≡◌, IfOk};
+ghost use Rattle.std.specs.List.{list_all};
+ghost use Rattle.rx_action.specs.OutputPaths.{AreBelow};
+ghost use Rattle.rx_base.specs.Paths.{is_below};
 ghost use Rattle.rx_base.specs.SortedPaths.{AreSorted};
 
 use rx_base::{Items, RelPath, Text, sort_paths};
@@ -11,7 +14,7 @@ use rx_world::Command;
 use std::alloc::Global;
 
 /// The command `t` in the root, which writes the one output `b`.
-fn command(alloc: Global) -> Result<Command, RowFault>
+pub(crate) fn command(alloc: Global) -> Result<Command, RowFault>
     ensures { IfOk result (λ command. AreSorted command.outputs) }
 {
     let mut words = Items::new(alloc);
@@ -38,4 +41,24 @@ pub(crate) fn task(alloc: Global, accept_cached: bool) -> Result<Task, RowFault>
         command,
         accept_cached,
     })
+}
+
+/// The command of a whole attempt, whose outputs are known to be below its working directory.
+pub(crate) fn placed_command(alloc: Global) -> Result<Command, RowFault>
+    ensures sorted { IfOk result (λ command. AreSorted command.outputs) }
+    ensures below { IfOk result (λ command.
+        AreBelow command.working_directory command.outputs) }
+{
+    let command = command(alloc)?;
+    if are_below(&command.working_directory, command.outputs.as_slice()) {
+        return Ok(command);
+    }
+    Err(RowFault::BadCall)
+}
+
+/// Whether each of these paths is below the directory.
+fn are_below(directory: &RelPath, paths: &[RelPath]) -> bool
+    ensures { result ≡ list_all (λ path. is_below path directory.now) paths.now }
+{
+    paths.iter().all(|path| path.is_below(directory))
 }

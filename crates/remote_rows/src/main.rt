@@ -7,31 +7,43 @@ mod causes;
 mod commands;
 mod events;
 mod faults;
+mod lines;
+mod races;
 mod results;
+mod runs;
 
+use crate::runs::Attempt;
 use rx_rows::{Answer, Calls, Row, RowFault, TableFault, answer_rows};
 use std::alloc::Global;
 use std::io;
 use std::io::BufReader;
+use std::sync::Wait;
 
 /// The calls of the rows. They keep nothing from row to row.
 #[derive(Drop)]
-struct AttemptCalls {
+struct AttemptCalls<'a, R> {
+    rt: &'a R,
     alloc: Global,
 }
 
-impl Calls for AttemptCalls {
+impl<'a, R: Wait> Calls for AttemptCalls<'a, R> {
     fn call(&mut self, row: &mut Row<'_>, answer: &mut Answer) -> Result<(), RowFault> {
-        match row.word()? {
-            b"accepts" => attempts::call(self.alloc, row, true, answer),
-            b"refuses" => attempts::call(self.alloc, row, false, answer),
-            _ => Err(RowFault::NoCall),
-        }
+        let attempt = match row.word()? {
+            b"accepts" => return attempts::call(self.alloc, row, true, answer),
+            b"refuses" => return attempts::call(self.alloc, row, false, answer),
+            b"run" => Attempt::new(true),
+            b"refusing" => Attempt::new(false),
+            b"until" => Attempt::until(row.number()?),
+            b"with" => Attempt::with(row.text(self.alloc)?, row.text(self.alloc)?),
+            _ => return Err(RowFault::NoCall),
+        };
+        runs::call(self.rt, self.alloc, row, attempt, answer)
     }
 }
 
 fn main(rt: HostRuntime) -> Result<(), TableFault> {
-    let input = BufReader::new(rt.alloc(), rt.reader())?;
-    let mut calls = AttemptCalls { alloc: rt.alloc() };
-    answer_rows(rt.alloc(), input, &mut io::writer(&rt), &mut calls)
+    let alloc = rt.alloc();
+    let input = BufReader::new(alloc, rt.reader())?;
+    let mut calls = AttemptCalls { rt: &rt, alloc };
+    answer_rows(alloc, input, &mut io::writer(&rt), &mut calls)
 }

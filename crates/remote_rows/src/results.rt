@@ -23,6 +23,8 @@ pub(crate) fn read_result(
     let mut result = code_alone(alloc, 0);
     match word {
         b"inline" => result.output_files.push(output(alloc, b"abc")?)?,
+        b"dotted" => result.output_files.push(output_at(alloc, "./b", b"abc")?)?,
+        b"outside" => result.output_files.push(output_at(alloc, "../b", b"abc")?)?,
         b"apart" => result.output_files.push(output(alloc, b"")?)?,
         b"spoiled" => result.output_files.push(output(alloc, b"abd")?)?,
         b"absent" => {}
@@ -56,8 +58,13 @@ fn code_1(alloc: Global) -> Result<ActionResult, NoMemory> {
 
 /// The output `b` with the digest of `abc`, and with these contents in the result.
 fn output(alloc: Global, contents: &[u8]) -> Result<OutputFile, NoMemory> {
+    output_at(alloc, "b", contents)
+}
+
+/// The same at another path.
+fn output_at(alloc: Global, path: &str, contents: &[u8]) -> Result<OutputFile, NoMemory> {
     Ok(OutputFile {
-        path: Text::copy_of(alloc, "b")?,
+        path: Text::copy_of(alloc, path)?,
         digest: Some(digest_of(b"abc")),
         is_executable: false,
         contents: Bytes::copy_of(alloc, contents)?,
