@@ -4,6 +4,7 @@
 
 mod answers;
 mod asks;
+mod copies;
 mod dialects;
 mod fetches;
 mod lines;
@@ -32,6 +33,7 @@ impl<'a, R: Wait> Calls for BlobCalls<'a, R> {
                 answer.number(batch_limit(row.number()?))?;
                 Ok(())
             }
+            b"copies" => copies::answer_copies(self.rt, self.alloc, row, answer),
             b"dialect" => dialects::answer_dialect(row, answer),
             b"fetch" => fetches::answer_fetch(self.alloc, row, answer),
             b"upload" => uploads::answer_upload(self.rt, self.alloc, row, answer),

@@ -78,10 +78,15 @@ fn read_times(row: &mut Row<'_>) -> Result<(u64, bool), RowFault> {
     }
 }
 
-/// The source tree of the next word, whose files have the mark 0.
+/// The source tree of the next word.
 fn read_sources(alloc: Global, row: &mut Row<'_>) -> Result<MemorySources<Brand>, RowFault> {
     let text = read_string(alloc, row)?;
-    match read_tree(alloc, text.as_str(), 0) {
+    tree_of(alloc, text.as_str())
+}
+
+/// The source tree that a text tells, whose files have the mark 0.
+pub(crate) fn tree_of(alloc: Global, text: &str) -> Result<MemorySources<Brand>, RowFault> {
+    match read_tree(alloc, text, 0) {
         Ok(tree) => Ok(tree),
         Err(TreeFault::NoMemory) => Err(RowFault::NoMemory),
         Err(_) => Err(RowFault::BadCall),
@@ -123,7 +128,7 @@ fn read_blob(alloc: Global, text: &[u8], names: &mut Names) -> Result<Blob, RowF
 }
 
 /// The file at the path of a text, as it is gathered where it has just this text.
-fn input_file(alloc: Global, content: &[u8]) -> Result<InputFile, RowFault> {
+pub(crate) fn input_file(alloc: Global, content: &[u8]) -> Result<InputFile, RowFault> {
     let Ok(name) = std::str::from_utf8(content) else {
         return Err(RowFault::BadText);
     };
