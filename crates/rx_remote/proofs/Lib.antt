@@ -16,4 +16,5 @@ mod RunLemmas
 pub mod SoundEnds
 mod StepLemmas
 pub mod StopEnds
+mod StopTold
 mod StoreLemmas

@@ -1,9 +1,12 @@
 -- The end that an ask is, and the decision of a race, where an attempt heard of it.
-use Rattle.std.specs.Prelude.{Option, None, Some}
+use Rattle.std.specs.Prelude.{◌≡◌, Option, None, Some}
 use Rattle.rx_world.specs.declared.attempts.End.{End}
+use Rattle.rx_world.specs.declared.attempts.End.TheVariants as ends
 use Rattle.rx_world.specs.declared.decisions.Decision.{Decision}
 use Rattle.rx_world.specs.declared.outcomes.Outcome.{Outcome}
 use Rattle.rx_world.specs.declared.remote_causes.RemoteCause.{RemoteCause}
+use Rattle.rx_world.specs.declared.remote_causes.RemoteCause.TheVariants as causes
+use Rattle.rx_world.specs.Decisions.{StopsBy}
 use Rattle.rx_remote.specs.declared.asks.Ask.{Ask}
 use Rattle.rx_remote.specs.declared.asks.Ask.TheVariants.{Capabilities, End as Ends, Execute, Fetch, GetResult, NextOperation, Upload, Wait}
 use Rattle.rx_remote.specs.declared.asks.Heard.{Heard}
@@ -31,3 +34,26 @@ end_in (Execute skip_cache) = None
 end_in NextOperation = None
 end_in (Wait name) = None
 end_in (Fetch digests) = None
+
+-- ---- what a stop tells
+
+-- after an ask: the decision, where that was heard, and else what it told before
+abbrev pub StopTells : Option Decision → Option Decision → Option Decision → Type 0
+StopTells before now (Some decision) = StopsBy now decision
+StopTells before now None = now ≡ before
+
+abbrev pub StopTellsCause : Option Decision → Option Decision → RemoteCause → Type 0
+StopTellsCause before now (causes.Stopped decision) = StopsBy now decision
+StopTellsCause before now (causes.CallFailed faults) = now ≡ before
+StopTellsCause before now (causes.BadBlob expected got) = now ≡ before
+StopTellsCause before now (causes.BadResult fault) = now ≡ before
+StopTellsCause before now causes.OperationsSpent = now ≡ before
+StopTellsCause before now (causes.InputChanged input) = now ≡ before
+StopTellsCause before now (causes.WrongVersion low high) = now ≡ before
+StopTellsCause before now (causes.SourceFault path) = now ≡ before
+StopTellsCause before now causes.NoMemory = now ≡ before
+
+-- at the end of an attempt: the decision by which it was stopped, and else what it told before
+abbrev pub StopTellsEnd : Option Decision → Option Decision → End Outcome RemoteCause → Type 0
+StopTellsEnd before now (ends.Done outcome origin) = now ≡ before
+StopTellsEnd before now (ends.Failed cause) = StopTellsCause before now cause

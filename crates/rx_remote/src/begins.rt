@@ -1,12 +1,13 @@
 //! The begin of a remote attempt: the farm is asked what it says of itself, until it tells that or the
 //! attempt ends.
 
-ghost use Rattle.std.specs.Prelude.{◌≡◌, [], IfErr, IfOk, List};
+ghost use Rattle.std.specs.Prelude.{◌≡◌, [], IfErr, IfOk, List, OnOk};
 ghost use Rattle.rx_base.specs.SortedPaths.{AreSorted};
 ghost use Rattle.rx_base.specs.declared.digests.Digest.{Digest as AnyDigest};
 ghost use Rattle.rx_exec_messages.specs.Exchanged.{HasExchanged};
 ghost use Rattle.rx_remote.specs.declared.asks.Ask.TheVariants as asks;
 ghost use Rattle.rx_remote.specs.declared.tasks.Task.{Task as AnyTask};
+ghost use Rattle.rx_remote.specs.Ends.{StopTells, StopTellsEnd, stop_heard};
 ghost use Rattle.rx_remote.specs.Fine.{IsEndOf};
 ghost use Rattle.rx_remote.specs.Reading.{HeardGives, IsOwnCause};
 ghost use Rattle.rx_remote.specs.Runs.{EndsEarlyOr, FirstEnds, FirstTurns, HasTold, IsAsking, TellsOwn, told_in};
@@ -46,6 +47,8 @@ pub(crate) fn begin<W: World, C: Caller<W>, T: Stop>(
     ensures ended { IfErr result (EndsEarlyOr W.World C.Caller task caller.old caller.new) }
     ensures exchanged { HasExchanged C.Caller caller.old caller.new (λ _. Unit {0}) }
     ensures own { IfErr result (IsEndOf (IsOwnCause [] [] 0 0 (T.told stop.new))) }
+    ensures same { OnOk result (T.told stop.new ≡ T.told stop.old) }
+    ensures stop { IfErr result (StopTellsEnd (T.told stop.old) (T.told stop.new)) }
 {
     let mut state = RemoteState::new(alloc, task);
     loop {
@@ -76,6 +79,12 @@ fn first_turn<W: World, C: Caller<W>, T: Stop>(
     ensures own { IfErr result (λ end. (task : AnyTask) (old : C) →
         IsAsking W.World C.Caller task old caller.old state →
         IsEndOf (IsOwnCause [] [] 0 0 (T.told stop.new)) end) }
+    ensures same { OnOk result ((task : AnyTask) (old : C) →
+        IsAsking W.World C.Caller task old caller.old state →
+        T.told stop.new ≡ T.told stop.old) }
+    ensures stop { IfErr result (λ end. (task : AnyTask) (old : C) →
+        IsAsking W.World C.Caller task old caller.old state →
+        StopTellsEnd (T.told stop.old) (T.told stop.new) end) }
 {
     let heard = first_heard::<W, C, T>(caller, stop);
     let told = told_in(&heard);
@@ -100,6 +109,7 @@ fn first_heard<W: World, C: Caller<W>, T: Stop>(caller: &mut C, stop: &mut T) ->
         action stored asks.Capabilities caller.old caller.new result }
     ensures told { TellsOwn C.Caller caller.old (told_in result) }
     ensures own { HeardGives (IsOwnCause [] [] 0 0 (T.told stop.new)) result }
+    ensures stop { StopTells (T.told stop.old) (T.told stop.new) (stop_heard result) }
 {
     if let Some(decision) = stop.seen() {
         return Heard::Stopped(decision);

@@ -6,6 +6,7 @@ ghost use Rattle.rx_base.specs.SortedPaths.{AreSorted};
 ghost use Rattle.rx_exec_messages.specs.Exchanged.{HasExchanged};
 ghost use Rattle.rx_world.specs.Inputs.{IsAsListed};
 ghost use Rattle.rx_remote.specs.Actions.{AreNamed, IsReady, stored_of};
+ghost use Rattle.rx_remote.specs.Ends.{StopTellsEnd};
 ghost use Rattle.rx_remote.specs.Fine.{IsEndOf};
 ghost use Rattle.rx_remote.specs.Reading.{HasRead, IsOwnCause, IsUnchanged};
 ghost use Rattle.rx_remote.specs.Runs.{EndsAfter, EndsOr, HasBegun, HasRun, HasTold, IsRightFor, IsSoundEnd, WasTold, task_of, work_of};
@@ -48,6 +49,9 @@ pub fn run_remote<W: World, C: Caller<W>, S: Sources<W>, T: Stop, R: Wait>(
     ensures own { HasRead W.World S.Sources job.now.files.now sources.old sources.new (λ answers.
         IsEndOf (IsOwnCause job.now.files.now answers
         (S.faults sources.old) (S.faults sources.new) (T.told stop.new)) result) }
+    // A stop that was asked tells the decision of the end, where that is Stopped, and else what it
+    // told before: no decision that was told is passed over.
+    ensures told { StopTellsEnd (T.told stop.old) (T.told stop.new) result }
     // And no file changes that is as the source tree lists it.
     ensures unchanged { S.keeps sources.old → IfSome (S.listed sources.old) (λ entries.
         All (IsAsListed entries) job.now.files.now → IsEndOf IsUnchanged result) }
@@ -84,6 +88,7 @@ fn go_on<W: World, C: Caller<W>, S: Sources<W>, T: Stop, R: Wait>(
     ensures own { HasRead W.World S.Sources job.now.files.now sources.old sources.new (λ answers.
         IsEndOf (IsOwnCause job.now.files.now answers
         (S.faults sources.old) (S.faults sources.new) (T.told stop.new)) result) }
+    ensures stop { StopTellsEnd (T.told stop.old) (T.told stop.new) result }
 {
     let Begun { going, told } = begun;
     let Ok(key) = action_of(alloc, job.command, &job.tree.root, told.dialect()) else {
@@ -124,6 +129,7 @@ fn run_on<W: World, C: Caller<W>, S: Sources<W>, T: Stop, R: Wait>(
     ensures own { HasRead W.World S.Sources action.now.job.files.now sources.old sources.new
         (λ answers. IsEndOf (IsOwnCause action.now.job.files.now answers
         (S.faults sources.old) (S.faults sources.new) (T.told stop.new)) result) }
+    ensures stop { StopTellsEnd (T.told stop.old) (T.told stop.new) result }
 {
     let mut going = going;
     loop {

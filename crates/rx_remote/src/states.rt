@@ -1,10 +1,11 @@
 //! The state of a remote attempt, and its one step.
 
-ghost use Rattle.std.specs.Prelude.{◌≡◌, [], IfOk, List};
+ghost use Rattle.std.specs.Prelude.{◌≡◌, [], IfErr, IfOk, List, None};
 ghost use Rattle.rx_base.specs.SortedPaths.{AreSorted};
 ghost use Rattle.rx_remote.specs.declared.tasks.Task.{Task as AnyTask};
 ghost use Rattle.rx_remote.specs.declared.asks.Ask.TheVariants as asks;
 ghost use Rattle.rx_remote.specs.declared.asks.Heard.TheVariants as heard;
+ghost use Rattle.rx_remote.specs.Ends.{stop_heard};
 ghost use Rattle.rx_remote.specs.Fine.{IsRightAfter, IsSoundAfter};
 ghost use Rattle.rx_remote.specs.History.{after_range, skips};
 ghost use Rattle.rx_remote.specs.Marks.{Turn, is_missing};
@@ -60,6 +61,8 @@ pub fn step(alloc: Global, state: RemoteState, heard: Heard) -> Result<(RemoteSt
     // Where the farm was honest, a Done is the clean run, and no end blames a result or a blob.
     ensures right { IfOk result (λ next. (task : AnyTask) (history : List Turn) →
         IsStateOf task history state → IsRightAfter task history heard next.1) }
+    // A stop ends the attempt, whatever memory there is.
+    ensures stops { IfErr result (λ error. stop_heard heard ≡ None) }
 {
     let RemoteState { task, marks, phase } = state;
     let marks = marks.since(alloc, phase);
@@ -77,7 +80,8 @@ fn after(
     heard: Heard,
 ) -> Result<(Marks, Ask), NoMemory>
     requires { AreSorted task.now.command.outputs }
-    ensures { IfOk result (λ next. Leads task.now marks phase heard next.0 next.1) }
+    ensures leads { IfOk result (λ next. Leads task.now marks phase heard next.0 next.1) }
+    ensures stops { IfErr result (λ error. stop_heard heard ≡ None) }
 {
     match heard {
         Heard::Told(capabilities) => Ok((marks, after_range(task.accept_cached, capabilities))),

@@ -1,7 +1,7 @@
 //! One turn of a remote attempt: whether it is to stop, what is asked of the farm, what is heard, and
 //! what follows.
 
-ghost use Rattle.std.specs.Prelude.{◌≡◌, ◌≢◌, IfErr, IfOk, Option};
+ghost use Rattle.std.specs.Prelude.{◌≡◌, ◌≢◌, IfErr, IfOk, OnOk, Option};
 ghost use Rattle.rx_world.specs.declared.attempts.End.TheVariants as ends;
 ghost use Rattle.rx_world.specs.declared.decisions.Decision.{Decision as AnyDecision};
 ghost use Rattle.rx_world.specs.declared.remote_causes.RemoteCause.TheVariants as causes;
@@ -9,6 +9,7 @@ ghost use Rattle.rx_exec_messages.specs.Exchanged.{HasExchanged};
 ghost use Rattle.rx_remote.specs.declared.asks.Ask.TheVariants as asks;
 ghost use Rattle.rx_remote.specs.declared.phases.Phase.TheVariants as phases;
 ghost use Rattle.rx_remote.specs.Actions.{IsReady, stored_of};
+ghost use Rattle.rx_remote.specs.Ends.{StopTells, StopTellsEnd, stop_heard};
 ghost use Rattle.rx_remote.specs.Fine.{IsEndOf};
 ghost use Rattle.rx_remote.specs.Marks.{phase_of};
 ghost use Rattle.rx_remote.specs.Reading.{HasRead, HeardGives, IsOwnCause, IsQuiet};
@@ -62,6 +63,8 @@ pub(crate) fn turn<W: World, C: Caller<W>, S: Sources<W>, T: Stop, R: Wait>(
     ensures reads { HasRead W.World S.Sources action.now.job.files.now sources.old sources.new
         (λ answers. IfErr result (IsEndOf (IsOwnCause action.now.job.files.now answers
         (S.faults sources.old) (S.faults sources.new) (T.told stop.new)))) }
+    ensures same { OnOk result (T.told stop.new ≡ T.told stop.old) }
+    ensures told { IfErr result (StopTellsEnd (T.told stop.old) (T.told stop.new)) }
 {
     let Going { state, ask } = going;
     let heard = listen::<W, C, S, T, R>(rt, alloc, action, caller, sources, stop, &ask);
@@ -95,6 +98,7 @@ fn listen<W: World, C: Caller<W>, S: Sources<W>, T: Stop, R: Wait>(
     ensures reads { HasRead W.World S.Sources action.now.job.files.now sources.old sources.new
         (λ answers. HeardGives (IsOwnCause action.now.job.files.now answers
         (S.faults sources.old) (S.faults sources.new) (T.told stop.new)) result) }
+    ensures told { StopTells (T.told stop.old) (T.told stop.new) (stop_heard result) }
 {
     if let Some(decision) = stop.seen() {
         return Heard::Stopped(decision);

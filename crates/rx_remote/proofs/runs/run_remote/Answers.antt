@@ -4,6 +4,7 @@ use Rattle.rx_remote.specs.Runs.{EndsEarlyOr, HasTold, work_of}
 use Rattle.rx_remote.proofs.LoopLemmas.{any-then, own-unread}
 use Rattle.rx_remote.proofs.ReadLemmas.{read-none, unchanged-end}
 use Rattle.rx_remote.proofs.RunEnds.{early-or}
+use Rattle.rx_remote.proofs.StopTold.{ends-since}
 use Rattle.rx_remote.proofs.runs.run_remote.Goals as goal
 
 pub returns-in_default-clause-own : goal.returns-in_default-clause-own
@@ -49,3 +50,7 @@ returns-in-Ok-begin-clause-sound g c =
 pub returns-in-Ok-begin-clause-stays : goal.returns-in-Ok-begin-clause-stays
 returns-in-Ok-begin-clause-stays g c =
     any-then g.C.Caller c.args.caller.now c.begin.new.caller c.go_on.new.caller c.in-Ok-begin.ensures.exchanged c.go_on.ensures.exchanged
+
+pub returns-in-Ok-begin-clause-told : goal.returns-in-Ok-begin-clause-told
+returns-in-Ok-begin-clause-told g c =
+    ends-since (g.T.Stop.told c.args.stop.now) (g.T.Stop.told c.begin.new.stop) (g.T.Stop.told c.go_on.new.stop) c.go_on.result c.in-Ok-begin.ensures.same c.go_on.ensures.stop

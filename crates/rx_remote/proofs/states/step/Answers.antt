@@ -5,7 +5,7 @@ use Rattle.rx_remote.proofs.states.step.Goals as goal
 
 pub returns-clause-step : goal.returns-clause-step
 returns-clause-step c task history s =
-    leads-step task history c.args.heard c.args.state _ c.in_ok-marks.ask s (rw c.since-marks.ensures at c.in_ok-marks.ensures) refl c.phase_of-phase.ensures
+    leads-step task history c.args.heard c.args.state _ c.in_ok-marks.ask s (rw c.since-marks.ensures at c.in_ok-marks.ensures.leads) refl c.phase_of-phase.ensures
 
 pub returns-clause-right : goal.returns-clause-right
 returns-clause-right c task history s = right-after task history c.args.heard c.in_ok-marks.ask (returns-clause-step c task history s).ask_is

@@ -1,12 +1,17 @@
-use Rattle.std.proofs.Common.{◌≡◌, inl, inr, refl}
+use Rattle.std.proofs.Common.{◌≡◌, ◌≢◌, ◌∙◌, inl, inr, refl, subst, sym}
+use Rattle.rx_remote.specs.declared.asks.Ask.{Ask}
+use Rattle.rx_remote.specs.declared.phases.Phase.TheVariants as phases
 use Rattle.rx_remote.specs.Actions.{stored_of}
+use Rattle.rx_remote.specs.Ends.{stop_heard}
 use Rattle.rx_remote.specs.Grown.{IsPart}
 use Rattle.rx_remote.specs.Fine.{IsEndOf}
+use Rattle.rx_remote.specs.Marks.{phase_of}
 use Rattle.rx_remote.specs.Reading.{HeardGives, IsOwnCause}
 use Rattle.rx_remote.proofs.LoopLemmas.{any-exchanged, sorted-state}
 use Rattle.rx_remote.proofs.ReadLemmas.{own-end, read-are}
 use Rattle.rx_remote.proofs.RunEnds.{under-ends, under-on}
 use Rattle.rx_remote.proofs.RunLemmas.{next-is, not-ended}
+use Rattle.rx_remote.proofs.StopTold.{end-tells, memory-tells, on-tells}
 use Rattle.rx_remote.proofs.turns.turn.Goals as goal
 
 pub listen-heard-requires-clause-on : goal.listen-heard-requires-clause-on
@@ -39,6 +44,19 @@ returns-in-End-clause-reads g c =
     (λ answers given. own-end files answers before now told b.task c.args.going.ask c.in-Ok.now c.listen-heard.result b.under.history c.in-End.end given
     (next-is b.task b.under.history c.args.going.ask c.in-Ok.now c.listen-heard.result c.in-Ok.next b.under.running.going.ask_is s) c.in-End.is)
 
+pub returns-in-End-clause-told : goal.returns-in-End-clause-told
+returns-in-End-clause-told g c =
+    let b = c.requires.begun in
+    let s = c.in-Ok.ensures.step b.task b.under.history b.under.running.going.state_is in
+    end-tells (g.T.Stop.told c.args.stop.now) (g.T.Stop.told c.listen-heard.new.stop) b.task c.args.going.ask c.listen-heard.result b.under.history c.in-End.end
+    c.listen-heard.ensures.told
+    (sym (next-is b.task b.under.history c.args.going.ask c.in-Ok.now c.listen-heard.result c.in-Ok.next b.under.running.going.ask_is s) ∙ c.in-End.is)
+
+pub returns-in_default-clause-told : goal.returns-in_default-clause-told
+returns-in_default-clause-told g c =
+    memory-tells (g.T.Stop.told c.args.stop.now) (g.T.Stop.told c.listen-heard.new.stop) (stop_heard c.listen-heard.result) c.no_memory.result c.no_memory.ensures
+    c.in_default.ensures.stops c.listen-heard.ensures.told
+
 pub returns : goal.returns
 returns g c = record {
   goes_on = λ dialect task old u.
@@ -52,4 +70,13 @@ returns g c = record {
       (λ answers. HeardGives (IsOwnCause c.args.action.now.job.files.now answers (g.S.Sources.faults c.args.sources.now) (g.S.Sources.faults c.listen-heard.new.sources)
       (g.T.Stop.told c.listen-heard.new.stop)) c.listen-heard.result)
       (λ answers. Unit {0}) c.listen-heard.ensures.reads (λ answers given. tt);
+  same =
+      let b = c.requires.begun in
+      let s = c.in-Ok.ensures.step b.task b.under.history b.under.running.going.state_is in
+      on-tells (g.T.Stop.told c.args.stop.now) (g.T.Stop.told c.listen-heard.new.stop) b.task c.args.going.ask c.listen-heard.result b.under.history
+      c.listen-heard.ensures.told
+      (subst (λ (a : Ask). phase_of a ≢ phases.Ended)
+      (next-is b.task b.under.history c.args.going.ask c.in-Ok.now c.listen-heard.result c.in-Ok.next b.under.running.going.ask_is s)
+      (not-ended c.in-Ok.now c.in_default-now.not-End));
+  told = tt;
 }
