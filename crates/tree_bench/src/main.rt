@@ -1,14 +1,17 @@
-//! Builds the tree of a list of files, and tells what that took: `tree_bench FILES ROUNDS`.
+//! Makes the key of a compile step on a tree of files, and tells what that took: `tree_bench FILES ROUNDS`.
 //!
-//! Standard output has what was built, which is the same each time; standard error has a line for each round, the
-//! nanoseconds a file. The list is made once, before the first round.
+//! Standard output has what was made, which is the same each time; standard error has a line for each round: the nanoseconds of the
+//! tree, and those of the whole key. The list and the command are made once, before the first round.
 #![tactic(auto)]
 
+mod commands;
 mod shape;
 
+use crate::commands::compile_step;
 use crate::shape::{Fault, files_of};
+use rx_action::{ActionKey, action_of};
 use rx_tree::{Built, build};
-use rx_world::InputFile;
+use rx_world::{Command, Dialect, InputFile};
 use std::process::ExitCode;
 use std::time::Instant;
 use std::{env, io};
@@ -28,23 +31,35 @@ fn read_words(rt: &HostRuntime) -> io::Result<Option<(u32, u32)>> {
     Ok(rounds.parse().ok().map(|rounds| (files, rounds)))
 }
 
-/// Builds the tree once, and tells the time.
-fn build_timed(rt: &HostRuntime, files: &[InputFile]) -> Result<Built, Fault> {
-    let begin = Instant::now(rt)?;
-    let built = build(rt.alloc(), files, &[])?;
-    let nanos = begin.elapsed(rt)?.as_nanos();
-    let count = (files.len() as u128).max(1);
-    eprintln!(rt; "{}", nanos / count)?;
-    Ok(built)
+/// The tree of the files, and the key of the command on it.
+#[derive(Drop)]
+struct Made {
+    built: Built,
+    key: ActionKey,
 }
 
-/// Builds the tree so many times, and tells once what it is.
+/// Makes the tree and the key once, and tells the times.
+fn make_timed(rt: &HostRuntime, command: &Command, files: &[InputFile]) -> Result<Made, Fault> {
+    let alloc = rt.alloc();
+    let begin = Instant::now(rt)?;
+    let built = build(alloc, files, &[])?;
+    let tree = begin.elapsed(rt)?.as_nanos();
+    let key = action_of(alloc, command, &built.root, Dialect::New)?;
+    let whole = begin.elapsed(rt)?.as_nanos();
+    eprintln!(rt; "{tree} {whole}")?;
+    Ok(Made { built, key })
+}
+
+/// Makes them so many times, and tells once what they are.
 fn measure(rt: &HostRuntime, count: u32, rounds: u32) -> Result<(), Fault> {
     let files = files_of(rt.alloc(), count)?;
+    let command = compile_step(rt.alloc())?;
     for round in 0..rounds {
-        let built = build_timed(rt, &files)?;
+        let made = make_timed(rt, &command, &files)?;
         if round == 0 {
-            println!(rt; "{count} files in {} directories", built.blobs.len())?;
+            let directories = made.built.blobs.len();
+            let size = made.key.command_digest.size;
+            println!(rt; "{count} files in {directories} directories, a Command of {size} bytes")?;
         }
     }
     Ok(())

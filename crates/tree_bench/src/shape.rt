@@ -1,5 +1,6 @@
 //! A list of files as a repository has them: a hundred directories of three to six names, by turns.
 
+use rx_action::ActionFault;
 use rx_base::{PathFault, RelPath, digest_of};
 use rx_tree::TreeFault;
 use rx_world::{InputFile, Stamp};
@@ -13,6 +14,8 @@ pub enum Fault {
     Path,
     #[error("the list is refused")]
     Tree,
+    #[error("the command is refused")]
+    Action,
     #[error("the clock or an output failed")]
     Io,
     #[error("out of memory")]
@@ -28,6 +31,12 @@ impl From<PathFault> for Fault {
 impl From<TreeFault> for Fault {
     fn from(_fault: TreeFault) -> Fault {
         Fault::Tree
+    }
+}
+
+impl From<ActionFault> for Fault {
+    fn from(_fault: ActionFault) -> Fault {
+        Fault::Action
     }
 }
 
