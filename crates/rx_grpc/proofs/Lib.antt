@@ -1,3 +1,13 @@
 pub mod ReadLemmas
 pub mod UseLemmas
 pub mod FramedLemmas
+pub mod HearLemmas
+pub mod WireLemmas
+pub mod MoveLemmas
+pub mod DrainLemmas
+pub mod ShownLemmas
+pub mod ConversationLemmas
+pub mod TurnLemmas
+pub mod TalkLemmas
+pub mod StreamLemmas
+pub mod ChannelLemmas

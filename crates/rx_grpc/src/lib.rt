@@ -1,14 +1,27 @@
-//! gRPC over HTTP/2: what a call hears of its answer. It has no socket and no connection, and takes a stream's events.
+//! gRPC over HTTP/2: calls of one message over links that are kept, and what a call hears of its answer. It has no socket: bytes
+//! go over links of `rx_world`.
 #![tactic(auto)]
 
 mod answer;
 mod answers;
+mod call;
+mod came;
+mod channel;
 mod end;
 mod framing;
 mod head;
+mod headers;
 mod reader;
+mod request;
+mod stream;
 mod texts;
+mod transfer;
+mod transfer_fault;
+mod transport;
+mod turn;
 
 pub use answer::Answer;
 pub use answers::Answers;
+pub use channel::Channel;
 pub use end::End;
+pub use transfer_fault::TransferFault;

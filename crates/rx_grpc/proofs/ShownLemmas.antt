@@ -1,0 +1,93 @@
+-- What a call has heard is what the received bytes show.
+use Rattle.std.proofs.Common.{◌≡◌, ℕ, Bool, true, false, List, [], ◌++◌, append-nil, refl, sym, ap, ◌∙◌, Option, None, Some}
+use Rattle.rx_h2conn.specs.declared.fault.ConnFault.TheVariants.{NoMemory, Protocol}
+use Rattle.rx_h2conn.specs.Session.{Reading, Queued}
+use Rattle.rx_h2conn.specs.Streams.{is_open, stream_at}
+use Rattle.rx_h2conn.specs.Conn.{started}
+use Rattle.rx_h2conn.specs.Part.{Part, blank, part}
+use Rattle.rx_h2conn.specs.History.{run}
+use Rattle.rx_h2conn.specs.Heard.{HearsLawful, all_handed, all_lawful, events_of}
+use Rattle.rx_h2conn.proofs.HeardRunLemmas.{hears}
+use Rattle.rx_world.specs.Links.{Wire}
+use Rattle.rx_grpc.specs.declared.answer.Answer.{Answer}
+use Rattle.rx_grpc.specs.declared.call.Call.{Call}
+use Rattle.rx_grpc.specs.Heard.{Heard, nothing, heard}
+use Rattle.rx_grpc.specs.Answer.{unary}
+use Rattle.rx_grpc.specs.Uses.{events_at}
+use Rattle.rx_grpc.specs.Conversation.{Hears}
+use Rattle.rx_grpc.specs.Shown.{shown, Shows, Breaks}
+use Rattle.rx_grpc.proofs.UseLemmas.{front_shows, unary_ended}
+use Rattle.rx_grpc.proofs.HearLemmas.{reads_from}
+
+-- the connection of a conversation, with the stream that is held
+pub record IsHeardAt (wire : Option Wire) (rule : List ℕ → List ℕ → Type 0) (conn : Reading) (call : Call) : Type 0 where
+  pub hears : Hears wire rule conn call
+  pub opened : is_open conn.state call.id ≡ true
+  pub kept : (stream_at conn.state call.id).client_reset ≡ false
+  pub empty : conn.state.events ≡ []
+  pub memory : conn.state.fault ≡ Some NoMemory → ⊥
+
+pub lawful_at : (wire : Option Wire) (rule : List ℕ → List ℕ → Type 0) (conn : Reading) (call : Call) (h : IsHeardAt wire rule conn call) → HearsLawful started h.hears.talk.moves.calls
+lawful_at wire rule conn call h =
+    hears h.hears.talk.moves.calls (λ bad. h.memory (ap (λ (y : Reading). y.state.fault) (sym h.hears.talk.moves.run_is) ∙ bad))
+
+-- what the reader heard is what the bytes before a broken rule show
+pub heard_lawful : (wire : Option Wire) (rule : List ℕ → List ℕ → Type 0) (conn : Reading) (call : Call) (h : IsHeardAt wire rule conn call) → call.answers ≡ heard nothing (events_at call.id (all_lawful started h.hears.talk.moves.calls))
+heard_lawful wire rule conn call h =
+    let talk = h.hears.talk in
+    let calls = talk.moves.calls in
+    let lawful = lawful_at wire rule conn call h in
+    let state : run started calls ≡ conn = talk.moves.run_is in
+    let all : all_handed started calls ++ events_of (run started calls).state.events ≡ talk.handed =
+    ap (λ (y : Reading). all_handed started calls ++ events_of y.state.events) state
+    ∙ (ap (λ (y : List Queued). all_handed started calls ++ events_of y) h.empty
+    ∙ (append-nil (all_handed started calls) ∙ talk.moves.handed_is)) in
+    let same = lawful.part call.id (ap (λ (y : Reading). is_open y.state call.id) state ∙ h.opened) (ap (λ (y : Reading). (stream_at y.state call.id).client_reset) state ∙ h.kept) in
+    h.hears.heard_is
+    ∙ (reads_from talk.handed nothing blank call.id (λ bad. absurd cc) (λ bad. absurd cc)
+    ∙ ap (λ (y : Part). heard nothing y.events) (ap (part call.id) (sym all) ∙ same))
+
+-- without a broken rule these are all bytes
+pub lawful_all : (wire : Option Wire) (rule : List ℕ → List ℕ → Type 0) (conn : Reading) (call : Call) (h : IsHeardAt wire rule conn call) → conn.state.fault ≡ None → all_lawful started h.hears.talk.moves.calls ≡ h.hears.talk.received
+lawful_all wire rule conn call h none =
+    let moves = h.hears.talk.moves in
+    (lawful_at wire rule conn call h).all (ap (λ (y : Reading). y.state.fault) moves.run_is ∙ none) ∙ moves.fed_is
+
+pub lawful_front : (wire : Option Wire) (rule : List ℕ → List ℕ → Type 0) (conn : Reading) (call : Call) (h : IsHeardAt wire rule conn call) → (more : List ℕ) × (h.hears.talk.received ≡ all_lawful started h.hears.talk.moves.calls ++ more)
+lawful_front wire rule conn call h =
+    let front = (lawful_at wire rule conn call h).front in
+    (front.0, sym h.hears.talk.moves.fed_is ∙ front.1)
+
+-- an answer that is shown without the link's end is shown with it
+pub shown_at : (ended link_ended : Bool) (a : Heard) (x : Answer) → (ended ≡ true → link_ended ≡ true) → unary ended a ≡ Some x → unary link_ended a ≡ Some x
+shown_at true link_ended a x h shows = let is = h refl in rw is shows
+shown_at false link_ended a x h shows = (unary_ended a.end a x link_ended shows).0
+
+pub ended_needed : (ended : Bool) (a : Heard) (x : Answer) → unary ended a ≡ Some x → unary false a ≡ None → ended ≡ true
+ended_needed true a x shows none = refl
+ended_needed false a x shows none = let no : Some x ≡ None = sym shows ∙ none in absurd cc
+
+-- the answer of the bytes before a broken rule is that of all bytes
+pub shown_whole : (ended link_ended : Bool) (id : ℕ) (front more received : List ℕ) (x : Answer) → received ≡ front ++ more → (ended ≡ true → (link_ended ≡ true) × (front ≡ received)) → shown ended id front ≡ Some x → shown link_ended id received ≡ Some x
+shown_whole true link_ended id front more received x cut h shows = let both = h refl in rw (sym both.1, both.0) shows
+shown_whole false link_ended id front more received x cut h shows = rw cut (front_shows nothing id front more link_ended x shows)
+
+unfoldable pub shows_by : (wire : Option Wire) (rule : List ℕ → List ℕ → Type 0) (conn : Reading) (call : Call) (link_ended ended : Bool) (x : Answer) → IsHeardAt wire rule conn call → (ended ≡ true → (link_ended ≡ true) × (conn.state.fault ≡ None)) → unary ended call.answers ≡ Some x → Shows wire rule link_ended conn call.id x
+shows_by wire rule conn call link_ended ended x h by_end shows =
+    let same = heard_lawful wire rule conn call h in
+    let front = lawful_front wire rule conn call h in
+    let lawful = all_lawful started h.hears.talk.moves.calls in
+    let first : shown ended call.id lawful ≡ Some x = ap (unary ended) (sym same) ∙ shows in
+    record {
+      talk = h.hears.talk;
+      whole = shown_whole ended link_ended call.id lawful front.0 h.hears.talk.received x front.1 (λ e. let both = by_end e in (both.0, lawful_all wire rule conn call h both.1)) first;
+      lawful = shown_at ended link_ended _ x (λ e. (by_end e).0) first;
+      by_end = λ none. (by_end (ended_needed ended _ x first none)).1;
+    }
+
+pub breaks_by : (wire : Option Wire) (rule : List ℕ → List ℕ → Type 0) (conn : Reading) (call : Call) (code : ℕ) → IsHeardAt wire rule conn call → conn.state.fault ≡ Some (Protocol code) → unary false call.answers ≡ None → Breaks wire rule conn call.id code
+breaks_by wire rule conn call code h fault none = record {
+  talk = h.hears.talk;
+  fault = fault;
+  none = ap (unary false) (sym (heard_lawful wire rule conn call h)) ∙ none;
+}

@@ -1,0 +1,210 @@
+-- Streams that are opened for calls, and those that are given up.
+use Rattle.std.proofs.Common.{◌≡◌, ◌≢◌, ℕ, ◌+◌, ◌*◌, ◌/◌, Bool, true, false, ◌&&◌, cond, List, [], ◌∷◌, ◌++◌, length, filter, append-nil, nat_lt, refl, sym, ap, subst, ◌∙◌, arith, Option, None, Some, Result, Ok, Err, IfOk, IfSome, MatchOption}
+use Rattle.std.proofs.lemmas.Bool.{le-ltb}
+use Rattle.std.specs.List.{list_any}
+use Rattle.rx_hpack.specs.Header.{Field}
+use Rattle.rx_h2conn.specs.declared.fault.ConnFault.{ConnFault}
+use Rattle.rx_h2conn.specs.declared.fault.ConnFault.TheVariants.{NoMemory}
+use Rattle.rx_h2conn.specs.Session.{Session, Reading, Event, Headers, Bytes, Reset, Gone, Queued}
+use Rattle.rx_h2conn.specs.Streams.{IsHeld, is_open}
+use Rattle.rx_h2conn.specs.Output.{AnswersAt, reset}
+use Rattle.rx_h2conn.specs.Open.{refusal, next_id, opened}
+use Rattle.rx_h2conn.specs.Conn.{started}
+use Rattle.rx_h2conn.specs.Part.{is_on, leaves_out}
+use Rattle.rx_h2conn.specs.History.{Opens as OpensCall, Resets, unless, run}
+use Rattle.rx_h2conn.specs.Heard.{all_handed, events_of}
+use Rattle.rx_h2conn.proofs.BlockLemmas.{count_given_up}
+use Rattle.rx_h2conn.proofs.ConnLemmas.{opened-fault, reset-fault}
+use Rattle.rx_h2conn.proofs.HeardRunLemmas.{hears}
+use Rattle.rx_h2conn.proofs.ListLemmas.{or_false}
+use Rattle.rx_world.specs.Links.{Wire, IsNew, Meets}
+use Rattle.rx_grpc.specs.declared.call.Call.{Call}
+use Rattle.rx_grpc.specs.declared.transfer_fault.TransferFault.{TransferFault}
+use Rattle.rx_grpc.specs.Answer.{unary}
+use Rattle.rx_grpc.specs.Heard.{nothing, heard}
+use Rattle.rx_grpc.specs.Moves.{Moves, is_away, is_for}
+use Rattle.rx_grpc.specs.Conversation.{IsWaiting, Tells}
+use Rattle.rx_grpc.specs.Shown.{IsKept, IsOpenAt}
+use Rattle.rx_grpc.specs.Transport.{TransportOf, IsStarted, IsReady, GivesUp, Opens}
+use Rattle.rx_grpc.proofs.MoveLemmas.{moves_none, moves_trans}
+use Rattle.rx_grpc.proofs.ConversationLemmas.{talk_moved, meets_rule}
+use Rattle.rx_grpc.proofs.TurnLemmas.{unless_none}
+
+pub gives_none : (old : Reading) → old.state.fault ≡ None → GivesUp old old
+gives_none old none = record { moves = moves_none old; fault = none; events = refl; refusal = refl; next = refl }
+
+pub reset-events : (s : Session) (id code : ℕ) → (reset s id code).events ≡ s.events
+unfolding reset
+reset-events s id code = refl
+
+pub reset-gone : (s : Session) (id code : ℕ) → (reset s id code).gone ≡ s.gone
+unfolding reset
+reset-gone s id code = refl
+
+pub reset-refusal : (s : Session) (id code : ℕ) → refusal (reset s id code) ≡ refusal s
+reset-refusal s id code = rw (reset-fault s id code, reset-gone s id code, count_given_up s id code) refl
+
+pub gives_up : (o : Option ConnFault) (old new : Reading) (id code : ℕ) (u v : Unit {0}) → old.state.fault ≡ o → o ≡ None → AnswersAt o old.state (reset old.state id code) u new.state (Ok v) → new.rest ≡ old.rest → GivesUp old new
+gives_up (Some e) old new id code u v is none d rest = absurd cc
+gives_up None old new id code u v is none d rest =
+    let s = old.state in
+    let state : unless s.fault s (reset s id code) ≡ new.state = unless_none s.fault s _ is ∙ sym d.0 in
+    record {
+      moves = record {
+        calls = Resets id code ∷ [];
+        run_is = ap (λ (x : Session). record { state = x; rest = old.rest }) state ∙ ap (λ (x : List ℕ). record { state = new.state; rest = x }) (sym rest);
+        given_is = refl;
+        fed_is = refl;
+        handed_is = refl;
+        paced = (tt, tt);
+      };
+      fault = ap (λ (x : Session). x.fault) d.0 ∙ (reset-fault s id code ∙ is);
+      events = ap (λ (x : Session). x.events) d.0 ∙ reset-events s id code;
+      refusal = ap refusal d.0 ∙ reset-refusal s id code;
+      next = ap next_id d.0 ∙ ap (λ (n : ℕ). n * 2 + 1) (count_given_up s id code);
+    }
+
+pub opened-events : (s : Session) (fields : List Field) (last : Bool) → (opened s fields last).events ≡ s.events
+unfolding opened
+opened-events s fields last = refl
+
+-- a stream that is opened after another was given up
+pub opens_next : (o : Option ConnFault) (old mid new : Reading) (fields : List Field) (last : Bool) (n : ℕ) → refusal mid.state ≡ o → GivesUp old mid → AnswersAt o mid.state (opened mid.state fields last) (next_id mid.state) new.state (Ok n) → new.rest ≡ mid.rest → IsHeld new.state n false → Opens old new n × (refusal old.state ≡ None)
+opens_next (Some e) old mid new fields last n is g d rest held = let no = d.1 in absurd cc
+opens_next None old mid new fields last n is g d rest held =
+    let s = mid.state in
+    let state : unless (refusal s) s (opened s fields last) ≡ new.state = rw is (sym d.0) in
+    let step : Moves mid new [] [] [] = record {
+      calls = OpensCall fields last ∷ [];
+      run_is = ap (λ (x : Session). record { state = x; rest = mid.rest }) state ∙ ap (λ (x : List ℕ). record { state = new.state; rest = x }) (sym rest);
+      given_is = refl;
+      fed_is = refl;
+      handed_is = refl;
+      paced = (tt, tt);
+    } in (
+      record {
+        moves = moves_trans old mid new [] [] [] [] [] [] g.moves step;
+        fault = ap (λ (x : Session). x.fault) d.0 ∙ (opened-fault s fields last ∙ g.fault);
+        events = ap (λ (x : Session). x.events) d.0 ∙ (opened-events s fields last ∙ g.events);
+        held = held;
+        next = d.1 ∙ g.next;
+      },
+      sym g.refusal ∙ is,
+    )
+
+-- the connection takes no stream
+pub refuses : (o : Option ConnFault) (old mid new : Reading) (fields : List Field) (last : Bool) (e : ConnFault) → refusal mid.state ≡ o → GivesUp old mid → AnswersAt o mid.state (opened mid.state fields last) (next_id mid.state) new.state (Err e) → (e ≡ NoMemory → ⊥) → refusal old.state ≢ None
+refuses (Some x) old mid new fields last e is g d not = λ bad. let no : Some x ≡ None = sym is ∙ (g.refusal ∙ bad) in cc
+refuses None old mid new fields last e is g d not = absurd (not d.1)
+
+-- nothing was told of the next stream
+pub and_nothing : (b : Bool) → (b && false) ≡ false
+and_nothing true = refl
+and_nothing false = refl
+
+pub not_out : (id : ℕ) (e : Event) → is_away e ≡ false → leaves_out id e ≡ false
+not_out id (Gone last) is = absurd cc
+not_out id (Headers stream list last) is = refl
+not_out id (Bytes stream bytes last) is = refl
+not_out id (Reset stream code) is = refl
+
+pub next_unopened : (s : Session) → is_open s (next_id s) ≡ false
+next_unopened s =
+    let n = length s.streams in
+    let place : (n * 2 + 1) / 2 ≡ n = omega arith in
+    let past : nat_lt ((n * 2 + 1) / 2) n ≡ false = rw place (le-ltb n n (omega arith)) in
+    rw past (and_nothing _)
+
+pub none_for : (id : ℕ) (events : List Event) → filter (is_on id) events ≡ [] → list_any is_away events ≡ false → filter (is_for id) events ≡ []
+none_for id [] a b = refl
+none_for id (e ∷ events) a b =
+    elim (is_on id e) as (λ x. is_on id e ≡ x → filter (is_for id) (e ∷ events) ≡ []) [
+      | true ↦ λ is. let bad : e ∷ filter (is_on id) events ≡ [] = subst (λ (x : Bool). cond x (e ∷ filter (is_on id) events) (filter (is_on id) events) ≡ []) is a in absurd cc
+      | false ↦ λ is.
+          let rest : filter (is_on id) events ≡ [] = subst (λ (x : Bool). cond x (e ∷ filter (is_on id) events) (filter (is_on id) events) ≡ []) is a in
+          let two = or_false (is_away e) (list_any is_away events) b in
+          let out = not_out id e two.0 in
+          rw (is, out) (none_for id events rest two.1)
+    ] refl
+
+pub kept_silent : (wire : Option Wire) (rule : List ℕ → List ℕ → Type 0) (ended : Bool) (conn : Reading) (k : IsKept wire rule ended conn) → filter (is_for (next_id conn.state)) k.talk.handed ≡ []
+kept_silent wire rule ended conn k =
+    let moves = k.talk.moves in
+    let calls = moves.calls in
+    let state : run started calls ≡ conn = moves.run_is in
+    let none : (run started calls).state.fault ≡ None = ap (λ (y : Reading). y.state.fault) state ∙ k.fault in
+    let lawful = hears calls (λ bad. let no : None ≡ Some NoMemory = sym none ∙ bad in cc) in
+    let all : all_handed started calls ++ events_of (run started calls).state.events ≡ k.talk.handed =
+    ap (λ (y : Reading). all_handed started calls ++ events_of y.state.events) state
+    ∙ (ap (λ (y : List Queued). all_handed started calls ++ events_of y) k.empty
+    ∙ (append-nil (all_handed started calls) ∙ moves.handed_is)) in
+    let silent = lawful.silent (next_id conn.state) (ap (λ (y : Reading). is_open y.state (next_id conn.state)) state ∙ next_unopened conn.state) in
+    none_for (next_id conn.state) k.talk.handed (ap (filter (is_on (next_id conn.state))) (sym all) ∙ silent) k.stays
+
+-- a stream was opened for the next call
+pub starts : (wire : Option Wire) (rule : List ℕ → List ℕ → Type 0) (ended : Bool) (old new : Reading) (n : ℕ) → IsKept wire rule ended old → Opens old new n → IsStarted wire rule ended new n
+unfolding talk_moved
+starts wire rule ended old new n k o = record {
+  fault = o.fault;
+  empty = o.events ∙ k.empty;
+  going = k.going;
+  held = o.held;
+  met = k.met;
+  talk = talk_moved wire rule old new [] k.talk o.moves;
+  silent = ap (filter (is_for n)) (append-nil k.talk.handed) ∙ (ap (λ (i : ℕ). filter (is_for i) k.talk.handed) o.next ∙ kept_silent wire rule ended old k);
+  stays = ap (list_any is_away) (append-nil k.talk.handed) ∙ k.stays;
+}
+
+-- and its call waits
+pub waits : (wire : Option Wire) (rule : List ℕ → List ℕ → Type 0) (ended : Bool) (conn : Reading) (call : Call) (id : ℕ) → IsStarted wire rule ended conn id → call.id ≡ id → call.answers ≡ nothing → call.away ≡ false → IsWaiting wire rule ended conn call false
+waits wire rule ended conn call id s same new going = record {
+  fault = s.fault;
+  empty = s.empty;
+  going = s.going;
+  held = subst (λ (i : ℕ). IsHeld conn.state i false) (sym same) s.held;
+  met = s.met;
+  none = ap (unary false) new;
+  hears = record {
+    talk = s.talk;
+    heard_is = new ∙ ap (heard nothing) (sym (ap (λ (i : ℕ). filter (is_for i) s.talk.handed) same ∙ s.silent));
+    away_is = going ∙ sym s.stays;
+  };
+}
+
+-- a new link
+pub tells_new : (wire : Option Wire) (ended : Bool) (faults : ℕ) → IsNew wire ended faults → Tells wire [] []
+tells_new None ended faults is = tt
+tells_new (Some x) ended faults is = is.blank
+
+pub ready_new : (wire : Option Wire) (rule : List ℕ → List ℕ → Type 0) (ended : Bool) (faults : ℕ) (conn : Reading) → IsNew wire ended faults → Meets wire rule → conn ≡ started → IsReady wire rule ended conn None
+ready_new wire rule ended faults conn new meets is = rw is (record {
+  kept = record {
+    fault = refl;
+    empty = refl;
+    going = new.open_still;
+    met = meets;
+    talk = record {
+      sent = [];
+      received = [];
+      handed = [];
+      moves = moves_none started;
+      tells = tells_new wire ended faults new;
+      meets = meets_rule wire rule [] [] meets (tells_new wire ended faults new);
+    };
+    stays = refl;
+  };
+  left = tt;
+})
+
+pub started_by : (wire : Option Wire) (rule : List ℕ → List ℕ → Type 0) (ended : Bool) (old new : Reading) (result : Result (Option ℕ) TransferFault) → IsKept wire rule ended old → IfOk result (λ id. MatchOption id (Unit {0}) (Opens old new)) → IfOk result (λ id. MatchOption id (Unit {0}) (IsStarted wire rule ended new))
+started_by wire rule ended old new (Ok (Some id)) k o = starts wire rule ended old new id k o
+started_by wire rule ended old new (Ok None) k o = tt
+started_by wire rule ended old new (Err e) k o = tt
+
+pub started_in : {L : Type 0} (wire : L → Option Wire) (rule : L → List ℕ → List ℕ → Type 0) (ended : L → Bool) (t u : TransportOf L) (id : ℕ) → t ≡ u → IsStarted (wire u.link) (rule u.link) (ended u.link) u.conn id → IsStarted (wire t.link) (rule t.link) (ended t.link) t.conn id
+started_in wire rule ended t u id is s = subst (λ x. IsStarted (wire x.link) (rule x.link) (ended x.link) x.conn id) (sym is) s
+
+-- a call is over, and its stream can be given up
+pub open_left : (o : Option ℕ) (id : ℕ) (s : Session) → IfSome o (λ i. i ≡ id) → IsOpenAt (Some id) s → IsOpenAt o s
+open_left None id s is h = tt
+open_left (Some i) id s is h = subst (λ (x : ℕ). IsOpenAt (Some x) s) (sym is) h

@@ -1,0 +1,22 @@
+-- A request of one message (PROTOCOL-HTTP2.md of gRPC, "Requests").
+use Rattle.std.specs.Prelude.{ℕ, List, [], ◌∷◌, codes}
+use Rattle.rx_hpack.specs.Header.{Field}
+
+abbrev pub field : List ℕ → List ℕ → Field
+field name value = record { name = name; value = value }
+
+-- RequestMetadata with the tool's name `reproxy` and version `0.1` (remote_execution.proto, "RequestMetadata"), in base64
+-- without padding
+abbrev pub tool_details : List ℕ
+tool_details = codes "Cg4KB3JlcHJveHkSAzAuMQ"
+
+abbrev pub request_fields : List ℕ → List ℕ → List Field
+request_fields path authority =
+    field (codes ":method") (codes "POST")
+    ∷ field (codes ":scheme") (codes "http")
+    ∷ field (codes ":path") path
+    ∷ field (codes ":authority") authority
+    ∷ field (codes "te") (codes "trailers")
+    ∷ field (codes "content-type") (codes "application/grpc")
+    ∷ field (codes "build.bazel.remote.execution.v2.requestmetadata-bin") tool_details
+    ∷ []

@@ -1,0 +1,147 @@
+//! A channel to one server: its calls share a link while that serves, and a new one is made where it doesn't.
+
+ghost use Rattle.std.specs.Prelude.{◌≡◌, ◌<◌, ◌^◌, false, length, None, IfErr, IfOk, MatchOption};
+ghost use Rattle.std.specs.List.{All};
+ghost use Rattle.rx_hpack.specs.Encoder.{IsWritable};
+ghost use Rattle.rx_grpc.specs.Channel.{Answers, Fails, HasCauseOn, IsLinkOf, IsRuled, Stops, is_kept};
+
+use crate::answer::Answer;
+use crate::headers::{framed_message, request_headers};
+use crate::transfer_fault::TransferFault;
+use crate::transport::Transport;
+use rx_hpack::Header;
+use rx_world::Dial;
+use std::alloc::Global;
+use std::marker::Model;
+
+/// A channel to one server.
+///
+/// The first call makes a link. It is kept from call to call, until a call on it fails, the server breaks a rule or takes no more
+/// streams, the link ends or no stream number is left; then the next call makes another one.
+#[derive(Drop)]
+pub struct Channel<D: Dial + Drop> {
+    alloc: Global,
+    dial: D,
+    /// `:authority` of all calls.
+    authority: Vec<u8>,
+    transport: Option<Transport<D::L>>,
+}
+
+impl<D: Dial + Drop> Model for Channel<D> {
+    ghost use Rattle.rx_grpc.specs.Channel.{ChannelOf, IsRuled};
+
+    ghost Value = { ChannelOf D D.L };
+
+    ghost use Rattle.std.specs.Prelude.{◌<◌, ◌^◌, length};
+
+    ghost view = { λ c. record { dial = c.dial; transport = c.transport } };
+
+    ghost invariant = { λ c. (length c.authority.items < 2 ^ 32)
+        × IsRuled (D.rule c.dial) D.L.rule c.transport };
+}
+
+impl<D: Dial + Drop> Channel<D> {
+    /// A channel without a link.
+    pub fn new(alloc: Global, dial: D, authority: Vec<u8>) -> Channel<D>
+        requires { length authority.items < 2 ^ 32 }
+        ensures dial { result.dial ≡ dial }
+        ensures transport { result.transport ≡ None }
+    {
+        Channel {
+            alloc,
+            dial,
+            authority,
+            transport: None,
+        }
+    }
+
+    /// What makes the links.
+    pub fn dial(&self) -> &D
+        ensures { result.now ≡ self.now.dial }
+    {
+        &self.dial
+    }
+
+    /// The link of the last call, also where that failed.
+    pub fn link(&self) -> Option<&D::L>
+        ensures { IsLinkOf self.now.transport result }
+    {
+        match &self.transport {
+            Some(transport) => Some(transport.link()),
+            None => None,
+        }
+    }
+
+    /// A call of one message that is answered by one: the message is sent to the method that the path names, as `/SERVICE/METHOD`.
+    ///
+    /// Errors: `Link` where the dial or the link failed; `Protocol` where the server broke a rule before an answer was shown, or
+    /// where 268,435,456 bytes showed none; `NoMemory`.
+    pub fn unary(&mut self, path: &[u8], message: &[u8]) -> Result<Answer, TransferFault>
+        requires path { length path.now < 2 ^ 32 }
+        requires message { length message.now < 2 ^ 32 }
+        ensures answers { IfOk result (Answers D.L.wire D.L.rule D.L.ended self.old.transport
+            self.new.transport) }
+        ensures fails { IfErr result (Fails D.L.wire D.L.rule self.old.transport
+            self.new.transport) }
+        ensures stops { IfErr result (Stops self.new.transport) }
+        ensures ruled { IsRuled (D.rule self.new.dial) D.L.rule self.new.transport }
+        ensures cause { HasCauseOn (D.faults self.old.dial) (D.faults self.new.dial) D.L.faults
+            self.old.transport self.new.transport result }
+    {
+        let headers = request_headers(self.alloc, path, &self.authority)?;
+        let body = framed_message(self.alloc, message)?;
+        if let Some(answer) = self.call_kept(&headers, &body)? {
+            return Ok(answer);
+        }
+        self.call_anew(&headers, &body)
+    }
+
+    /// Makes a call on the link that is kept. `None` where none is, or where it takes no call.
+    fn call_kept(
+        &mut self,
+        headers: &[Header],
+        body: &[u8],
+    ) -> Result<Option<Answer>, TransferFault>
+        requires { All IsWritable headers.now }
+        ensures answers { IfOk result (λ answer. MatchOption answer
+            ((is_kept self.old.transport ≡ false) × (is_kept self.new.transport ≡ false))
+            (Answers D.L.wire D.L.rule D.L.ended self.old.transport self.new.transport)) }
+        ensures fails { IfErr result (Fails D.L.wire D.L.rule self.old.transport
+            self.new.transport) }
+        ensures stops { IfErr result (Stops self.new.transport) }
+        ensures dial { self.new.dial ≡ self.old.dial }
+        ensures ruled { IsRuled (D.rule self.new.dial) D.L.rule self.new.transport }
+        ensures cause { HasCauseOn (D.faults self.old.dial) (D.faults self.new.dial) D.L.faults
+            self.old.transport self.new.transport result }
+    {
+        match &mut self.transport {
+            None => Ok(None),
+            Some(transport) => match transport.open_stream(headers)? {
+                None => Ok(None),
+                Some(id) => Ok(Some(transport.talk(self.alloc, id, body)?)),
+            },
+        }
+    }
+
+    /// Makes a link, and a call on it.
+    fn call_anew(&mut self, headers: &[Header], body: &[u8]) -> Result<Answer, TransferFault>
+        requires writable { All IsWritable headers.now }
+        requires unkept { is_kept self.old.transport ≡ false }
+        ensures answers { IfOk result (Answers D.L.wire D.L.rule D.L.ended None
+            self.new.transport) }
+        ensures fails { IfErr result (Fails D.L.wire D.L.rule None self.new.transport) }
+        ensures stops { IfErr result (Stops self.new.transport) }
+        ensures ruled { IsRuled (D.rule self.new.dial) D.L.rule self.new.transport }
+        ensures cause { HasCauseOn (D.faults self.old.dial) (D.faults self.new.dial) D.L.faults
+            None self.new.transport result }
+    {
+        let link = self.dial.dial()?;
+        let mut transport = Transport::new(self.alloc, link)?;
+        let Some(id) = transport.open_stream(headers)? else {
+            return Err(TransferFault::NoMemory);
+        };
+        let done = transport.talk(self.alloc, id, body);
+        self.transport = Some(transport);
+        done
+    }
+}

@@ -1,0 +1,120 @@
+//! A link with its connection, for one call after the other.
+
+ghost use Rattle.std.specs.Prelude.{◌≡◌, true, false, MatchOption, IfErr, IfOk, OnErr};
+ghost use Rattle.std.specs.List.{All};
+ghost use Rattle.rx_h2conn.specs.Conn.{started};
+ghost use Rattle.rx_h2conn.specs.Open.{next_id};
+ghost use Rattle.rx_hpack.specs.Encoder.{IsWritable};
+ghost use Rattle.rx_world.specs.Causes.{HasCauseOf};
+ghost use Rattle.rx_world.specs.Links.{IsNew, Meets, SameRule};
+ghost use Rattle.rx_grpc.specs.Faults.{FaultIs};
+ghost use Rattle.rx_grpc.specs.Shown.{IsOver};
+ghost use Rattle.rx_grpc.specs.Transport.{IsStarted, takes};
+ghost use Rattle.rx_grpc.specs.declared.transfer_fault.TransferFault.TheVariants.{Link as lost, NoMemory as starved};
+
+use crate::answer::Answer;
+use crate::call::Call;
+use crate::request::Request;
+use crate::stream::next_stream;
+use crate::transfer_fault::TransferFault;
+use crate::turn::talk;
+use rx_base::NoMemory;
+use rx_h2conn::Conn;
+use rx_hpack::Header;
+use rx_world::Link;
+use std::alloc::Global;
+use std::marker::Model;
+
+/// A link with its connection. No call is made on it any more after one that failed, a broken rule, a GOAWAY or the link's end.
+#[derive(Drop)]
+pub struct Transport<L: Link + Drop> {
+    link: L,
+    conn: Conn,
+    alive: bool,
+    /// The stream of the last call, where one side of it is open.
+    unfinished: Option<u32>,
+}
+
+impl<L: Link + Drop> Model for Transport<L> {
+    ghost use Rattle.rx_grpc.specs.Transport.{IsReady, TransportOf};
+
+    ghost Value = { TransportOf L };
+
+    ghost use Rattle.std.specs.Prelude.{◌≡◌, true};
+
+    ghost view = { λ t. record { link = t.link; conn = t.conn; alive = t.alive } };
+
+    ghost invariant = { λ t. t.alive ≡ true
+        → IsReady (L.wire t.link) (L.rule t.link) (L.ended t.link) t.conn t.unfinished };
+}
+
+impl<L: Link + Drop> Transport<L> {
+    /// A new connection over a new link.
+    pub fn new(alloc: Global, link: L) -> Result<Transport<L>, NoMemory>
+        requires fresh { IsNew (L.wire link) (L.ended link) (L.faults link) }
+        requires meets { Meets (L.wire link) (L.rule link) }
+        ensures link { IfOk result (λ transport. transport.link ≡ link) }
+        ensures conn { IfOk result (λ transport. transport.conn ≡ started) }
+        ensures alive { IfOk result (λ transport. transport.alive ≡ true) }
+    {
+        Ok(Transport {
+            link,
+            conn: Conn::new(alloc)?,
+            alive: true,
+            unfinished: None,
+        })
+    }
+
+    /// The link.
+    pub fn link(&self) -> &L
+        ensures { result.now ≡ self.now.link }
+    {
+        &self.link
+    }
+
+    /// Opens the stream of the next call. `None` where no call can be made any more.
+    pub fn open_stream(&mut self, headers: &[Header]) -> Result<Option<u32>, TransferFault>
+        requires { All IsWritable headers.now }
+        ensures memory { IfErr result (λ fault. fault ≡ starved) }
+        ensures link { self.new.link ≡ self.old.link }
+        ensures alive { self.new.alive ≡ false }
+        ensures taken { IfOk result (λ id. MatchOption id (takes self.old ≡ false)
+            (λ id. takes self.old ≡ true)) }
+        ensures next { IfOk result (λ id. MatchOption id (Unit {0})
+            (λ id. id ≡ next_id self.old.conn.state)) }
+        ensures started { IfOk result (λ id. MatchOption id (Unit {0})
+            (IsStarted (L.wire self.new.link) (L.rule self.new.link) (L.ended self.new.link)
+            self.new.conn)) }
+    {
+        if !self.alive {
+            return Ok(None);
+        }
+        self.alive = false;
+        next_stream(&mut self.conn, self.unfinished, headers)
+    }
+
+    /// Sends the body of a request on its stream, and waits for the answer.
+    pub fn talk(&mut self, alloc: Global, id: u32, body: &[u8]) -> Result<Answer, TransferFault>
+        requires alive { self.old.alive ≡ false }
+        requires started { IsStarted (L.wire self.old.link) (L.rule self.old.link)
+            (L.ended self.old.link) self.old.conn id }
+        ensures over { IfOk result (λ answer. IsOver (L.wire self.new.link) (L.rule self.new.link)
+            (L.ended self.new.link) self.new.conn id
+            (record { answer = answer; alive = self.new.alive })) }
+        ensures fault { IfErr result (λ fault. FaultIs fault (L.wire self.old.link)
+            (L.wire self.new.link) (L.rule self.new.link) self.new.conn id) }
+        ensures failed { OnErr result (self.new.alive ≡ false) }
+        ensures rule { SameRule (L.rule self.old.link) (L.rule self.new.link) }
+        ensures cause { HasCauseOf lost (L.faults self.old.link) (L.faults self.new.link) result }
+    {
+        let mut call = Call::new(alloc, id);
+        let mut request = Request {
+            left: body,
+            done: false,
+        };
+        let over = talk(&mut self.link, &mut self.conn, &mut call, &mut request)?;
+        self.alive = over.alive;
+        self.unfinished = call.stream_left(request.done);
+        Ok(over.answer)
+    }
+}
