@@ -76,11 +76,12 @@ impl Source for QuietSource {
 }
 
 /// Reads bytes from an offset on: as many as are left, as there is room for and as may come at most.
-fn read_from(bytes: &[u8], at: usize, most: usize, into: &mut [u8]) -> usize
+pub fn read_from(bytes: &[u8], at: usize, most: usize, into: &mut [u8]) -> usize
     requires { at ≤ length bytes.now }
     ensures within { at + result ≤ length bytes.now }
     ensures len { length into.new ≡ length into.old }
     ensures bound { result ≤ length into.old }
+    ensures copied { take result into.new ≡ take result (drop at bytes.now) }
     ensures left { drop at bytes.now ≡ take result into.new ++ drop (at + result) bytes.now }
     ensures end { result ≡ 0 → 0 < length into.old → drop (at + result) bytes.now ≡ [] }
 {

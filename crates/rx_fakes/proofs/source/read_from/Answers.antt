@@ -1,4 +1,3 @@
-use Rattle.std.proofs.Common.{rules}
 use Rattle.rx_fakes.proofs.Reading.{left_after, left_ends}
 use Rattle.rx_fakes.proofs.source.read_from.Goals as goal
 
