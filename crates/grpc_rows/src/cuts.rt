@@ -7,12 +7,8 @@ use rx_rows::{Answer, Row, RowFault};
 use std::alloc::{AllocError, Global};
 
 /// Writes the answer of a call that expects one message, or `none`.
-pub(crate) fn write_unary(
-    answers: &mut Answers,
-    ended: bool,
-    answer: &mut Answer,
-) -> Result<(), AllocError> {
-    match answers.unary(ended) {
+pub(crate) fn write_answer(heard: Option<Unary>, answer: &mut Answer) -> Result<(), AllocError> {
+    match heard {
         Some(Unary::Message(message)) => {
             answer.word("Message")?;
             answer.bytes(message.as_slice())
@@ -46,7 +42,7 @@ pub(crate) fn call(alloc: Global, row: &mut Row<'_>, answer: &mut Answer) -> Res
     for at in 0..bytes.len() + 1 {
         let (front, back) = bytes.split_at(at);
         let mut answers = heard(alloc, front, back, &status)?;
-        write_unary(&mut answers, false, answer)?;
+        write_answer(answers.unary(false), answer)?;
     }
     Ok(())
 }

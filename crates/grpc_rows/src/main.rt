@@ -1,12 +1,14 @@
-//! What a call hears of its answer over gRPC, as rows: see the headings of `stdin`.
+//! What a call hears of its answer over gRPC, and calls over links in memory, as rows: see the headings of `stdin`.
 #![tactic(auto)]
 
 mod cuts;
 mod events;
 mod headers;
+mod links;
 
 use crate::events::{bytes_event, list_event, number_32, read_last};
 use crate::headers::read_headers;
+use crate::links::Links;
 use rx_grpc::Answers;
 use rx_h2conn::ConnEvent;
 use rx_rows::{Answer, Calls, Row, RowFault, TableFault, answer_rows};
@@ -14,11 +16,12 @@ use std::alloc::Global;
 use std::io;
 use std::io::BufReader;
 
-/// The reader that the rows work on, which `answer new` makes anew.
+/// The reader that the rows work on, which `new` makes anew, and the channel.
 #[derive(Drop)]
 struct Grpc {
     alloc: Global,
     answers: Answers,
+    links: Links,
 }
 
 impl Grpc {
@@ -75,7 +78,7 @@ impl Grpc {
             b"open" => false,
             _ => return Err(RowFault::BadCall),
         };
-        Ok(cuts::write_unary(&mut self.answers, ended, answer)?)
+        Ok(cuts::write_answer(self.answers.unary(ended), answer)?)
     }
 }
 
@@ -100,6 +103,12 @@ impl Calls for Grpc {
             b"text" => Ok(answer.text(&self.answers.status_text(self.alloc)?)?),
             b"unary" => self.unary(row, answer),
             b"cuts" => cuts::call(self.alloc, row, answer),
+            b"link" => self.links.link(row, answer),
+            b"channel" => self.links.channel(row, answer),
+            b"call" => self.links.call(row, answer),
+            b"sent" => self.links.sent(true, answer),
+            b"frames" => self.links.sent(false, answer),
+            b"dials" => self.links.dials(answer),
             _ => Err(RowFault::NoCall),
         }
     }
@@ -109,6 +118,7 @@ fn main(rt: HostRuntime) -> Result<(), TableFault> {
     let mut calls = Grpc {
         alloc: rt.alloc(),
         answers: Answers::new(rt.alloc()),
+        links: Links::new(rt.alloc()),
     };
     let input = BufReader::new(rt.alloc(), rt.reader())?;
     answer_rows(rt.alloc(), input, &mut io::writer(&rt), &mut calls)
