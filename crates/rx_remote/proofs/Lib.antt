@@ -1,3 +1,4 @@
+pub mod CallEnds
 mod CallTurns
 pub mod CleanEnds
 mod CountLemmas

@@ -30,7 +30,7 @@ pub either-ends : (P : RemoteCause → Type 0) (b : Bool) (x y : Ask) → IfEnde
 either-ends P true x y f g = f
 either-ends P false x y f g = g
 
-first-ends : (P : RemoteCause → Type 0) (accepts : Bool) → IfEnded P (first_ask accepts)
+pub first-ends : (P : RemoteCause → Type 0) (accepts : Bool) → IfEnded P (first_ask accepts)
 first-ends P true = tt
 first-ends P false = tt
 
@@ -78,7 +78,7 @@ fault-ends P plain task marks phase fault =
     either-ends P (is_no_memory fault) (failed causes.NoMemory) (unless_asked_again task marks phase fault (asks_again marks phase fault)) plain.memory
     (unless-ends P plain task marks phase fault (asks_again marks phase fault))
 
-missing-ends : (P : RemoteCause → Type 0) → IsPlain P → (marks : Marks) (phase : Phase) → IfEnded P (after_missing marks phase)
+pub missing-ends : (P : RemoteCause → Type 0) → IsPlain P → (marks : Marks) (phase : Phase) → IfEnded P (after_missing marks phase)
 unfolding after_missing
 missing-ends P plain marks phase = either-ends P (counts_as_miss marks phase) (Upload false) (failed (causes.CallFailed marks.faults)) tt (plain.calls marks.faults)
 
