@@ -1,7 +1,17 @@
 pub mod DistinctLemmas
+pub mod EndLemmas
+pub mod FaultLemmas
+pub mod FaultReading
 pub mod FrameLemmas
 pub mod MessageLemmas
 pub mod NameLemmas
+pub mod NumberReading
 pub mod OutputLemmas
+pub mod PathTextLemmas
+pub mod PlaceFaultBytes
+pub mod ReadableLemmas
+pub mod ReplyLemmas
 pub mod RuleLemmas
+pub mod SeenLemmas
 pub mod TextLemmas
+pub mod VersionLemmas

@@ -5,7 +5,14 @@ pub mod Frames
 pub mod Jobs
 pub mod Messages
 pub mod Parts
+pub mod PathTexts
 pub mod Replies
+pub mod ReplyFaults
+pub mod ReplyMessages
+pub mod ReplyReading
 pub mod Rules
-pub mod SeenMessage
+pub mod Seen
 pub mod Streams
+pub mod Told
+pub mod Typed
+pub mod Versions

@@ -1,32 +1,40 @@
--- The bytes of a reply: the fields of its message in the order of their numbers, defaults left out.
-use Rattle.std.specs.Prelude.{ℕ, ℤ, List, [], ◌++◌, Option, None, Some}
-use Rattle.std.specs.List.{flat_map}
-use Rattle.rx_wire.specs.Out.{bytes_field}
+-- Replies and their messages: the numbers of both, and which message is written for a reply.
+use Rattle.std.specs.Prelude.{ℕ, ℤ, pos, ◌==◌, List, [], map, Option, None, Some, Result, Ok, if◌then◌else◌}
+use Rattle.rx_codec.specs.FieldBytes.{fields_bytes}
 use Rattle.rx_world.specs.declared.attempts.Failure.{Failure}
 use Rattle.rx_world.specs.declared.attempts.Origin.{Origin}
 use Rattle.rx_world.specs.declared.attempts.Origin.TheVariants as origins
+use Rattle.rx_world.specs.declared.looks.ChangedInput.{ChangedInput}
 use Rattle.rx_world.specs.declared.refusals.Limit.{Limit}
 use Rattle.rx_world.specs.declared.refusals.Limit.TheVariants as limits
 use Rattle.rx_world.specs.declared.refusals.LocalCause.{LocalCause}
 use Rattle.rx_world.specs.declared.refusals.LocalCause.TheVariants as locals
-use Rattle.rx_session.specs.declared.bad.Bad.{Bad}
+use Rattle.rx_session.specs.declared.bad.BadReason.{BadReason}
+use Rattle.rx_session.specs.declared.bad.BadReason.TheVariants as reasons
 use Rattle.rx_session.specs.declared.replies.Reply.{Reply}
 use Rattle.rx_session.specs.declared.replies.Reply.TheVariants as replies
+use Rattle.rx_session.specs.declared.reply_fault.ReplyFault.{ReplyFault}
+use Rattle.rx_session.specs.declared.reply_message.ReplyMessage.{ReplyMessage}
 use Rattle.rx_session.specs.Bad.{reason_number}
-use Rattle.rx_session.specs.Ends.{end_message}
+use Rattle.rx_session.specs.Ends.{end_of}
 use Rattle.rx_session.specs.Frames.{frame}
-use Rattle.rx_session.specs.Parts.{bytes_part, number_part, signed_part}
-use Rattle.rx_session.specs.SeenMessage.{seen_parts}
+use Rattle.rx_session.specs.ReplyFaults.{bad_reply}
+use Rattle.rx_session.specs.ReplyMessages.{reply_message_fields}
+use Rattle.rx_session.specs.Seen.{seen_message}
+
+-- ---- numbers
 
 abbrev pub origin_number : Origin → ℕ
 origin_number origins.Local = 1
 origin_number origins.Remote = 2
 origin_number origins.Cache = 3
 
--- reason 8, and in field 10 the word or the path that keeps a command on this machine
-abbrev pub local_cause_part : LocalCause → List ℕ
-local_cause_part (locals.Word word) = number_part 8 1 ++ bytes_part 10 word
-local_cause_part (locals.Path path) = number_part 8 2 ++ bytes_part 10 path
+abbrev pub origin_of : ℕ → Result Origin ReplyFault
+origin_of n =
+    if n == 1 then Ok origins.Local
+    else if n == 2 then Ok origins.Remote
+    else if n == 3 then Ok origins.Cache
+    else bad_reply
 
 abbrev pub limit_number : Limit → ℕ
 limit_number limits.ScanFiles = 1
@@ -35,65 +43,92 @@ limit_number limits.ScanBytes = 3
 limit_number limits.ListFiles = 4
 limit_number limits.ListBytes = 5
 
--- path 10, left out where there is none
-abbrev pub path_part : Option (List ℕ) → List ℕ
-path_part None = []
-path_part (Some path) = bytes_part 10 path
+abbrev pub limit_of : ℕ → Result Limit ReplyFault
+limit_of n =
+    if n == 1 then Ok limits.ScanFiles
+    else if n == 2 then Ok limits.FileBytes
+    else if n == 3 then Ok limits.ScanBytes
+    else if n == 4 then Ok limits.ListFiles
+    else if n == 5 then Ok limits.ListBytes
+    else bad_reply
 
--- how a command ended: exit 2, stdout 3, stderr 4
-abbrev pub exit_part : ℤ → List ℕ → List ℕ → List ℕ
-exit_part exit stdout stderr = signed_part 2 exit ++ bytes_part 3 stdout ++ bytes_part 4 stderr
+abbrev pub reason_of : ℕ → Result BadReason ReplyFault
+reason_of n =
+    if n == 1 then Ok reasons.CutShort
+    else if n == 2 then Ok reasons.TooLong
+    else if n == 3 then Ok reasons.BadKind
+    else if n == 4 then Ok reasons.BadMessage
+    else if n == 5 then Ok reasons.UnknownVersion
+    else if n == 6 then Ok reasons.WrongRoot
+    else if n == 7 then Ok reasons.BadField
+    else if n == 8 then Ok reasons.Trailing
+    else if n == 9 then Ok reasons.NotBuilt
+    else bad_reply
 
--- receipt 6, and how many files of it were placed 7
-abbrev pub receipt_part : ℕ → ℕ → List ℕ
-receipt_part receipt placed = number_part 6 receipt ++ number_part 7 placed
+-- ---- written
 
--- reason 8, value 9
-abbrev pub bad_part : Bad → List ℕ
-bad_part bad = number_part 8 (reason_number bad.reason) ++ number_part 9 bad.value
+-- a reply of this kind that says nothing more
+abbrev pub bare_reply : ℕ → ReplyMessage
+bare_reply kind = record {
+  kind = kind;
+  exit = pos 0;
+  stdout = [];
+  stderr = [];
+  origin = 0;
+  receipt = 0;
+  placed = 0;
+  reason = 0;
+  value = 0;
+  path = [];
+  first = None;
+  second = None;
+  ends = [];
+}
 
--- limit 8, how much it is 9, path 10
-abbrev pub too_large_part : Limit → ℕ → Option (List ℕ) → List ℕ
-too_large_part limit n path = number_part 8 (limit_number limit) ++ number_part 9 n ++ path_part path
+abbrev pub path_reply : ℕ → List ℕ → ReplyMessage
+path_reply kind path = record (bare_reply kind) { path = path }
 
--- the ends of attempts, each in a field 13
-abbrev pub ends_part : List Failure → List ℕ
-ends_part failures = flat_map (λ failure. bytes_field 13 (end_message failure)) failures
+-- reason 1 and a word, or reason 2 and a path
+abbrev pub not_remotable_message : LocalCause → ReplyMessage
+not_remotable_message (locals.Word word) = record (bare_reply 2) { reason = 1; path = word }
+not_remotable_message (locals.Path path) = record (bare_reply 2) { reason = 2; path = path }
 
--- the number of each reply
-abbrev pub kind_number : Reply → ℕ
-kind_number (replies.Done exit stdout stderr origin receipt placed) = 0
-kind_number (replies.BadRequest bad) = 1
-kind_number (replies.NotRemotable cause) = 2
-kind_number (replies.InputMissing path) = 3
-kind_number (replies.InputChanged input) = 4
-kind_number (replies.SourceFault path) = 5
-kind_number (replies.TooLarge limit n path) = 6
-kind_number (replies.AllFailed failures) = 7
-kind_number (replies.PlaceFault receipt placed) = 9
-kind_number replies.JournalFull = 10
-kind_number replies.NoMemory = 11
-kind_number (replies.Blocked path) = 12
+abbrev pub path_or_none : Option (List ℕ) → List ℕ
+path_or_none None = []
+path_or_none (Some path) = path
 
--- what a reply says: exit 2, stdout 3, stderr 4, origin 5, receipt 6, placed 7, reason 8, value 9, path 10, first 11, second 12, ends 13
-abbrev pub parts_of : Reply → List ℕ
-parts_of (replies.Done exit stdout stderr origin receipt placed) =
-    exit_part exit stdout stderr ++ number_part 5 (origin_number origin) ++ receipt_part receipt placed
-parts_of (replies.BadRequest bad) = bad_part bad
-parts_of (replies.NotRemotable cause) = local_cause_part cause
-parts_of (replies.InputMissing path) = bytes_part 10 path
-parts_of (replies.InputChanged input) = bytes_part 10 input.path ++ seen_parts 11 input
-parts_of (replies.SourceFault path) = bytes_part 10 path
-parts_of (replies.TooLarge limit n path) = too_large_part limit n path
-parts_of (replies.AllFailed failures) = ends_part failures
-parts_of (replies.PlaceFault receipt placed) = receipt_part receipt placed
-parts_of replies.JournalFull = []
-parts_of replies.NoMemory = []
-parts_of (replies.Blocked path) = bytes_part 10 path
+abbrev pub exit_message : ℤ → List ℕ → List ℕ → ReplyMessage
+exit_message exit stdout stderr = record (bare_reply 0) { exit = exit; stdout = stdout; stderr = stderr }
 
--- kind 1, left out of a reply of kind 0, and what the reply says
+abbrev pub input_changed_message : ChangedInput → ReplyMessage
+input_changed_message input =
+    record (path_reply 4 input.path) { first = Some (seen_message input.first); second = Some (seen_message input.second) }
+
+abbrev pub too_large_message : Limit → ℕ → Option (List ℕ) → ReplyMessage
+too_large_message limit n path = record (bare_reply 6) { reason = limit_number limit; value = n; path = path_or_none path }
+
+abbrev pub all_failed_message : List Failure → ReplyMessage
+all_failed_message failures = record (bare_reply 7) { ends = map end_of failures }
+
+-- the message of a reply
+abbrev pub message_of : Reply → ReplyMessage
+message_of (replies.Done exit stdout stderr origin receipt placed) =
+    record (exit_message exit stdout stderr) { origin = origin_number origin; receipt = receipt; placed = placed }
+message_of (replies.BadRequest bad) = record (bare_reply 1) { reason = reason_number bad.reason; value = bad.value }
+message_of (replies.NotRemotable cause) = not_remotable_message cause
+message_of (replies.InputMissing path) = path_reply 3 path
+message_of (replies.InputChanged input) = input_changed_message input
+message_of (replies.SourceFault path) = path_reply 5 path
+message_of (replies.TooLarge limit n path) = too_large_message limit n path
+message_of (replies.AllFailed failures) = all_failed_message failures
+message_of (replies.PlaceFault receipt placed) = record (bare_reply 9) { receipt = receipt; placed = placed }
+message_of replies.JournalFull = bare_reply 10
+message_of replies.NoMemory = bare_reply 11
+message_of (replies.Blocked path) = path_reply 12 path
+
+-- the payload of a reply: the fields of its message in the order of their numbers, defaults left out
 unfoldable pub payload_of : Reply → List ℕ
-payload_of reply = number_part 1 (kind_number reply) ++ parts_of reply
+payload_of reply = fields_bytes (reply_message_fields (message_of reply))
 
 -- the frame of a reply: kind 2
 abbrev pub frame_of : Reply → List ℕ

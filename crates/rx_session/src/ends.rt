@@ -1,53 +1,149 @@
-//! How an attempt ended, as a message within a reply.
+//! How an attempt ended, and its message within a reply.
 
-ghost use Rattle.std.specs.Prelude.{◌≡◌, ◌++◌, IfOk, OnOk};
-ghost use Rattle.rx_session.specs.Ends.{end_head, end_message};
+ghost use Rattle.std.specs.Prelude.{◌≡◌, IfOk};
+ghost use Rattle.rx_base.specs.Results.{Gives};
+ghost use Rattle.rx_wire.specs.Integers.{sign_extended};
+ghost use Rattle.rx_session.specs.Ends.{allows, end_has_only, end_of, exit_of, failure_of, local_failure_of, local_fields, non_zero_of, remote_failure_of, remote_fields};
+ghost use Rattle.rx_session.specs.Typed.{IsInt32, failure_is_typed};
+ghost use Rattle.rx_session.specs.declared.reply_fault.ReplyFault.TheVariants.{NoMemory};
 
+use crate::end_message::EndMessage;
 use crate::fields::end;
-use crate::local_ends::{cause_number, push_cause_parts};
-use crate::parts::{push_number, push_signed};
-use crate::remote_ends::{NON_ZERO, push_remote_cause_parts, remote_cause_number};
+use crate::local_ends::{LOCAL, bare_end, local_cause_of, local_end};
+use crate::remote_ends::{NON_ZERO, REMOTE, remote_cause_of, remote_end};
+use crate::reply_fault::ReplyFault;
 use rx_base::NoMemory;
-use rx_world::{Attempt, Failure};
+use rx_wire::int32_of;
+use rx_world::Failure;
 use std::alloc::Global;
 
-/// The attempt and its cause.
-fn push_head(out: &mut Vec<u8>, attempt: Attempt, cause: u64) -> Result<(), NoMemory>
-    ensures { OnOk result (out.new.items ≡ out.old.items ++ end_head attempt cause) }
+/// An exit code, in two's complement of 64 bits.
+fn exit_value(exit: i32) -> u64
+    ensures value { result ≡ sign_extended exit }
+    ensures typed { IsInt32 exit }
 {
-    let number = match attempt {
-        Attempt::Local => 1,
-        Attempt::Remote => 2,
-    };
-    push_number(out, end::ATTEMPT, number)?;
-    push_number(out, end::CAUSE, cause)
+    i64::from(exit).cast_unsigned()
 }
 
-#[tactic(auto, unfolding(crate::specs::Ends::end_message))]
-fn push_end(alloc: Global, out: &mut Vec<u8>, failure: &Failure) -> Result<(), NoMemory>
-    ensures { OnOk result (out.new.items ≡ out.old.items ++ end_message failure.now) }
+/// The message of an end.
+pub(crate) fn end_of(alloc: Global, failure: &Failure) -> Result<EndMessage, NoMemory>
+    ensures message { IfOk result (λ end. end ≡ end_of failure.now) }
+    ensures typed { failure_is_typed failure.now }
 {
     match failure {
-        Failure::Local { cause } => {
-            push_head(out, Attempt::Local, cause_number(cause))?;
-            push_cause_parts(alloc, out, cause)
-        }
-        Failure::Remote { cause } => {
-            push_head(out, Attempt::Remote, remote_cause_number(cause))?;
-            push_remote_cause_parts(alloc, out, cause)
-        }
-        Failure::NonZero { exit } => {
-            push_head(out, Attempt::Remote, NON_ZERO)?;
-            push_signed(out, end::VALUE, *exit)
-        }
+        Failure::Local { cause } => local_end(alloc, cause),
+        Failure::Remote { cause } => remote_end(alloc, cause),
+        Failure::NonZero { exit } => Ok(EndMessage {
+            value: exit_value(*exit),
+            ..bare_end(alloc, REMOTE, NON_ZERO)
+        }),
     }
 }
 
-/// The message of a failure.
-pub(crate) fn end_message(alloc: Global, failure: &Failure) -> Result<Vec<u8>, NoMemory>
-    ensures { IfOk result (λ bytes. bytes.items ≡ end_message failure.now) }
+/// Whether a field is one of these, or is its default.
+pub(crate) fn allows(numbers: &[u32], number: u32, is_default: bool) -> bool
+    ensures { result ≡ allows numbers.now number is_default }
 {
-    let mut out = Vec::new(alloc);
-    push_end(alloc, &mut out, failure)?;
-    Ok(out)
+    numbers.contains(&number) || is_default
+}
+
+/// Whether a message has, beside attempt and cause, no field but these.
+#[tactic(auto, unfolding(crate::specs::Ends::end_has_only))]
+fn end_has_only(numbers: &[u32], message: &EndMessage) -> bool
+    ensures { result ≡ end_has_only numbers.now message.now }
+{
+    allows(numbers, end::VALUE, message.value == 0)
+        && allows(numbers, end::PATH, message.path.is_empty())
+        && allows(numbers, end::FIRST_SEEN, message.first.is_none())
+        && allows(numbers, end::SECOND_SEEN, message.second.is_none())
+        && allows(numbers, end::FAULTS, message.faults.is_empty())
+        && allows(numbers, end::N, message.n == 0)
+}
+
+/// The fields of each cause of a local attempt.
+fn local_fields(cause: u64) -> &'static [u32]
+    ensures { result.now ≡ local_fields cause }
+{
+    match cause {
+        1 => &[end::VALUE],
+        2 => &[end::PATH],
+        3 => &[end::PATH, end::FIRST_SEEN, end::SECOND_SEEN],
+        4 => &[end::VALUE, end::N],
+        5 => &[end::PATH],
+        _ => &[],
+    }
+}
+
+/// The fields of each cause of a remote attempt.
+fn remote_fields(cause: u64) -> &'static [u32]
+    ensures { result.now ≡ remote_fields cause }
+{
+    match cause {
+        1 => &[end::FAULTS],
+        2 => &[end::FIRST_SEEN, end::SECOND_SEEN],
+        3 => &[end::VALUE],
+        6 => &[end::PATH, end::FIRST_SEEN, end::SECOND_SEEN],
+        7 => &[end::VALUE],
+        8 => &[end::PATH],
+        9 => &[end::PATH],
+        _ => &[],
+    }
+}
+
+/// The exit code that a value tells.
+#[tactic(auto, unfolding(crate::specs::Ends::exit_of))]
+fn exit_of(value: u64) -> Result<i32, ReplyFault>
+    ensures { result ≡ exit_of value }
+{
+    let exit = int32_of(value);
+    if exit_value(exit) == value {
+        Ok(exit)
+    } else {
+        Err(ReplyFault::BadReply)
+    }
+}
+
+#[tactic(auto, unfolding(crate::specs::Ends::non_zero_of))]
+fn non_zero_of(message: &EndMessage) -> Result<Failure, ReplyFault>
+    ensures { result ≡ non_zero_of message.now }
+{
+    let exit = exit_of(message.value)?;
+    Ok(Failure::NonZero { exit })
+}
+
+#[tactic(auto, unfolding(crate::specs::Ends::local_failure_of))]
+fn local_failure_of(alloc: Global, message: &EndMessage) -> Result<Failure, ReplyFault>
+    ensures { Gives NoMemory (λ failure. failure) result (local_failure_of message.now) }
+{
+    if !end_has_only(local_fields(message.cause), message) {
+        return Err(ReplyFault::BadReply);
+    }
+    let cause = local_cause_of(alloc, message)?;
+    Ok(Failure::Local { cause })
+}
+
+#[tactic(auto, unfolding(crate::specs::Ends::remote_failure_of))]
+fn remote_failure_of(alloc: Global, message: &EndMessage) -> Result<Failure, ReplyFault>
+    ensures { Gives NoMemory (λ failure. failure) result (remote_failure_of message.now) }
+{
+    if !end_has_only(remote_fields(message.cause), message) {
+        return Err(ReplyFault::BadReply);
+    }
+    if message.cause == NON_ZERO {
+        return non_zero_of(message);
+    }
+    let cause = remote_cause_of(alloc, message)?;
+    Ok(Failure::Remote { cause })
+}
+
+/// The end that a message is.
+#[tactic(auto, unfolding(crate::specs::Ends::failure_of))]
+pub(crate) fn failure_of(alloc: Global, message: &EndMessage) -> Result<Failure, ReplyFault>
+    ensures { Gives NoMemory (λ failure. failure) result (failure_of message.now) }
+{
+    match message.attempt {
+        LOCAL => local_failure_of(alloc, message),
+        REMOTE => remote_failure_of(alloc, message),
+        _ => Err(ReplyFault::BadReply),
+    }
 }

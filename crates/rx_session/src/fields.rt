@@ -59,8 +59,10 @@ pub(crate) mod reply {
     pub(crate) const VALUE: u32 = 9;
 
     pub(crate) const PATH: u32 = 10;
-    /// The first of two values that were seen; the second has the next number.
+
     pub(crate) const FIRST_SEEN: u32 = 11;
+
+    pub(crate) const SECOND_SEEN: u32 = 12;
 
     pub(crate) const ENDS: u32 = 13;
 }
@@ -74,7 +76,7 @@ pub(crate) mod end {
     pub(crate) const VALUE: u32 = 3;
 
     pub(crate) const PATH: u32 = 4;
-    /// The first of two values that were seen; the second has the next number.
+
     pub(crate) const FIRST_SEEN: u32 = 5;
 
     pub(crate) const SECOND_SEEN: u32 = 6;
@@ -97,11 +99,4 @@ pub(crate) mod seen {
     pub(crate) const DIGEST: u32 = 5;
 
     pub(crate) const EXECUTABLE: u32 = 6;
-}
-
-/// The Digest message (`remote_execution.proto`).
-pub(crate) mod digest {
-    pub(crate) const HASH: u32 = 1;
-
-    pub(crate) const SIZE_BYTES: u32 = 2;
 }

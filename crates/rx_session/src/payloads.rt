@@ -1,48 +1,53 @@
-//! The payload of a reply: the fields of its message in the order of their numbers.
+//! The message of a reply, which is its payload.
 
-ghost use Rattle.std.specs.Prelude.{◌≡◌, ◌≤◌, ◌+◌, ◌++◌, IsOk, OnOk, vec_len, vec_capacity};
-ghost use Rattle.rx_session.specs.Replies.{ends_part, exit_part, kind_number, origin_number, parts_of, payload_of, receipt_part};
-ghost use Rattle.rx_session.specs.declared.replies.Reply.TheVariants.{PlaceFault as place_fault};
+ghost use Rattle.std.specs.Prelude.{◌≡◌, IfOk, IfSome, IsOk, map};
+ghost use Rattle.std.specs.List.{AllByRecursion};
+ghost use Rattle.rx_session.specs.Ends.{end_of};
+ghost use Rattle.rx_session.specs.Replies.{all_failed_message, bare_reply, exit_message, input_changed_message, message_of, not_remotable_message, origin_number, path_reply, too_large_message};
+ghost use Rattle.rx_session.specs.Typed.{IsOwn, failure_is_typed, local_cause_is_typed, reply_is_typed};
 
-use crate::ends::end_message;
-use crate::fields::reply;
-use crate::parts::{
-    NUMBER_FIELD_LEN, push_bytes, push_bytes_field, push_number, push_path, push_signed,
-};
-use crate::refusals::{push_bad, push_local_cause, push_too_large};
+use crate::end_message::EndMessage;
+use crate::ends::end_of;
+use crate::path_texts::path_text;
+use crate::refusals::{limit_number, path_or_none, reason_number};
 use crate::replies::Reply;
-use crate::seen_parts::push_both_seen;
-use rx_base::NoMemory;
-use rx_world::{Failure, Origin};
+use crate::reply_message::ReplyMessage;
+use crate::seen_values::seen_message;
+use rx_base::{Bytes, Items, NoMemory, RelPath, Text, TryClone};
+use rx_world::{ChangedInput, Failure, Limit, LocalCause, Origin};
 use std::alloc::Global;
 
-/// The most bytes of a receipt and its count of files.
-const RECEIPT_LEN: usize = 2 * NUMBER_FIELD_LEN;
+/// The number of each reply.
+pub(crate) mod kind {
+    pub(crate) const DONE: u64 = 0;
 
-/// The most bytes of the payload of a place fault.
-pub(crate) const PLACE_FAULT_LEN: usize = NUMBER_FIELD_LEN + RECEIPT_LEN;
+    pub(crate) const BAD_REQUEST: u64 = 1;
 
-/// The number of a place fault.
-const PLACE_FAULT: u64 = 9;
+    pub(crate) const NOT_REMOTABLE: u64 = 2;
 
-fn kind_number(reply: &Reply) -> u64
-    ensures { result ≡ kind_number reply.now }
-{
-    match reply {
-        Reply::Done { .. } => 0,
-        Reply::BadRequest { .. } => 1,
-        Reply::NotRemotable { .. } => 2,
-        Reply::InputMissing { .. } => 3,
-        Reply::InputChanged(_) => 4,
-        Reply::SourceFault { .. } => 5,
-        Reply::TooLarge { .. } => 6,
-        Reply::AllFailed { .. } => 7,
-        Reply::PlaceFault { .. } => PLACE_FAULT,
-        Reply::JournalFull => 10,
-        Reply::NoMemory => 11,
-        Reply::Blocked { .. } => 12,
-    }
+    pub(crate) const INPUT_MISSING: u64 = 3;
+
+    pub(crate) const INPUT_CHANGED: u64 = 4;
+
+    pub(crate) const SOURCE_FAULT: u64 = 5;
+
+    pub(crate) const TOO_LARGE: u64 = 6;
+
+    pub(crate) const ALL_FAILED: u64 = 7;
+
+    pub(crate) const PLACE_FAULT: u64 = 9;
+
+    pub(crate) const JOURNAL_FULL: u64 = 10;
+
+    pub(crate) const NO_MEMORY: u64 = 11;
+
+    pub(crate) const BLOCKED: u64 = 12;
 }
+
+/// The reason of a reply that is not remotable: a word, or a path.
+pub(crate) const WORD: u64 = 1;
+
+pub(crate) const PATH: u64 = 2;
 
 fn origin_number(origin: Origin) -> u64
     ensures { result ≡ origin_number origin }
@@ -54,18 +59,133 @@ fn origin_number(origin: Origin) -> u64
     }
 }
 
-/// The payload of a reply, at the end of a vector.
-#[tactic(auto, unfolding(crate::specs::Replies::payload_of))]
-pub(crate) fn push_payload(alloc: Global, out: &mut Vec<u8>, reply: &Reply) -> Result<(), NoMemory>
-    ensures { OnOk result (out.new.items ≡ out.old.items ++ payload_of reply.now) }
+/// A reply of a kind that says nothing more.
+fn bare_reply(alloc: Global, kind: u64) -> ReplyMessage
+    ensures { result ≡ bare_reply kind }
 {
-    push_number(out, reply::KIND, kind_number(reply))?;
-    push_parts(alloc, out, reply)
+    ReplyMessage {
+        kind,
+        exit: 0,
+        stdout: Bytes::new(alloc),
+        stderr: Bytes::new(alloc),
+        origin: 0,
+        receipt: 0,
+        placed: 0,
+        reason: 0,
+        value: 0,
+        path: Text::new(alloc),
+        first: None,
+        second: None,
+        ends: Items::new(alloc),
+    }
 }
 
-/// What a reply says beside its kind.
-fn push_parts(alloc: Global, out: &mut Vec<u8>, reply: &Reply) -> Result<(), NoMemory>
-    ensures { OnOk result (out.new.items ≡ out.old.items ++ parts_of reply.now) }
+/// A path at fault.
+fn path_reply(alloc: Global, kind: u64, path: &RelPath) -> Result<ReplyMessage, NoMemory>
+    ensures message { IfOk result (λ reply. reply ≡ path_reply kind path.now) }
+    ensures typed { IsOwn path.now }
+{
+    let path = path_text(alloc, path)?;
+    Ok(ReplyMessage {
+        path,
+        ..bare_reply(alloc, kind)
+    })
+}
+
+/// How a command ended.
+fn exit_message(
+    alloc: Global,
+    exit: i32,
+    stdout: &Bytes,
+    stderr: &Bytes,
+) -> Result<ReplyMessage, NoMemory>
+    ensures { IfOk result (λ reply. reply ≡ exit_message exit stdout.now stderr.now) }
+{
+    let stdout = stdout.try_clone(alloc)?;
+    let stderr = stderr.try_clone(alloc)?;
+    Ok(ReplyMessage {
+        exit,
+        stdout,
+        stderr,
+        ..bare_reply(alloc, kind::DONE)
+    })
+}
+
+/// What keeps a command on this machine: reason 1 and the word, or reason 2 and the path.
+fn not_remotable_message(alloc: Global, cause: &LocalCause) -> Result<ReplyMessage, NoMemory>
+    ensures message { IfOk result (λ reply. reply ≡ not_remotable_message cause.now) }
+    ensures typed { local_cause_is_typed cause.now }
+{
+    let (reason, path) = match cause {
+        LocalCause::Word { word } => (WORD, word.try_clone(alloc)?),
+        LocalCause::Path { path } => (PATH, path_text(alloc, path)?),
+    };
+    Ok(ReplyMessage {
+        reason,
+        path,
+        ..bare_reply(alloc, kind::NOT_REMOTABLE)
+    })
+}
+
+fn input_changed_message(alloc: Global, input: &ChangedInput) -> Result<ReplyMessage, NoMemory>
+    ensures message { IfOk result (λ reply. reply ≡ input_changed_message input.now) }
+    ensures typed { IsOwn input.now.path }
+{
+    let path = path_text(alloc, &input.path)?;
+    Ok(ReplyMessage {
+        path,
+        first: Some(seen_message(&input.first)),
+        second: Some(seen_message(&input.second)),
+        ..bare_reply(alloc, kind::INPUT_CHANGED)
+    })
+}
+
+/// The limit that the files pass, what they have, and the path where one file passes it.
+fn too_large_message(
+    alloc: Global,
+    limit: Limit,
+    n: u64,
+    path: &Option<RelPath>,
+) -> Result<ReplyMessage, NoMemory>
+    ensures message { IfOk result (λ reply. reply ≡ too_large_message limit n path.now) }
+    ensures typed { IfSome path.now IsOwn }
+{
+    let path = path_or_none(alloc, path)?;
+    Ok(ReplyMessage {
+        reason: limit_number(limit),
+        value: n,
+        path,
+        ..bare_reply(alloc, kind::TOO_LARGE)
+    })
+}
+
+/// The messages of ends.
+fn ends_of(alloc: Global, failures: &[Failure]) -> Result<Items<EndMessage>, NoMemory>
+    ensures message { IfOk result (λ ends. ends ≡ map end_of failures.now) }
+    ensures typed { IsOk result → AllByRecursion failure_is_typed failures.now }
+{
+    let mut ends = Items::new(alloc);
+    for failure in failures {
+        ends.push(end_of(alloc, failure)?)?;
+    }
+    Ok(ends)
+}
+
+fn all_failed_message(alloc: Global, failures: &[Failure]) -> Result<ReplyMessage, NoMemory>
+    ensures message { IfOk result (λ reply. reply ≡ all_failed_message failures.now) }
+    ensures typed { IsOk result → AllByRecursion failure_is_typed failures.now }
+{
+    let ends = ends_of(alloc, failures)?;
+    Ok(ReplyMessage {
+        ends,
+        ..bare_reply(alloc, kind::ALL_FAILED)
+    })
+}
+
+/// The message of a reply.
+pub(crate) fn message_of(alloc: Global, reply: &Reply) -> Result<ReplyMessage, NoMemory>
+    ensures message { IfOk result (λ message. message ≡ message_of reply.now) }
+    ensures typed { IsOk result → reply_is_typed reply.now }
 {
     match reply {
         Reply::Done {
@@ -75,66 +195,30 @@ fn push_parts(alloc: Global, out: &mut Vec<u8>, reply: &Reply) -> Result<(), NoM
             origin,
             receipt,
             placed,
-        } => {
-            push_exit(out, *exit, stdout.as_slice(), stderr.as_slice())?;
-            push_number(out, reply::ORIGIN, origin_number(*origin))?;
-            push_receipt(out, *receipt, *placed)
-        }
-        Reply::BadRequest { bad } => push_bad(out, bad),
-        Reply::NotRemotable { cause } => push_local_cause(out, cause),
-        Reply::InputMissing { path } => push_path(out, reply::PATH, path),
-        Reply::InputChanged(input) => {
-            push_path(out, reply::PATH, &input.path)?;
-            push_both_seen(alloc, out, reply::FIRST_SEEN, input)
-        }
-        Reply::SourceFault { path } => push_path(out, reply::PATH, path),
-        Reply::TooLarge { limit, n, path } => push_too_large(out, *limit, *n, path),
-        Reply::AllFailed { failures } => push_ends(alloc, out, failures.as_slice()),
-        Reply::PlaceFault { receipt, placed } => push_receipt(out, *receipt, *placed),
-        Reply::JournalFull => Ok(()),
-        Reply::NoMemory => Ok(()),
-        Reply::Blocked { path } => push_path(out, reply::PATH, path),
+        } => Ok(ReplyMessage {
+            origin: origin_number(*origin),
+            receipt: *receipt,
+            placed: *placed,
+            ..exit_message(alloc, *exit, stdout, stderr)?
+        }),
+        Reply::BadRequest { bad } => Ok(ReplyMessage {
+            reason: reason_number(bad.reason),
+            value: bad.value,
+            ..bare_reply(alloc, kind::BAD_REQUEST)
+        }),
+        Reply::NotRemotable { cause } => not_remotable_message(alloc, cause),
+        Reply::InputMissing { path } => path_reply(alloc, kind::INPUT_MISSING, path),
+        Reply::InputChanged(input) => input_changed_message(alloc, input),
+        Reply::SourceFault { path } => path_reply(alloc, kind::SOURCE_FAULT, path),
+        Reply::TooLarge { limit, n, path } => too_large_message(alloc, *limit, *n, path),
+        Reply::AllFailed { failures } => all_failed_message(alloc, failures.as_slice()),
+        Reply::PlaceFault { receipt, placed } => Ok(ReplyMessage {
+            receipt: *receipt,
+            placed: *placed,
+            ..bare_reply(alloc, kind::PLACE_FAULT)
+        }),
+        Reply::JournalFull => Ok(bare_reply(alloc, kind::JOURNAL_FULL)),
+        Reply::NoMemory => Ok(bare_reply(alloc, kind::NO_MEMORY)),
+        Reply::Blocked { path } => path_reply(alloc, kind::BLOCKED, path),
     }
-}
-
-/// How a command ended.
-fn push_exit(out: &mut Vec<u8>, exit: i32, stdout: &[u8], stderr: &[u8]) -> Result<(), NoMemory>
-    ensures { OnOk result
-        (out.new.items ≡ out.old.items ++ exit_part exit stdout.now stderr.now) }
-{
-    push_signed(out, reply::EXIT, exit)?;
-    push_bytes(out, reply::STDOUT, stdout)?;
-    push_bytes(out, reply::STDERR, stderr)
-}
-
-/// A receipt and how many files of it were placed.
-fn push_receipt(out: &mut Vec<u8>, receipt: u64, placed: u64) -> Result<(), NoMemory>
-    ensures ok { OnOk result (out.new.items ≡ out.old.items ++ receipt_part receipt placed) }
-    ensures room { vec_len out.old + RECEIPT_LEN ≤ vec_capacity out.old → IsOk result }
-    ensures len { vec_len out.new ≤ vec_len out.old + RECEIPT_LEN }
-{
-    push_number(out, reply::RECEIPT, receipt)?;
-    push_number(out, reply::PLACED, placed)
-}
-
-/// The ends of attempts, each a message of its own.
-fn push_ends(alloc: Global, out: &mut Vec<u8>, failures: &[Failure]) -> Result<(), NoMemory>
-    ensures { OnOk result (out.new.items ≡ out.old.items ++ ends_part failures.now) }
-{
-    for failure in failures {
-        push_bytes_field(out, reply::ENDS, &end_message(alloc, failure)?)?;
-    }
-    Ok(())
-}
-
-/// The payload of a place fault.
-#[tactic(auto, unfolding(crate::specs::Replies::payload_of))]
-pub(crate) fn push_place_fault(out: &mut Vec<u8>, receipt: u64, placed: u64) -> Result<(), NoMemory>
-    ensures ok { OnOk result
-        (out.new.items ≡ out.old.items ++ payload_of (place_fault receipt placed)) }
-    ensures room { vec_len out.old + PLACE_FAULT_LEN ≤ vec_capacity out.old → IsOk result }
-    ensures len { vec_len out.new ≤ vec_len out.old + PLACE_FAULT_LEN }
-{
-    push_number(out, reply::KIND, PLACE_FAULT)?;
-    push_receipt(out, receipt, placed)
 }

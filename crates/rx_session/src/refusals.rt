@@ -1,17 +1,22 @@
-//! The replies that refuse a request or the files of its command: the reason or the limit, the
-//! value, and the word or the path.
+//! The replies that refuse a request or the files of its command, and their messages: the reason or
+//! the limit, the value, and the word or the path.
 
-ghost use Rattle.std.specs.Prelude.{◌≡◌, ◌++◌, OnOk};
+ghost use Rattle.std.specs.Prelude.{◌≡◌, IfOk, IfSome};
+ghost use Rattle.rx_base.specs.Results.{Gives};
 ghost use Rattle.rx_session.specs.Bad.{reason_number};
-ghost use Rattle.rx_session.specs.Replies.{bad_part, limit_number, local_cause_part, path_part, too_large_part};
+ghost use Rattle.rx_session.specs.Replies.{limit_number, limit_of, path_or_none, reason_of};
+ghost use Rattle.rx_session.specs.ReplyReading.{limit_path_of, some_path_of};
+ghost use Rattle.rx_session.specs.Typed.{IsOwn};
+ghost use Rattle.rx_session.specs.declared.reply_fault.ReplyFault.TheVariants.{NoMemory};
 
-use crate::bad::{Bad, BadReason};
-use crate::fields::reply;
-use crate::parts::{push_bytes, push_number, push_path};
-use rx_base::{NoMemory, RelPath};
-use rx_world::{Limit, LocalCause};
+use crate::bad::BadReason;
+use crate::path_texts::{path_text, read_path};
+use crate::reply_fault::ReplyFault;
+use rx_base::{NoMemory, RelPath, Text};
+use rx_world::Limit;
+use std::alloc::Global;
 
-fn reason_number(reason: BadReason) -> u64
+pub(crate) fn reason_number(reason: BadReason) -> u64
     ensures { result ≡ reason_number reason }
 {
     match reason {
@@ -27,31 +32,24 @@ fn reason_number(reason: BadReason) -> u64
     }
 }
 
-/// Why bytes are no request.
-pub(crate) fn push_bad(out: &mut Vec<u8>, bad: &Bad) -> Result<(), NoMemory>
-    ensures { OnOk result (out.new.items ≡ out.old.items ++ bad_part bad.now) }
+pub(crate) fn reason_of(number: u64) -> Result<BadReason, ReplyFault>
+    ensures { result ≡ reason_of number }
 {
-    push_number(out, reply::REASON, reason_number(bad.reason))?;
-    push_number(out, reply::VALUE, bad.value)
-}
-
-/// What keeps a command on this machine: reason 1 and the word, or reason 2 and the path.
-pub(crate) fn push_local_cause(out: &mut Vec<u8>, cause: &LocalCause) -> Result<(), NoMemory>
-    ensures { OnOk result (out.new.items ≡ out.old.items ++ local_cause_part cause.now) }
-{
-    match cause {
-        LocalCause::Word { word } => {
-            push_number(out, reply::REASON, 1)?;
-            push_bytes(out, reply::PATH, word.as_str().as_bytes())
-        }
-        LocalCause::Path { path } => {
-            push_number(out, reply::REASON, 2)?;
-            push_path(out, reply::PATH, path)
-        }
+    match number {
+        1 => Ok(BadReason::CutShort),
+        2 => Ok(BadReason::TooLong),
+        3 => Ok(BadReason::BadKind),
+        4 => Ok(BadReason::BadMessage),
+        5 => Ok(BadReason::UnknownVersion),
+        6 => Ok(BadReason::WrongRoot),
+        7 => Ok(BadReason::BadField),
+        8 => Ok(BadReason::Trailing),
+        9 => Ok(BadReason::NotBuilt),
+        _ => Err(ReplyFault::BadReply),
     }
 }
 
-fn limit_number(limit: Limit) -> u64
+pub(crate) fn limit_number(limit: Limit) -> u64
     ensures { result ≡ limit_number limit }
 {
     match limit {
@@ -63,26 +61,54 @@ fn limit_number(limit: Limit) -> u64
     }
 }
 
-/// The path, where there is one.
-fn push_optional_path(out: &mut Vec<u8>, path: &Option<RelPath>) -> Result<(), NoMemory>
-    ensures { OnOk result (out.new.items ≡ out.old.items ++ path_part path.now) }
+pub(crate) fn limit_of(number: u64) -> Result<Limit, ReplyFault>
+    ensures { result ≡ limit_of number }
 {
-    match path {
-        None => Ok(()),
-        Some(path) => push_path(out, reply::PATH, path),
+    match number {
+        1 => Ok(Limit::ScanFiles),
+        2 => Ok(Limit::FileBytes),
+        3 => Ok(Limit::ScanBytes),
+        4 => Ok(Limit::ListFiles),
+        5 => Ok(Limit::ListBytes),
+        _ => Err(ReplyFault::BadReply),
     }
 }
 
-/// The limit that the files pass, what they have, and the path where one file passes it.
-pub(crate) fn push_too_large(
-    out: &mut Vec<u8>,
-    limit: Limit,
-    n: u64,
-    path: &Option<RelPath>,
-) -> Result<(), NoMemory>
-    ensures { OnOk result (out.new.items ≡ out.old.items ++ too_large_part limit n path.now) }
+/// The text of a path, where there is one.
+pub(crate) fn path_or_none(alloc: Global, path: &Option<RelPath>) -> Result<Text, NoMemory>
+    ensures text { IfOk result (λ text. text ≡ path_or_none path.now) }
+    ensures typed { IfSome path.now IsOwn }
 {
-    push_number(out, reply::REASON, limit_number(limit))?;
-    push_number(out, reply::VALUE, n)?;
-    push_optional_path(out, path)
+    match path {
+        None => Ok(Text::new(alloc)),
+        Some(path) => path_text(alloc, path),
+    }
+}
+
+#[tactic(auto, unfolding(crate::specs::ReplyReading::some_path_of))]
+fn some_path_of(alloc: Global, text: &Text) -> Result<Option<RelPath>, ReplyFault>
+    ensures { Gives NoMemory (λ path. path) result (some_path_of text.now) }
+{
+    let path = read_path(alloc, text)?;
+    Ok(Some(path))
+}
+
+/// The path of the file that passes a limit, where the limit is that of one file.
+pub(crate) fn limit_path_of(
+    alloc: Global,
+    limit: Limit,
+    text: &Text,
+) -> Result<Option<RelPath>, ReplyFault>
+    ensures { Gives NoMemory (λ path. path) result (limit_path_of limit text.now) }
+{
+    match limit {
+        Limit::FileBytes => some_path_of(alloc, text),
+        Limit::ScanFiles | Limit::ScanBytes | Limit::ListFiles | Limit::ListBytes => {
+            if text.is_empty() {
+                Ok(None)
+            } else {
+                Err(ReplyFault::BadReply)
+            }
+        }
+    }
 }

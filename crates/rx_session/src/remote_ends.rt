@@ -1,37 +1,48 @@
 //! Why a remote attempt has no outcome, in a reply.
 
-ghost use Rattle.std.specs.Prelude.{◌≡◌, ◌++◌, OnOk};
-ghost use Rattle.rx_wire.specs.Out.{bytes_field};
-ghost use Rattle.rx_session.specs.Ends.{remote_cause_number, remote_cause_parts, result_fault_number};
+ghost use Rattle.std.specs.Prelude.{◌≡◌, IfOk};
+ghost use Rattle.rx_base.specs.Results.{Gives};
+ghost use Rattle.rx_session.specs.Ends.{bad_blob_of, bad_result_of, call_failed_end, call_failed_of, digest_alone, digest_seen, remote_cause_of, remote_end, remote_input_changed_of, remote_source_fault_of, result_fault_number, result_fault_of, wrong_version_end, wrong_version_of};
+ghost use Rattle.rx_session.specs.Typed.{AreInt32, remote_cause_is_typed};
+ghost use Rattle.rx_session.specs.declared.reply_fault.ReplyFault.TheVariants.{NoMemory};
 
-use crate::call_faults::packed_faults;
-use crate::fields::end;
-use crate::local_ends::push_changed;
-use crate::parts::{push_bytes, push_bytes_field, push_number, push_path};
-use crate::seen_parts::digest_seen;
+use crate::call_faults::{packed_faults, read_faults};
+use crate::end_message::EndMessage;
+use crate::local_ends::{bare_end, changed_end, path_end};
+use crate::path_texts::read_path;
+use crate::reply_fault::ReplyFault;
+use crate::seen_message::SeenMessage;
+use crate::seen_values::{is_no_file, nothing_seen, read_changed};
+use crate::version_numbers::read_versions;
 use crate::version_text::versions_text;
-use rx_base::NoMemory;
-use rx_world::{RemoteCause, ResultFault};
+use rx_base::{Digest, NoMemory};
+use rx_world::{CallFault, Decision, RemoteCause, ResultFault, SemVer};
 use std::alloc::Global;
+
+/// A remote attempt.
+pub(crate) const REMOTE: u64 = 2;
 
 /// The cause of a command that ended on the farm with another code than 0.
 pub(crate) const NON_ZERO: u64 = 7;
 
-pub(crate) fn remote_cause_number(cause: &RemoteCause) -> u64
-    ensures { result ≡ remote_cause_number cause.now }
-{
-    match cause {
-        RemoteCause::CallFailed { .. } => 1,
-        RemoteCause::BadBlob { .. } => 2,
-        RemoteCause::BadResult { .. } => 3,
-        RemoteCause::OperationsSpent => 4,
-        RemoteCause::Stopped { .. } => 5,
-        RemoteCause::InputChanged(_) => 6,
-        RemoteCause::WrongVersion { .. } => 8,
-        RemoteCause::SourceFault { .. } => 9,
-        RemoteCause::NoMemory => 10,
-    }
-}
+/// The number of each other cause.
+const CALL_FAILED: u64 = 1;
+
+const BAD_BLOB: u64 = 2;
+
+const BAD_RESULT: u64 = 3;
+
+const OPERATIONS_SPENT: u64 = 4;
+
+const STOPPED: u64 = 5;
+
+const INPUT_CHANGED: u64 = 6;
+
+const WRONG_VERSION: u64 = 8;
+
+const SOURCE_FAULT: u64 = 9;
+
+const NO_MEMORY: u64 = 10;
 
 fn result_fault_number(fault: ResultFault) -> u64
     ensures { result ≡ result_fault_number fault }
@@ -45,32 +56,154 @@ fn result_fault_number(fault: ResultFault) -> u64
     }
 }
 
-/// What stands beside a cause's number.
-pub(crate) fn push_remote_cause_parts(
-    alloc: Global,
-    out: &mut Vec<u8>,
-    cause: &RemoteCause,
-) -> Result<(), NoMemory>
-    ensures { OnOk result (out.new.items ≡ out.old.items ++ remote_cause_parts cause.now) }
+fn result_fault_of(number: u64) -> Result<ResultFault, ReplyFault>
+    ensures { result ≡ result_fault_of number }
+{
+    match number {
+        1 => Ok(ResultFault::NoResult),
+        2 => Ok(ResultFault::PathTwice),
+        3 => Ok(ResultFault::OutputAbsent),
+        4 => Ok(ResultFault::NoDigest),
+        5 => Ok(ResultFault::TooLarge),
+        _ => Err(ReplyFault::BadReply),
+    }
+}
+
+/// A digest alone, as what was seen.
+fn digest_seen(digest: Digest) -> SeenMessage
+    ensures { result ≡ digest_seen digest }
+{
+    SeenMessage {
+        digest: Some(digest),
+        ..nothing_seen()
+    }
+}
+
+fn call_failed_end(alloc: Global, faults: &[CallFault]) -> Result<EndMessage, NoMemory>
+    ensures { IfOk result (λ end. end ≡ call_failed_end faults.now) }
+{
+    let faults = packed_faults(alloc, faults)?;
+    Ok(EndMessage {
+        faults,
+        ..bare_end(alloc, REMOTE, CALL_FAILED)
+    })
+}
+
+fn wrong_version_end(alloc: Global, low: SemVer, high: SemVer) -> Result<EndMessage, NoMemory>
+    ensures message { IfOk result (λ end. end ≡ wrong_version_end low high) }
+    ensures typed { AreInt32 low × AreInt32 high }
+{
+    let path = versions_text(alloc, &low, &high)?;
+    Ok(EndMessage {
+        path,
+        ..bare_end(alloc, REMOTE, WRONG_VERSION)
+    })
+}
+
+/// The message of a remote attempt that has no outcome.
+pub(crate) fn remote_end(alloc: Global, cause: &RemoteCause) -> Result<EndMessage, NoMemory>
+    ensures message { IfOk result (λ end. end ≡ remote_end cause.now) }
+    ensures typed { remote_cause_is_typed cause.now }
 {
     match cause {
-        RemoteCause::CallFailed { faults } => {
-            push_bytes(out, end::FAULTS, &packed_faults(alloc, faults.as_slice())?)
-        }
-        RemoteCause::BadBlob { expected, got } => {
-            push_bytes_field(out, end::FIRST_SEEN, &digest_seen(alloc, expected)?)?;
-            push_bytes_field(out, end::SECOND_SEEN, &digest_seen(alloc, got)?)
-        }
-        RemoteCause::BadResult { fault } => {
-            push_number(out, end::VALUE, result_fault_number(*fault))
-        }
-        RemoteCause::OperationsSpent => Ok(()),
-        RemoteCause::Stopped { .. } => Ok(()),
-        RemoteCause::InputChanged(input) => push_changed(alloc, out, input),
-        RemoteCause::WrongVersion { low, high } => {
-            push_bytes(out, end::PATH, &versions_text(alloc, low, high)?)
-        }
-        RemoteCause::SourceFault { path } => push_path(out, end::PATH, path),
-        RemoteCause::NoMemory => Ok(()),
+        RemoteCause::CallFailed { faults } => call_failed_end(alloc, faults.as_slice()),
+        RemoteCause::BadBlob { expected, got } => Ok(EndMessage {
+            first: Some(digest_seen(*expected)),
+            second: Some(digest_seen(*got)),
+            ..bare_end(alloc, REMOTE, BAD_BLOB)
+        }),
+        RemoteCause::BadResult { fault } => Ok(EndMessage {
+            value: result_fault_number(*fault),
+            ..bare_end(alloc, REMOTE, BAD_RESULT)
+        }),
+        RemoteCause::OperationsSpent => Ok(bare_end(alloc, REMOTE, OPERATIONS_SPENT)),
+        RemoteCause::Stopped { .. } => Ok(bare_end(alloc, REMOTE, STOPPED)),
+        RemoteCause::InputChanged(input) => changed_end(alloc, REMOTE, INPUT_CHANGED, input),
+        RemoteCause::WrongVersion { low, high } => wrong_version_end(alloc, *low, *high),
+        RemoteCause::SourceFault { path } => path_end(alloc, REMOTE, SOURCE_FAULT, path),
+        RemoteCause::NoMemory => Ok(bare_end(alloc, REMOTE, NO_MEMORY)),
+    }
+}
+
+#[tactic(auto, unfolding(crate::specs::Ends::call_failed_of))]
+fn call_failed_of(alloc: Global, end: &EndMessage) -> Result<RemoteCause, ReplyFault>
+    ensures { Gives NoMemory (λ cause. cause) result (call_failed_of end.now) }
+{
+    let faults = read_faults(alloc, end.faults.as_slice())?;
+    Ok(RemoteCause::CallFailed { faults })
+}
+
+/// The digest of a message with a digest alone.
+fn digest_alone(message: &SeenMessage) -> Result<Digest, ReplyFault>
+    ensures { result ≡ digest_alone message.now }
+{
+    match message.digest {
+        Some(digest) if message.kind == 0 && is_no_file(message) => Ok(digest),
+        _ => Err(ReplyFault::BadReply),
+    }
+}
+
+#[tactic(auto, unfolding(crate::specs::Ends::bad_blob_of))]
+fn bad_blob_of(end: &EndMessage) -> Result<RemoteCause, ReplyFault>
+    ensures { result ≡ bad_blob_of end.now }
+{
+    let (Some(first), Some(second)) = (&end.first, &end.second) else {
+        return Err(ReplyFault::BadReply);
+    };
+    let expected = digest_alone(first)?;
+    let got = digest_alone(second)?;
+    Ok(RemoteCause::BadBlob { expected, got })
+}
+
+#[tactic(auto, unfolding(crate::specs::Ends::bad_result_of))]
+fn bad_result_of(end: &EndMessage) -> Result<RemoteCause, ReplyFault>
+    ensures { result ≡ bad_result_of end.now }
+{
+    let fault = result_fault_of(end.value)?;
+    Ok(RemoteCause::BadResult { fault })
+}
+
+#[tactic(auto, unfolding(crate::specs::Ends::remote_input_changed_of))]
+fn remote_input_changed_of(alloc: Global, end: &EndMessage) -> Result<RemoteCause, ReplyFault>
+    ensures { Gives NoMemory (λ cause. cause) result (remote_input_changed_of end.now) }
+{
+    let input = read_changed(alloc, &end.path, &end.first, &end.second)?;
+    Ok(RemoteCause::InputChanged(input))
+}
+
+#[tactic(auto, unfolding(crate::specs::Ends::wrong_version_of))]
+fn wrong_version_of(alloc: Global, end: &EndMessage) -> Result<RemoteCause, ReplyFault>
+    ensures { Gives NoMemory (λ cause. cause) result (wrong_version_of end.now) }
+{
+    let (low, high) = read_versions(alloc, &end.path)?;
+    Ok(RemoteCause::WrongVersion { low, high })
+}
+
+#[tactic(auto, unfolding(crate::specs::Ends::remote_source_fault_of))]
+fn remote_source_fault_of(alloc: Global, end: &EndMessage) -> Result<RemoteCause, ReplyFault>
+    ensures { Gives NoMemory (λ cause. cause) result (remote_source_fault_of end.now) }
+{
+    let path = read_path(alloc, &end.path)?;
+    Ok(RemoteCause::SourceFault { path })
+}
+
+/// Why a remote attempt has no outcome. Which decision stopped it isn't told.
+#[tactic(auto, unfolding(crate::specs::Ends::remote_cause_of))]
+pub(crate) fn remote_cause_of(alloc: Global, end: &EndMessage) -> Result<RemoteCause, ReplyFault>
+    ensures { Gives NoMemory (λ cause. cause) result (remote_cause_of end.now) }
+{
+    match end.cause {
+        CALL_FAILED => call_failed_of(alloc, end),
+        BAD_BLOB => bad_blob_of(end),
+        BAD_RESULT => bad_result_of(end),
+        OPERATIONS_SPENT => Ok(RemoteCause::OperationsSpent),
+        STOPPED => Ok(RemoteCause::Stopped {
+            decision: Decision::Undecided,
+        }),
+        INPUT_CHANGED => remote_input_changed_of(alloc, end),
+        WRONG_VERSION => wrong_version_of(alloc, end),
+        SOURCE_FAULT => remote_source_fault_of(alloc, end),
+        NO_MEMORY => Ok(RemoteCause::NoMemory),
+        _ => Err(ReplyFault::BadReply),
     }
 }

@@ -1,8 +1,21 @@
-//! What a session answers.
+//! What a session answers, and its payload.
+
+ghost use Rattle.std.specs.Prelude.{◌≡◌, IfOk, Ok};
+ghost use Rattle.rx_base.specs.Results.{Gives};
+ghost use Rattle.rx_session.specs.Replies.{payload_of};
+ghost use Rattle.rx_session.specs.ReplyReading.{reply_of};
+ghost use Rattle.rx_session.specs.Told.{reply_is_readable, told};
+ghost use Rattle.rx_session.specs.declared.reply_fault.ReplyFault.TheVariants.{NoMemory};
 
 use crate::bad::Bad;
-use rx_base::{Bytes, Items, RelPath};
+use crate::payload_replies::reply_by;
+use crate::payloads::message_of;
+use crate::reply_fault::ReplyFault;
+use crate::reply_message::ReplyMessage;
+use rx_base::{Bytes, Items, NoMemory, RelPath};
+use rx_codec::{Message, MessageFault};
 use rx_world::{ChangedInput, Failure, Limit, LocalCause, Origin};
+use std::alloc::Global;
 
 /// What a session answers: one of these, at its end.
 #[derive(Debug, Drop)]
@@ -59,4 +72,31 @@ pub enum Reply {
     Blocked {
         path: RelPath,
     },
+}
+
+impl Reply {
+    /// The payload of the reply's frame: its message.
+    pub fn encode(&self, alloc: Global) -> Result<Vec<u8>, NoMemory>
+        ensures payload { IfOk result (λ payload. payload.items ≡ payload_of self.now) }
+        // It is read again, as far as it is told.
+        ensures again { IfOk result (λ payload. reply_is_readable self.now →
+            reply_of payload.items ≡ Ok (told self.now)) }
+    {
+        let message = message_of(alloc, self)?;
+        message.encode(alloc)
+    }
+
+    /// The reply in a payload. Of a fault of a call its digest and its place aren't told, and are
+    /// read as zeros; the decision that stopped an attempt isn't told, and is read as `Undecided`.
+    #[tactic(auto, unfolding(crate::specs::ReplyReading::reply_of))]
+    pub fn decode(alloc: Global, payload: &[u8]) -> Result<Reply, ReplyFault>
+        ensures { Gives NoMemory (λ reply. reply) result (reply_of payload.now) }
+    {
+        match ReplyMessage::decode(alloc, payload) {
+            Ok(message) => reply_by(alloc, message),
+            Err(MessageFault::Wire(fault)) => Err(ReplyFault::Wire(fault)),
+            Err(MessageFault::NoMemory) => Err(ReplyFault::NoMemory),
+            Err(_) => Err(ReplyFault::BadReply),
+        }
+    }
 }

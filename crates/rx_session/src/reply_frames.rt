@@ -4,11 +4,11 @@ ghost use Rattle.std.specs.Prelude.{◌≡◌, ◌≤◌, ◌<◌, ◌+◌, ◌^
 ghost use Rattle.std.specs.Int.{w32, to_be_bytes};
 ghost use Rattle.rx_session.specs.Replies.{frame_of};
 ghost use Rattle.rx_session.specs.declared.headers.TheConstants.{HEADER_LEN};
-ghost use Rattle.rx_session.specs.declared.payloads.TheConstants.{PLACE_FAULT_LEN};
+ghost use Rattle.rx_session.specs.declared.place_faults.TheConstants.{PLACE_FAULT_LEN};
 ghost use Rattle.rx_session.specs.declared.replies.Reply.TheVariants.{PlaceFault as place_fault};
 
 use crate::headers::{HEADER_LEN, REPLY_KIND};
-use crate::payloads::{PLACE_FAULT_LEN, push_payload, push_place_fault};
+use crate::place_faults::{PLACE_FAULT_LEN, push_place_fault};
 use crate::replies::Reply;
 use rx_base::NoMemory;
 use std::alloc::{AllocError, Global};
@@ -22,12 +22,13 @@ pub fn encode(alloc: Global, reply: &Reply) -> Result<Vec<u8>, NoMemory>
     ensures frame { IfOk result (λ frame. frame.items ≡ frame_of reply.now) }
     ensures size { IfOk result (λ frame. vec_len frame ≤ MAX_REPLY_LEN + 5) }
 {
-    let mut frame = Vec::new(alloc);
-    push_header(&mut frame)?;
-    push_payload(alloc, &mut frame, reply)?;
-    if frame.len() > MAX_REPLY_LEN + HEADER_LEN {
+    let payload = reply.encode(alloc)?;
+    if payload.len() > MAX_REPLY_LEN {
         return Err(AllocError);
     }
+    let mut frame = Vec::with_capacity(alloc, HEADER_LEN + payload.len())?;
+    push_header(&mut frame)?;
+    frame.extend_from_slice(&payload)?;
     put_length(&mut frame);
     Ok(frame)
 }

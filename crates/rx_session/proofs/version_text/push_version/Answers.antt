@@ -1,6 +1,6 @@
 use Rattle.std.proofs.Common.{arith, append_assoc}
 use Rattle.std.proofs.lemmas.Int.{to_z-of_z}
-use Rattle.rx_session.specs.Ends.{version_text}
+use Rattle.rx_session.specs.Versions.{version_text}
 use Rattle.rx_session.proofs.version_text.push_version.Goals as goal
 
 pub returns : goal.returns
