@@ -3,7 +3,6 @@ pub mod EndLemmas
 pub mod FaultLemmas
 pub mod FaultReading
 pub mod FrameLemmas
-pub mod MessageLemmas
 pub mod NameLemmas
 pub mod NumberReading
 pub mod OutputLemmas
@@ -11,6 +10,7 @@ pub mod PathTextLemmas
 pub mod PlaceFaultBytes
 pub mod ReadableLemmas
 pub mod ReplyLemmas
+pub mod RequestLemmas
 pub mod RuleLemmas
 pub mod SeenLemmas
 pub mod TextLemmas

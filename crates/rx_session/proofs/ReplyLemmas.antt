@@ -19,7 +19,7 @@ use Rattle.rx_session.specs.declared.reply_message.ReplyMessage.{ReplyMessage}
 use Rattle.rx_session.specs.Bad.{reason_number}
 use Rattle.rx_session.specs.Ends.{end_of}
 use Rattle.rx_session.specs.Replies.{limit_number, limit_of, message_of, origin_number, origin_of, path_or_none, reason_of}
-use Rattle.rx_session.specs.ReplyReading.{all_failed_of, bad_request_of, blocked_of, done_of, failures_of, first_fields_are, input_missing_of, last_fields_are, limit_path_of, not_remotable_of, one_failure, path_cause_of, place_fault_of, receipt_of, reply_by, reply_by_kind, reply_has_only, reply_input_changed_of, reply_of, reply_source_fault_of, some_path_of, too_large_of, two_failures}
+use Rattle.rx_session.specs.ReplyReading.{HasFields, all_failed_of, bad_request_of, blocked_of, done_of, failures_of, first_fields_are, input_missing_of, last_fields_are, limit_path_of, not_remotable_of, one_failure, path_cause_of, place_fault_of, receipt_of, reply_by, reply_by_kind, reply_has_only, reply_input_changed_of, reply_of, reply_source_fault_of, some_path_of, too_large_of, two_failures}
 use Rattle.rx_session.specs.ReplyMessages.{reply_message_from, reply_message_is_readable, reply_message_parts}
 use Rattle.rx_session.specs.Told.{AreEnds, IsLocal, IsRemote, PathFits, reply_is_readable, told, told_failure}
 use Rattle.rx_session.specs.Typed.{IsOwn, failure_is_typed, reply_is_typed}
@@ -122,3 +122,8 @@ pub payloads_again : {X E : Type 0} (view : X → List ℕ) (r : Result X E) (re
     → IfOk r (λ x. reply_is_readable reply → reply_of (view x) ≡ Ok (told reply))
 payloads_again view (Ok x) reply message e typed read = payload_again reply message (view x) e typed read
 payloads_again view (Err fault) reply message e typed read = tt
+
+-- a payload with the fields of a reply
+pub fields_again : (reply : Reply) (payload : List ℕ) → HasFields payload reply → reply_is_typed reply → reply_is_readable reply → reply_of payload ≡ Ok (told reply)
+unfolding reply_of
+fields_again reply payload fields typed can = rw fields (reply_again reply typed can)

@@ -4,13 +4,16 @@ use Rattle.std.specs.Int.{w32, to_be_bytes, from_be_bytes}
 use Rattle.std.specs.Io.KnownBytes.{IsAtEnd}
 use Rattle.rx_base.specs.Results.{◌>>=◌}
 use Rattle.rx_wire.specs.declared.faults.WireFault.{WireFault}
+use Rattle.rx_wire.specs.declared.faults.WireFault.TheVariants.{Truncated, VarintTooLong, BadType, ZeroField, BadUtf8}
+use Rattle.rx_codec.specs.declared.faults.MessageFault.{MessageFault}
+use Rattle.rx_codec.specs.declared.faults.MessageFault.TheVariants as messages
 use Rattle.rx_session.specs.declared.bad.Bad.{Bad}
 use Rattle.rx_session.specs.declared.bad.BadReason.TheVariants.{CutShort, BadKind, TooLong, BadMessage, Trailing}
 use Rattle.rx_session.specs.declared.bad.SessionFault.{SessionFault}
 use Rattle.rx_session.specs.declared.bad.SessionFault.TheVariants as faults
 use Rattle.rx_session.specs.declared.requests.Request.{Request}
 use Rattle.rx_session.specs.Bad.{bad}
-use Rattle.rx_session.specs.Messages.{offset_of, raw_request_of}
+use Rattle.rx_session.specs.Messages.{raw_request_of}
 use Rattle.rx_session.specs.Rules.{request_by}
 
 -- the bytes of a frame
@@ -21,10 +24,22 @@ frame kind payload = kind ∷ (to_be_bytes w32 (length payload) ++ payload)
 abbrev pub longest_payload : ℕ
 longest_payload = 4194304
 
--- A message is refused by its place in the frame, behind the five bytes of the header. (A place past 64 bits can't come in a payload.)
-abbrev pub or_bad_message : {X : Type 0} → Result X WireFault → Result X Bad
+-- the offset that a refusal names
+abbrev pub offset_of : WireFault → ℕ
+offset_of (Truncated at) = at
+offset_of (VarintTooLong at) = at
+offset_of (BadType at) = at
+offset_of (ZeroField at) = at
+offset_of (BadUtf8 at) = at
+
+-- A message is refused by its place in the frame, behind the five bytes of the header. (A place past 64 bits can't come in a payload, and a
+-- Request, which has no digest and more than one form, has no refusals but those of the wire format.)
+abbrev pub or_bad_message : {X : Type 0} → Result X MessageFault → Result X Bad
 or_bad_message (Ok x) = Ok x
-or_bad_message (Err fault) = Err (bad BadMessage (min (5 + offset_of fault) (2 ^ 64 - 1)))
+or_bad_message (Err (messages.Wire fault)) = Err (bad BadMessage (min (5 + offset_of fault) (2 ^ 64 - 1)))
+or_bad_message (Err messages.NotCanonical) = Err (bad BadMessage 5)
+or_bad_message (Err (messages.BadValue number)) = Err (bad BadMessage 5)
+or_bad_message (Err messages.NoMemory) = Err (bad BadMessage 5)
 
 -- the request in a payload
 unfoldable pub payload_request : List ℕ → List ℕ → Result Request Bad

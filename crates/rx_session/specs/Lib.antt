@@ -10,6 +10,7 @@ pub mod Replies
 pub mod ReplyFaults
 pub mod ReplyMessages
 pub mod ReplyReading
+pub mod RequestMessages
 pub mod Rules
 pub mod Seen
 pub mod Streams

@@ -1,5 +1,5 @@
 -- Which reply a message is, and which payload.
-use Rattle.std.specs.Prelude.{ℕ, pos, ◌==◌, ◌&&◌, Bool, not, List, [], ◌∷◌, length, Option, None, Some, is_none, Result, Ok, if◌then◌else◌}
+use Rattle.std.specs.Prelude.{◌≡◌, ℕ, pos, ◌==◌, ◌&&◌, Bool, not, List, [], ◌∷◌, length, Option, None, Some, is_none, Result, Ok, if◌then◌else◌}
 use Rattle.std.specs.Ordering.{int_eq}
 use Rattle.rx_base.specs.Results.{◌>>=◌}
 use Rattle.rx_codec.specs.Decoding.{any_form, decoded}
@@ -14,7 +14,7 @@ use Rattle.rx_session.specs.declared.reply_fault.ReplyFault.{ReplyFault}
 use Rattle.rx_session.specs.declared.reply_message.ReplyMessage.{ReplyMessage}
 use Rattle.rx_session.specs.Ends.{allows, failure_of}
 use Rattle.rx_session.specs.PathTexts.{own_path}
-use Rattle.rx_session.specs.Replies.{limit_of, origin_of, reason_of}
+use Rattle.rx_session.specs.Replies.{limit_of, message_of, origin_of, reason_of}
 use Rattle.rx_session.specs.ReplyFaults.{bad_reply, or_bad_reply}
 use Rattle.rx_session.specs.ReplyMessages.{reply_message_from, reply_message_parts}
 use Rattle.rx_session.specs.Seen.{changed_of}
@@ -179,3 +179,7 @@ unfoldable pub reply_of : List ℕ → Result Reply ReplyFault
 reply_of payload = do
   message ← or_bad_reply (decoded reply_message_parts reply_message_from any_form payload)
   reply_by message
+
+-- the payload is a message whose fields are those of the reply
+abbrev pub HasFields : List ℕ → Reply → Type 0
+HasFields payload reply = decoded reply_message_parts reply_message_from any_form payload ≡ Ok (message_of reply)

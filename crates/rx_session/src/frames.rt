@@ -12,18 +12,13 @@ ghost use Rattle.std.specs.Prelude.{◌≡◌, ◌≤◌, ◌+◌, IfErr, IfOk, 
 ghost use Rattle.std.specs.Io.KnownBytes.{Consumes};
 ghost use Rattle.rx_world.specs.Causes.{Rose};
 ghost use Rattle.rx_session.specs.Bad.{Decodes};
-ghost use Rattle.rx_session.specs.Frames.{EndsRead, len_in, payload_request, reach_of, request_of};
-ghost use Rattle.rx_session.specs.Messages.{offset_of};
-ghost use Rattle.rx_session.specs.Streams.{IsNoCut, IsNoCutPast};
+ghost use Rattle.rx_session.specs.Frames.{EndsRead, len_in, reach_of, request_of};
+ghost use Rattle.rx_session.specs.Streams.{IsNoCutPast};
 
 use crate::bad::{BadReason, SessionFault, refuse};
 use crate::headers::{HEADER_LEN, REQUEST_KIND};
-use crate::message_fault::MessageFault;
-use crate::messages::read_raw_request;
 use crate::requests::Request;
-use crate::rules::request_by;
 use crate::streams::read_up_to;
-use rx_wire::WireFault;
 use rx_world::Source;
 use std::alloc::Global;
 
@@ -60,7 +55,7 @@ pub fn read_request<S: Source>(
         return refuse(BadReason::CutShort, read.len() as u64);
     }
     let (_, payload) = read.split_at(HEADER_LEN);
-    let request = payload_request(alloc, root, payload)?;
+    let request = Request::decode(alloc, payload, root)?;
     read_up_to(source, read, HEADER_LEN + len + 1)?;
     if read.len() > HEADER_LEN + len {
         return refuse(BadReason::Trailing, (HEADER_LEN + len) as u64);
@@ -86,36 +81,4 @@ fn payload_len(header: &[u8]) -> Result<usize, SessionFault>
         return refuse(BadReason::TooLong, len as u64);
     }
     Ok(len)
-}
-
-/// The request in a payload.
-#[tactic(auto, unfolding(crate::specs::Frames::payload_request))]
-fn payload_request(alloc: Global, root: &str, payload: &[u8]) -> Result<Request, SessionFault>
-    ensures request { Decodes (λ request. request) result (payload_request root.now payload.now) }
-    ensures other { IfErr result IsNoCut }
-{
-    match read_raw_request(alloc, payload) {
-        Ok(raw) => request_by(alloc, root, raw),
-        Err(MessageFault::Wire(fault)) => {
-            refuse(
-                BadReason::BadMessage,
-                (HEADER_LEN as u64).saturating_add(offset_of(fault)),
-            )
-        }
-        Err(MessageFault::NoMemory) => Err(SessionFault::NoMemory),
-    }
-}
-
-/// The offset that a refusal names.
-fn offset_of(fault: WireFault) -> u64
-    ensures { result ≡ offset_of fault }
-{
-    let at = match fault {
-        WireFault::Truncated(at) => at,
-        WireFault::VarintTooLong(at) => at,
-        WireFault::BadType(at) => at,
-        WireFault::ZeroField(at) => at,
-        WireFault::BadUtf8(at) => at,
-    };
-    at as u64
 }

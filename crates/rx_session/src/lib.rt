@@ -12,9 +12,8 @@ mod frames;
 mod headers;
 mod jobs;
 mod local_ends;
-mod message_fault;
-mod messages;
 mod output_rules;
+mod pair_message;
 mod path_texts;
 mod paths_in;
 mod payload_replies;
@@ -35,6 +34,7 @@ mod streams;
 mod varints;
 mod version_numbers;
 mod version_text;
+mod written_requests;
 
 pub use bad::{Bad, BadReason, SessionFault};
 pub use frames::{MAX_REQUEST_LEN, read_request};

@@ -3,8 +3,10 @@
 ghost use Rattle.std.specs.Prelude.{◌≡◌, IfOk, Ok};
 ghost use Rattle.rx_base.specs.Results.{Gives};
 ghost use Rattle.rx_session.specs.Replies.{payload_of};
-ghost use Rattle.rx_session.specs.ReplyReading.{reply_of};
+ghost use Rattle.rx_session.specs.ReplyReading.{HasFields, reply_of};
 ghost use Rattle.rx_session.specs.Told.{reply_is_readable, told};
+ghost use Rattle.rx_session.specs.Typed.{reply_is_typed};
+ghost use Rattle.rx_session.specs.declared.replies.Reply.{Reply};
 ghost use Rattle.rx_session.specs.declared.reply_fault.ReplyFault.TheVariants.{NoMemory};
 
 use crate::bad::Bad;
@@ -88,15 +90,25 @@ impl Reply {
 
     /// The reply in a payload. Of a fault of a call its digest and its place aren't told, and are
     /// read as zeros; the decision that stopped an attempt isn't told, and is read as `Undecided`.
-    #[tactic(auto, unfolding(crate::specs::ReplyReading::reply_of))]
     pub fn decode(alloc: Global, payload: &[u8]) -> Result<Reply, ReplyFault>
-        ensures { Gives NoMemory (λ reply. reply) result (reply_of payload.now) }
+        ensures exact { Gives NoMemory (λ reply. reply) result (reply_of payload.now) }
+        // Whatever has the fields of a reply is read as that reply, as far as it is told.
+        ensures only { (reply : Reply) → reply_is_typed reply → reply_is_readable reply →
+            HasFields payload.now reply → Gives NoMemory (λ reply. reply) result (Ok (told reply)) }
     {
-        match ReplyMessage::decode(alloc, payload) {
-            Ok(message) => reply_by(alloc, message),
-            Err(MessageFault::Wire(fault)) => Err(ReplyFault::Wire(fault)),
-            Err(MessageFault::NoMemory) => Err(ReplyFault::NoMemory),
-            Err(_) => Err(ReplyFault::BadReply),
-        }
+        decode_exactly(alloc, payload)
+    }
+}
+
+/// The reply in a payload, or the first refusal: that of the wire format, or of its values.
+#[tactic(auto, unfolding(crate::specs::ReplyReading::reply_of))]
+fn decode_exactly(alloc: Global, payload: &[u8]) -> Result<Reply, ReplyFault>
+    ensures { Gives NoMemory (λ reply. reply) result (reply_of payload.now) }
+{
+    match ReplyMessage::decode(alloc, payload) {
+        Ok(message) => reply_by(alloc, message),
+        Err(MessageFault::Wire(fault)) => Err(ReplyFault::Wire(fault)),
+        Err(MessageFault::NoMemory) => Err(ReplyFault::NoMemory),
+        Err(_) => Err(ReplyFault::BadReply),
     }
 }

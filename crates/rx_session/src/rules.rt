@@ -17,21 +17,21 @@ use rx_world::{Kind, Strategy};
 use std::alloc::Global;
 
 /// The only version of the protocol.
-const VERSION: u64 = 1;
+pub(crate) const VERSION: u64 = 1;
 
 /// The number of each strategy.
-const LOCAL: u64 = 1;
+pub(crate) const LOCAL: u64 = 1;
 
-const REMOTE: u64 = 2;
+pub(crate) const REMOTE: u64 = 2;
 
-const REMOTE_LOCAL_FALLBACK: u64 = 3;
+pub(crate) const REMOTE_LOCAL_FALLBACK: u64 = 3;
 
-const RACING: u64 = 4;
+pub(crate) const RACING: u64 = 4;
 
 /// The number of each kind.
-const TOOL: u64 = 1;
+pub(crate) const TOOL: u64 = 1;
 
-const COMPILE: u64 = 2;
+pub(crate) const COMPILE: u64 = 2;
 
 /// The longest timeout: 2^32 - 1 seconds.
 const MAX_TIMEOUT_SECONDS: u64 = 4_294_967_295;

@@ -1,0 +1,36 @@
+use Rattle.std.proofs.Common.{◌≡◌, Ok, map, refl}
+use Rattle.std.proofs.lemmas.List.{append-nil}
+use Rattle.rx_codec.specs.Contents.{each_in}
+use Rattle.rx_codec.proofs.ContentLaws.{all_unit, contents-append, contents-numbered, number_again, text_again, texts_again}
+use Rattle.rx_session.specs.Messages.{pair_message, pair_message_from, pairs_put, raw_request_fields, raw_request_from}
+use Rattle.rx_session.proofs.RequestLemmas.{pairs_again}
+use Rattle.rx_session.proofs.raw_request.RawRequestMessage.write.Goals as goal
+
+pub returns-clause-again : goal.returns-clause-again
+unfolding raw_request_fields raw_request_from
+returns-clause-again c = λ ok can.
+    let x = c.args.self.now in
+    let environment : each_in pair_message_from (pairs_put x.environment) ≡ Ok (map pair_message x.environment) =
+    rw (c.in_ok-environment.ensures, c.as_slice.ensures) at (c.in_ok-messages.ensures.again refl (all_unit c.in_ok-environment.environment)) in
+    let platform : each_in pair_message_from (pairs_put x.platform) ≡ Ok (map pair_message x.platform) =
+    rw (c.in_ok-platform.ensures, c.as_slice-2.ensures) at (c.in_ok-messages-2.ensures.again refl (all_unit c.in_ok-platform.platform)) in
+    simp (contents-append, contents-numbered, append-nil) (
+    rw (
+      environment,
+      platform,
+      pairs_again x.environment,
+      pairs_again x.platform,
+      number_again x.version,
+      text_again x.root,
+      texts_again x.words,
+      text_again x.working_directory,
+      number_again x.strategy,
+      number_again x.kind,
+      texts_again x.inputs,
+      texts_again x.toolchain_inputs,
+      texts_again x.outputs,
+      number_again x.accept_cached,
+      number_again x.watch,
+      number_again x.timeout_seconds,
+    ) refl
+    )
