@@ -3,14 +3,14 @@
 ghost use Rattle.std.specs.Prelude.{◌≡◌, IfOk};
 ghost use Rattle.rx_base.specs.Results.{Gives};
 ghost use Rattle.rx_wire.specs.Integers.{sign_extended};
-ghost use Rattle.rx_session.specs.Ends.{allows, end_has_only, end_of, exit_of, failure_of, local_failure_of, local_fields, non_zero_of, remote_failure_of, remote_fields};
+ghost use Rattle.rx_session.specs.Ends.{allows, end_has_only, end_of, exit_of, failure_of, local_failure_of, non_zero_of, remote_failure_of};
 ghost use Rattle.rx_session.specs.Typed.{IsInt32, failure_is_typed};
 ghost use Rattle.rx_session.specs.declared.reply_fault.ReplyFault.TheVariants.{NoMemory};
 
 use crate::end_message::EndMessage;
 use crate::fields::end;
-use crate::local_ends::{LOCAL, bare_end, local_cause_of, local_end};
-use crate::remote_ends::{NON_ZERO, REMOTE, remote_cause_of, remote_end};
+use crate::local_ends::{LOCAL, bare_end, local_cause_of, local_end, local_fields};
+use crate::remote_ends::{NON_ZERO, REMOTE, remote_cause_of, remote_end, remote_fields};
 use crate::reply_fault::ReplyFault;
 use rx_base::NoMemory;
 use rx_wire::int32_of;
@@ -58,36 +58,6 @@ fn end_has_only(numbers: &[u32], message: &EndMessage) -> bool
         && allows(numbers, end::SECOND_SEEN, message.second.is_none())
         && allows(numbers, end::FAULTS, message.faults.is_empty())
         && allows(numbers, end::N, message.n == 0)
-}
-
-/// The fields of each cause of a local attempt.
-fn local_fields(cause: u64) -> &'static [u32]
-    ensures { result.now ≡ local_fields cause }
-{
-    match cause {
-        1 => &[end::VALUE],
-        2 => &[end::PATH],
-        3 => &[end::PATH, end::FIRST_SEEN, end::SECOND_SEEN],
-        4 => &[end::VALUE, end::N],
-        5 => &[end::PATH],
-        _ => &[],
-    }
-}
-
-/// The fields of each cause of a remote attempt.
-fn remote_fields(cause: u64) -> &'static [u32]
-    ensures { result.now ≡ remote_fields cause }
-{
-    match cause {
-        1 => &[end::FAULTS],
-        2 => &[end::FIRST_SEEN, end::SECOND_SEEN],
-        3 => &[end::VALUE],
-        6 => &[end::PATH, end::FIRST_SEEN, end::SECOND_SEEN],
-        7 => &[end::VALUE],
-        8 => &[end::PATH],
-        9 => &[end::PATH],
-        _ => &[],
-    }
 }
 
 /// The exit code that a value tells.

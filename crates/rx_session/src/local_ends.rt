@@ -2,11 +2,12 @@
 
 ghost use Rattle.std.specs.Prelude.{◌≡◌, IfOk};
 ghost use Rattle.rx_base.specs.Results.{Gives};
-ghost use Rattle.rx_session.specs.Ends.{bare_end, bench_fault_of, changed_end, input_changed_of, local_cause_of, local_end, output_limit_number, output_limit_of, output_missing_of, output_too_large_of, path_end, source_fault_of, step_number, step_of};
+ghost use Rattle.rx_session.specs.Ends.{bare_end, bench_fault_of, changed_end, input_changed_of, local_cause_of, local_end, local_fields, output_limit_number, output_limit_of, output_missing_of, output_too_large_of, path_end, source_fault_of, step_number, step_of};
 ghost use Rattle.rx_session.specs.Typed.{IsOwn, cause_is_typed};
 ghost use Rattle.rx_session.specs.declared.reply_fault.ReplyFault.TheVariants.{NoMemory};
 
 use crate::end_message::EndMessage;
+use crate::fields::end;
 use crate::path_texts::{path_text, read_path};
 use crate::reply_fault::ReplyFault;
 use crate::seen_values::{read_changed, seen_message};
@@ -150,6 +151,20 @@ pub(crate) fn local_end(alloc: Global, cause: &Cause) -> Result<EndMessage, NoMe
         Cause::SourceFault { path } => path_end(alloc, LOCAL, SOURCE_FAULT, path),
         Cause::Stopped { .. } => Ok(bare_end(alloc, LOCAL, STOPPED)),
         Cause::NoMemory => Ok(bare_end(alloc, LOCAL, NO_MEMORY)),
+    }
+}
+
+/// The fields of each cause beside attempt and cause.
+pub(crate) fn local_fields(cause: u64) -> &'static [u32]
+    ensures { result.now ≡ local_fields cause }
+{
+    match cause {
+        BENCH_FAULT => &[end::VALUE],
+        OUTPUT_MISSING => &[end::PATH],
+        INPUT_CHANGED => &[end::PATH, end::FIRST_SEEN, end::SECOND_SEEN],
+        OUTPUT_TOO_LARGE => &[end::VALUE, end::N],
+        SOURCE_FAULT => &[end::PATH],
+        _ => &[],
     }
 }
 

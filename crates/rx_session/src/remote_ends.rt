@@ -2,12 +2,13 @@
 
 ghost use Rattle.std.specs.Prelude.{◌≡◌, IfOk};
 ghost use Rattle.rx_base.specs.Results.{Gives};
-ghost use Rattle.rx_session.specs.Ends.{bad_blob_of, bad_result_of, call_failed_end, call_failed_of, digest_alone, digest_seen, remote_cause_of, remote_end, remote_input_changed_of, remote_source_fault_of, result_fault_number, result_fault_of, wrong_version_end, wrong_version_of};
+ghost use Rattle.rx_session.specs.Ends.{bad_blob_of, bad_result_of, call_failed_end, call_failed_of, digest_alone, digest_seen, remote_cause_of, remote_end, remote_fields, remote_input_changed_of, remote_source_fault_of, result_fault_number, result_fault_of, wrong_version_end, wrong_version_of};
 ghost use Rattle.rx_session.specs.Typed.{AreInt32, remote_cause_is_typed};
 ghost use Rattle.rx_session.specs.declared.reply_fault.ReplyFault.TheVariants.{NoMemory};
 
 use crate::call_faults::{packed_faults, read_faults};
 use crate::end_message::EndMessage;
+use crate::fields::end;
 use crate::local_ends::{bare_end, changed_end, path_end};
 use crate::path_texts::read_path;
 use crate::reply_fault::ReplyFault;
@@ -122,6 +123,22 @@ pub(crate) fn remote_end(alloc: Global, cause: &RemoteCause) -> Result<EndMessag
         RemoteCause::WrongVersion { low, high } => wrong_version_end(alloc, *low, *high),
         RemoteCause::SourceFault { path } => path_end(alloc, REMOTE, SOURCE_FAULT, path),
         RemoteCause::NoMemory => Ok(bare_end(alloc, REMOTE, NO_MEMORY)),
+    }
+}
+
+/// The fields of each cause beside attempt and cause.
+pub(crate) fn remote_fields(cause: u64) -> &'static [u32]
+    ensures { result.now ≡ remote_fields cause }
+{
+    match cause {
+        CALL_FAILED => &[end::FAULTS],
+        BAD_BLOB => &[end::FIRST_SEEN, end::SECOND_SEEN],
+        BAD_RESULT => &[end::VALUE],
+        INPUT_CHANGED => &[end::PATH, end::FIRST_SEEN, end::SECOND_SEEN],
+        NON_ZERO => &[end::VALUE],
+        WRONG_VERSION => &[end::PATH],
+        SOURCE_FAULT => &[end::PATH],
+        _ => &[],
     }
 }
 
