@@ -7,6 +7,9 @@ mod ends;
 mod replies;
 mod requests;
 mod seen;
+mod shown_ends;
+mod shown_replies;
+mod shown_values;
 mod streams;
 
 use crate::boards::Publications;
@@ -30,8 +33,11 @@ impl Calls for Session {
             b"taken" => requests::answer_taken(alloc, row, answer),
             b"command" => requests::answer_command(alloc, row, answer),
             b"inputs" => requests::answer_inputs(alloc, row, answer),
+            b"written" => requests::answer_written(alloc, row, answer),
+            b"payload" => requests::answer_payload(alloc, row, answer),
             b"reply" => replies::answer_reply(alloc, row, answer),
             b"room" => replies::answer_room(alloc, row, answer),
+            b"decode" => shown_replies::answer_decode(alloc, row, answer),
             b"write" => streams::answer_write(alloc, row, answer),
             b"board" => self.publications.open(row, answer),
             b"next" => self.publications.answer_next(answer),

@@ -43,10 +43,7 @@ pub(crate) fn answer_request(
     let mut all = Vec::new(alloc);
     let request = read(alloc, frame, script, &mut all);
     answer.number(all.len() as u64)?;
-    match &request {
-        Ok(request) => write_request(request, answer)?,
-        Err(fault) => write_fault(fault, answer)?,
-    }
+    write_result(&request, answer)?;
     Ok(())
 }
 
@@ -93,6 +90,40 @@ pub(crate) fn answer_inputs(
     let inputs = declared_inputs(alloc, &request)?;
     write_paths(inputs.as_slice(), answer)?;
     Ok(())
+}
+
+/// `written FRAME`: the payload that is written for the request of a frame, and the request in it.
+pub(crate) fn answer_written(
+    alloc: Global,
+    row: &mut Row<'_>,
+    answer: &mut Answer,
+) -> Result<(), RowFault> {
+    let request = asked(alloc, row)?;
+    let payload = request.encode(alloc)?;
+    answer.bytes(&payload)?;
+    write_result(&Request::decode(alloc, &payload, "/r"), answer)?;
+    Ok(())
+}
+
+/// `payload PAYLOAD`: the request in a payload, or the fault.
+pub(crate) fn answer_payload(
+    alloc: Global,
+    row: &mut Row<'_>,
+    answer: &mut Answer,
+) -> Result<(), RowFault> {
+    let payload = read_frame(alloc, row)?;
+    write_result(&Request::decode(alloc, &payload, "/r"), answer)?;
+    Ok(())
+}
+
+fn write_result(
+    request: &Result<Request, SessionFault>,
+    answer: &mut Answer,
+) -> Result<(), AllocError> {
+    match request {
+        Ok(request) => write_request(request, answer),
+        Err(fault) => write_fault(fault, answer),
+    }
 }
 
 /// The fields of a request that aren't empty.
