@@ -1,3 +1,4 @@
+pub mod DecodedLemmas
 pub mod DistinctLemmas
 pub mod EndLemmas
 pub mod FaultLemmas

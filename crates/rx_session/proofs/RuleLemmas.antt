@@ -28,6 +28,18 @@ past_eight true true false d f g h i rest e = absurd (cc e)
 past_eight true false c d f g h i rest e = absurd (cc e)
 past_eight false b c d f g h i rest e = absurd (cc e)
 
+eighth_holds : (a b c d f g h i : Bool) (rest : Option ℕ)
+    → unless a 3 (unless b 4 (unless c 5 (unless d 6 (unless f 7 (unless g 8 (unless h 9 (unless i 10 rest))))))) ≡ None → i ≡ true
+eighth_holds true true true true true true true true rest e = refl
+eighth_holds true true true true true true true false rest e = absurd (cc e)
+eighth_holds true true true true true true false i rest e = absurd (cc e)
+eighth_holds true true true true true false h i rest e = absurd (cc e)
+eighth_holds true true true true false g h i rest e = absurd (cc e)
+eighth_holds true true true false f g h i rest e = absurd (cc e)
+eighth_holds true true false d f g h i rest e = absurd (cc e)
+eighth_holds true false c d f g h i rest e = absurd (cc e)
+eighth_holds false b c d f g h i rest e = absurd (cc e)
+
 last_fits : (raw : RawRequest) → bad_last_field raw ≡ None → raw.timeout_seconds < 4294967296
 unfolding bad_last_field
 last_fits raw e =
@@ -44,3 +56,10 @@ timeout_fits raw e =
     past_eight (words_hold raw.words) (environment_holds raw.environment) (directory_holds raw.working_directory) (is_within 1 4 raw.strategy) (is_within 1 2 raw.kind)
     (paths_hold raw.inputs) (paths_hold raw.toolchain_inputs) (outputs_hold raw.working_directory raw.inputs raw.toolchain_inputs raw.outputs) (bad_last_field raw) e
     )
+
+-- and has outputs that hold
+pub outputs-hold : (raw : RawRequest) → bad_field raw ≡ None → outputs_hold raw.working_directory raw.inputs raw.toolchain_inputs raw.outputs ≡ true
+unfolding bad_field
+outputs-hold raw e =
+    eighth_holds (words_hold raw.words) (environment_holds raw.environment) (directory_holds raw.working_directory) (is_within 1 4 raw.strategy) (is_within 1 2 raw.kind)
+    (paths_hold raw.inputs) (paths_hold raw.toolchain_inputs) (outputs_hold raw.working_directory raw.inputs raw.toolchain_inputs raw.outputs) (bad_last_field raw) e
