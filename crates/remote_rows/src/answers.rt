@@ -1,8 +1,7 @@
 //! Asks and outcomes, as words of answers.
 
-use crate::causes::write_cause;
-use rx_base::{Digest, Items, Text};
-use rx_exec_messages::Ask as Call;
+use rx_base::{Digest, Text};
+use rx_farm_values::write_remote_cause;
 use rx_remote::Ask;
 use rx_row_values::write_digest;
 use rx_rows::Answer;
@@ -50,7 +49,7 @@ pub(crate) fn write_end(
         End::Done { outcome, origin } => write_done(outcome, *origin, answer),
         End::Failed { cause } => {
             answer.word("Failed")?;
-            write_cause(alloc, cause, answer)
+            write_remote_cause(alloc, cause, answer)
         }
     }
 }
@@ -72,68 +71,4 @@ fn write_done(outcome: &Outcome, origin: Origin, answer: &mut Answer) -> Result<
 fn write_file(file: &FileOut, answer: &mut Answer) -> Result<(), AllocError> {
     answer.text(file.path.as_str().as_bytes())?;
     answer.text(file.bytes.as_slice())
-}
-
-/// Writes the calls that were made on a farm's client, in order.
-pub(crate) fn write_calls(
-    alloc: Global,
-    calls: &[Call],
-    answer: &mut Answer,
-) -> Result<(), AllocError> {
-    answer.word("calls")?;
-    for call in calls {
-        write_call(alloc, call, answer)?;
-    }
-    Ok(())
-}
-
-/// Writes a call by its name, with the digests or the name that it was about.
-fn write_call(alloc: Global, call: &Call, answer: &mut Answer) -> Result<(), AllocError> {
-    match call {
-        Call::Capabilities => answer.word("capabilities"),
-        Call::GetResult(action) => write_named(alloc, "get_result", action, answer),
-        Call::FindMissing(digests) => write_list(alloc, "find_missing", digests, answer),
-        Call::Update(digests) => write_list(alloc, "update", digests, answer),
-        Call::Read(digests) => write_list(alloc, "read", digests, answer),
-        Call::WriteStream(digest) => write_named(alloc, "write_stream", digest, answer),
-        Call::ReadStream(digest) => write_named(alloc, "read_stream", digest, answer),
-        Call::Execute {
-            action,
-            skip_cache: false,
-        } => write_named(alloc, "execute", action, answer),
-        Call::Execute {
-            action,
-            skip_cache: true,
-        } => write_named(alloc, "execute skip_cache", action, answer),
-        Call::Wait(name) => {
-            answer.word("wait")?;
-            answer.text(name.as_str().as_bytes())
-        }
-        Call::NextOperation => answer.word("next_operation"),
-    }
-}
-
-/// Writes a word and a digest.
-fn write_named(
-    alloc: Global,
-    word: &str,
-    digest: &Digest,
-    answer: &mut Answer,
-) -> Result<(), AllocError> {
-    answer.word(word)?;
-    write_digest(alloc, answer, digest)
-}
-
-/// Writes a word and digests.
-fn write_list(
-    alloc: Global,
-    word: &str,
-    digests: &Items<Digest>,
-    answer: &mut Answer,
-) -> Result<(), AllocError> {
-    answer.word(word)?;
-    for digest in digests.as_slice() {
-        write_digest(alloc, answer, digest)?;
-    }
-    Ok(())
 }

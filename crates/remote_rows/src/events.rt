@@ -1,12 +1,13 @@
 //! What is heard, as events of rows: see the headings of `stdin`.
 
-use crate::faults::{read_blobs, read_fault};
+use crate::faults::read_blobs;
 use crate::results::{read_name, read_result};
 use rx_base::{Bytes, Items, Text};
-use rx_exec_messages::{Capabilities, ExecuteResponse, Operation};
+use rx_exec_messages::{ExecuteResponse, Operation};
+use rx_farm_values::{read_capabilities, read_fault};
 use rx_remote::Heard;
 use rx_rows::{Row, RowFault};
-use rx_world::{Attempt, Decision, SemVer};
+use rx_world::{Attempt, Decision};
 use std::alloc::Global;
 
 /// The event of this word, whose arguments are the next words.
@@ -28,27 +29,7 @@ pub(crate) fn read_heard(alloc: Global, word: &[u8], row: &mut Row<'_>) -> Resul
 
 /// `told LOW HIGH`: what the farm says of itself.
 fn read_told(row: &mut Row<'_>) -> Result<Heard, RowFault> {
-    let low = read_version(row)?;
-    let high = read_version(row)?;
-    Ok(Heard::Told(Capabilities { most: 0, low, high }))
-}
-
-/// The next word, a version by its name, or `none`.
-fn read_version(row: &mut Row<'_>) -> Result<Option<SemVer>, RowFault> {
-    let (major, minor) = match row.word()? {
-        b"none" => return Ok(None),
-        b"1.9.0" => (1, 9),
-        b"2.0.0" => (2, 0),
-        b"2.1.0" => (2, 1),
-        b"3.0.0" => (3, 0),
-        b"3.1.0" => (3, 1),
-        _ => return Err(RowFault::BadCall),
-    };
-    Ok(Some(SemVer {
-        major,
-        minor,
-        patch: 0,
-    }))
+    Ok(Heard::Told(read_capabilities(row)?))
 }
 
 /// `cached RESULT`: what the action cache has.

@@ -3,7 +3,6 @@
 
 mod answers;
 mod attempts;
-mod causes;
 mod commands;
 mod events;
 mod faults;

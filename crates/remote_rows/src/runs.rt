@@ -4,7 +4,7 @@
 ghost use Rattle.std.specs.Prelude.{IfOk};
 ghost use Rattle.rx_remote.specs.Actions.{AreNamed};
 
-use crate::answers::{write_calls, write_end};
+use crate::answers::write_end;
 use crate::commands::placed_command;
 use crate::lines::read_lines;
 use crate::races::Race;
@@ -12,6 +12,7 @@ use rx_base::{Bytes, Items, digest_of};
 use rx_blobs::Presence;
 use rx_exec_messages::Script;
 use rx_fakes::{QuietSources, SourceEntries};
+use rx_farm_values::write_asks;
 use rx_remote::{RemoteJob, run_remote};
 use rx_row_values::path_of;
 use rx_rows::{Answer, Row, RowFault};
@@ -99,7 +100,7 @@ pub(crate) fn call(
         &mut sources,
         &mut race,
     );
-    write_calls(alloc, farm.asks(), answer)?;
+    write_asks(alloc, farm.asks(), answer)?;
     answer.word("faults")?;
     answer.number(farm.faults())?;
     write_end(alloc, &end, answer)?;

@@ -1,4 +1,4 @@
-//! The causes of a failed attempt, as words of answers.
+//! The causes of remote attempts that failed, in answers.
 
 use rx_base::{Digest, RelPath};
 use rx_row_values::{write_changed, write_digest};
@@ -8,7 +8,7 @@ use std::alloc::{AllocError, Global};
 use std::fmt::Debug;
 
 /// Writes a cause by its name, with its values.
-pub(crate) fn write_cause(
+pub fn write_remote_cause(
     alloc: Global,
     cause: &RemoteCause,
     answer: &mut Answer,
