@@ -8,7 +8,7 @@ use Rattle.rx_world.specs.Links.{Wire, Goes, Meets}
 use Rattle.rx_grpc.specs.declared.call.Call.{Call}
 use Rattle.rx_grpc.specs.Heard.{Heard, nothing, heard}
 use Rattle.rx_grpc.specs.Moves.{Moves, Exchange, carried, is_for, is_away}
-use Rattle.rx_grpc.specs.Conversation.{Conversation, Tells, Hears, Drains}
+use Rattle.rx_grpc.specs.Conversation.{Conversation, Tells, CallHears, Drains}
 use Rattle.rx_grpc.proofs.UseLemmas.{heard_append}
 use Rattle.rx_grpc.proofs.MoveLemmas.{moves_trans}
 use Rattle.rx_grpc.proofs.DrainLemmas.{any_append}
@@ -37,7 +37,7 @@ talk_on w n r m c d given fed out t moves carries meets =
       meets = meets_rule n m _ _ meets tells;
     }
 
-pub hears_exchange : (w n : Option Wire) (r m : List ℕ → List ℕ → Type 0) (c d : Reading) (room left : ℕ) (call : Call) → Hears w r c call → Exchange w n c d room left → Meets n m → Hears n m d call
+pub hears_exchange : (w n : Option Wire) (r m : List ℕ → List ℕ → Type 0) (c d : Reading) (room left : ℕ) (call : Call) → CallHears w r c call → Exchange w n c d room left → Meets n m → CallHears n m d call
 unfolding talk_on
 hears_exchange w n r m c d room left call h x meets = record {
   talk = talk_on w n r m c d x.given x.fed [] h.talk x.moves x.carries meets;
@@ -59,7 +59,7 @@ talk_moved w r c d out t moves =
       meets = rw (sent, received) t.meets;
     }
 
-pub hears_moved : (w : Option Wire) (r : List ℕ → List ℕ → Type 0) (c d : Reading) (call : Call) → Hears w r c call → Moves c d [] [] [] → Hears w r d call
+pub hears_moved : (w : Option Wire) (r : List ℕ → List ℕ → Type 0) (c d : Reading) (call : Call) → CallHears w r c call → Moves c d [] [] [] → CallHears w r d call
 unfolding talk_moved
 hears_moved w r c d call h moves = record {
   talk = talk_moved w r c d [] h.talk moves;
@@ -67,7 +67,7 @@ hears_moved w r c d call h moves = record {
   away_is = h.away_is ∙ ap (list_any is_away) (sym (append-nil h.talk.handed));
 }
 
-pub hears_drained : (w : Option Wire) (r : List ℕ → List ℕ → Type 0) (c d : Reading) (a b : Call) → Hears w r c a → Drains c d a b → Hears w r d b
+pub hears_drained : (w : Option Wire) (r : List ℕ → List ℕ → Type 0) (c d : Reading) (a b : Call) → CallHears w r c a → Drains c d a b → CallHears w r d b
 unfolding talk_moved
 hears_drained w r c d a b h is =
     let handed = h.talk.handed in

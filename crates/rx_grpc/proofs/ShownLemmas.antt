@@ -14,14 +14,14 @@ use Rattle.rx_grpc.specs.declared.call.Call.{Call}
 use Rattle.rx_grpc.specs.Heard.{Heard, nothing, heard}
 use Rattle.rx_grpc.specs.Answer.{unary}
 use Rattle.rx_grpc.specs.Uses.{events_at}
-use Rattle.rx_grpc.specs.Conversation.{Hears}
+use Rattle.rx_grpc.specs.Conversation.{CallHears}
 use Rattle.rx_grpc.specs.Shown.{shown, Shows, Breaks}
 use Rattle.rx_grpc.proofs.UseLemmas.{front_shows, unary_ended}
 use Rattle.rx_grpc.proofs.HearLemmas.{reads_from}
 
 -- the connection of a conversation, with the stream that is held
 pub record IsHeardAt (wire : Option Wire) (rule : List ℕ → List ℕ → Type 0) (conn : Reading) (call : Call) : Type 0 where
-  pub hears : Hears wire rule conn call
+  pub hears : CallHears wire rule conn call
   pub opened : is_open conn.state call.id ≡ true
   pub kept : (stream_at conn.state call.id).client_reset ≡ false
   pub empty : conn.state.events ≡ []

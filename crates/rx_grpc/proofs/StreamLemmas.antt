@@ -11,7 +11,7 @@ use Rattle.rx_h2conn.specs.Output.{AnswersAt, reset}
 use Rattle.rx_h2conn.specs.Open.{refusal, next_id, opened}
 use Rattle.rx_h2conn.specs.Conn.{started}
 use Rattle.rx_h2conn.specs.Part.{is_on, leaves_out}
-use Rattle.rx_h2conn.specs.History.{Opens as OpensCall, Resets, unless, run}
+use Rattle.rx_h2conn.specs.History.{Opens, Resets, unless, run}
 use Rattle.rx_h2conn.specs.Heard.{all_handed, events_of}
 use Rattle.rx_h2conn.proofs.BlockLemmas.{count_given_up}
 use Rattle.rx_h2conn.proofs.ConnLemmas.{opened-fault, reset-fault}
@@ -25,7 +25,7 @@ use Rattle.rx_grpc.specs.Heard.{nothing, heard}
 use Rattle.rx_grpc.specs.Moves.{Moves, is_away, is_for}
 use Rattle.rx_grpc.specs.Conversation.{IsWaiting, Tells}
 use Rattle.rx_grpc.specs.Shown.{IsKept, IsOpenAt}
-use Rattle.rx_grpc.specs.Transport.{TransportOf, IsStarted, IsReady, GivesUp, Opens}
+use Rattle.rx_grpc.specs.Transport.{TransportOf, IsStarted, IsReady, GivesUp, OpensStream}
 use Rattle.rx_grpc.proofs.MoveLemmas.{moves_none, moves_trans}
 use Rattle.rx_grpc.proofs.ConversationLemmas.{talk_moved, meets_rule}
 use Rattle.rx_grpc.proofs.TurnLemmas.{unless_none}
@@ -69,13 +69,13 @@ unfolding opened
 opened-events s fields last = refl
 
 -- a stream that is opened after another was given up
-pub opens_next : (o : Option ConnFault) (old mid new : Reading) (fields : List Field) (last : Bool) (n : ℕ) → refusal mid.state ≡ o → GivesUp old mid → AnswersAt o mid.state (opened mid.state fields last) (next_id mid.state) new.state (Ok n) → new.rest ≡ mid.rest → IsHeld new.state n false → Opens old new n × (refusal old.state ≡ None)
+pub opens_next : (o : Option ConnFault) (old mid new : Reading) (fields : List Field) (last : Bool) (n : ℕ) → refusal mid.state ≡ o → GivesUp old mid → AnswersAt o mid.state (opened mid.state fields last) (next_id mid.state) new.state (Ok n) → new.rest ≡ mid.rest → IsHeld new.state n false → OpensStream old new n × (refusal old.state ≡ None)
 opens_next (Some e) old mid new fields last n is g d rest held = let no = d.1 in absurd cc
 opens_next None old mid new fields last n is g d rest held =
     let s = mid.state in
     let state : unless (refusal s) s (opened s fields last) ≡ new.state = rw is (sym d.0) in
     let step : Moves mid new [] [] [] = record {
-      calls = OpensCall fields last ∷ [];
+      calls = Opens fields last ∷ [];
       run_is = ap (λ (x : Session). record { state = x; rest = mid.rest }) state ∙ ap (λ (x : List ℕ). record { state = new.state; rest = x }) (sym rest);
       given_is = refl;
       fed_is = refl;
@@ -142,7 +142,7 @@ kept_silent wire rule ended conn k =
     none_for (next_id conn.state) k.talk.handed (ap (filter (is_on (next_id conn.state))) (sym all) ∙ silent) k.stays
 
 -- a stream was opened for the next call
-pub starts : (wire : Option Wire) (rule : List ℕ → List ℕ → Type 0) (ended : Bool) (old new : Reading) (n : ℕ) → IsKept wire rule ended old → Opens old new n → IsStarted wire rule ended new n
+pub starts : (wire : Option Wire) (rule : List ℕ → List ℕ → Type 0) (ended : Bool) (old new : Reading) (n : ℕ) → IsKept wire rule ended old → OpensStream old new n → IsStarted wire rule ended new n
 unfolding talk_moved
 starts wire rule ended old new n k o = record {
   fault = o.fault;
@@ -196,7 +196,7 @@ ready_new wire rule ended faults conn new meets is = rw is (record {
   left = tt;
 })
 
-pub started_by : (wire : Option Wire) (rule : List ℕ → List ℕ → Type 0) (ended : Bool) (old new : Reading) (result : Result (Option ℕ) TransferFault) → IsKept wire rule ended old → IfOk result (λ id. MatchOption id (Unit {0}) (Opens old new)) → IfOk result (λ id. MatchOption id (Unit {0}) (IsStarted wire rule ended new))
+pub started_by : (wire : Option Wire) (rule : List ℕ → List ℕ → Type 0) (ended : Bool) (old new : Reading) (result : Result (Option ℕ) TransferFault) → IsKept wire rule ended old → IfOk result (λ id. MatchOption id (Unit {0}) (OpensStream old new)) → IfOk result (λ id. MatchOption id (Unit {0}) (IsStarted wire rule ended new))
 started_by wire rule ended old new (Ok (Some id)) k o = starts wire rule ended old new id k o
 started_by wire rule ended old new (Ok None) k o = tt
 started_by wire rule ended old new (Err e) k o = tt

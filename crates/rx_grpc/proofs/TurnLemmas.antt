@@ -16,7 +16,7 @@ use Rattle.rx_grpc.specs.declared.came.Came.TheVariants.{End, Piece, Broken}
 use Rattle.rx_grpc.specs.Answer.{unary}
 use Rattle.rx_grpc.specs.Came.{CameBy, is_end, is_piece}
 use Rattle.rx_grpc.specs.Moves.{Moves, Exchange, Carries}
-use Rattle.rx_grpc.specs.Conversation.{Hears, IsWaiting, Drains}
+use Rattle.rx_grpc.specs.Conversation.{CallHears, IsWaiting, Drains}
 use Rattle.rx_grpc.specs.Shown.{Breaks, IsOver}
 use Rattle.rx_grpc.proofs.WireLemmas.{goes_trans}
 use Rattle.rx_grpc.proofs.ConversationLemmas.{hears_exchange, hears_moved, hears_drained}
@@ -81,7 +81,7 @@ came_alive (Broken code) before ended c away going is = rw is refl
 
 -- the state after a turn
 pub record Turned (wire : Option Wire) (rule : List ℕ → List ℕ → Type 0) (came : Came) (before ended : Bool) (conn : Reading) (call : Call) (done : Bool) : Type 0 where
-  pub hears : Hears wire rule conn call
+  pub hears : CallHears wire rule conn call
   pub held : IsHeld conn.state call.id done
   pub empty : conn.state.events ≡ []
   pub met : Meets wire rule

@@ -41,14 +41,20 @@ abbrev pub faults_before : {L : Type 0} → (L → ℕ) → Option (TransportOf 
 faults_before faults old = kept_or old (λ t. faults t.link) 0
 
 -- The call's stream on the link of the call shows this answer.
-abbrev pub Answers : {L : Type 0} → (L → Option Wire) → (L → List ℕ → List ℕ → Type 0) → (L → Bool) → Option (TransportOf L) → Option (TransportOf L) → Answer → Type 0
+abbrev pub Answers :
+    {L : Type 0} → (L → Option Wire) → (L → List ℕ → List ℕ → Type 0) → (L → Bool)
+    → Option (TransportOf L) → Option (TransportOf L) → Answer → Type 0
 Answers wire rule ended old None answer = ⊥
-Answers wire rule ended old (Some t) answer = IsOver (wire t.link) (rule t.link) (ended t.link) t.conn (stream_for old) (record { answer = answer; alive = t.alive })
+Answers wire rule ended old (Some t) answer =
+    IsOver (wire t.link) (rule t.link) (ended t.link) t.conn (stream_for old) (record { answer = answer; alive = t.alive })
 
 -- The bytes of that link stand for the fault, if it is one of bytes.
-abbrev pub Fails : {L : Type 0} → (L → Option Wire) → (L → List ℕ → List ℕ → Type 0) → Option (TransportOf L) → Option (TransportOf L) → TransferFault → Type 0
+abbrev pub Fails :
+    {L : Type 0} → (L → Option Wire) → (L → List ℕ → List ℕ → Type 0)
+    → Option (TransportOf L) → Option (TransportOf L) → TransferFault → Type 0
 Fails wire rule old None fault = IsOther fault
-Fails wire rule old (Some t) fault = FaultIs fault (wire_before wire old (wire t.link)) (wire t.link) (rule t.link) t.conn (stream_for old)
+Fails wire rule old (Some t) fault =
+    FaultIs fault (wire_before wire old (wire t.link)) (wire t.link) (rule t.link) t.conn (stream_for old)
 
 -- the count of the dial rose, or that of the link
 abbrev pub RoseOn : {L : Type 0} → (L → ℕ) → ℕ → Option (TransportOf L) → Type 0

@@ -25,7 +25,7 @@ pub record Conversation (wire : Option Wire) (rule : List ℕ → List ℕ → T
   pub meets : rule sent received
 
 -- A call has heard the events of its stream among all that were handed out.
-pub record Hears (wire : Option Wire) (rule : List ℕ → List ℕ → Type 0) (conn : Reading) (call : Call) : Type 0 where
+pub record CallHears (wire : Option Wire) (rule : List ℕ → List ℕ → Type 0) (conn : Reading) (call : Call) : Type 0 where
   pub talk : Conversation wire rule conn
   pub heard_is : call.answers ≡ heard nothing (filter (is_for call.id) talk.handed)
   pub away_is : call.away ≡ list_any is_away talk.handed
@@ -38,7 +38,7 @@ pub record IsWaiting (wire : Option Wire) (rule : List ℕ → List ℕ → Type
   pub held : IsHeld conn.state call.id done
   pub met : Meets wire rule
   pub none : unary false call.answers ≡ None
-  pub hears : Hears wire rule conn call
+  pub hears : CallHears wire rule conn call
 
 -- all events that waited were handed out, those of the stream to its reader
 pub record Drains (old new : Reading) (before now : Call) : Type 0 where

@@ -43,7 +43,7 @@ pub record GivesUp (old new : Reading) : Type 0 where
   pub next : next_id new.state ≡ next_id old.state
 
 -- the next stream was opened
-pub record Opens (old new : Reading) (id : ℕ) : Type 0 where
+pub record OpensStream (old new : Reading) (id : ℕ) : Type 0 where
   pub moves : Moves old new [] [] []
   pub fault : new.state.fault ≡ None
   pub events : new.state.events ≡ old.state.events

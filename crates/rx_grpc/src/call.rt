@@ -58,7 +58,8 @@ fn is_away_by(away: bool, event: &ConnEvent) -> bool
 
 /// Hands an event to the reader of a stream, where it is for that stream.
 fn hear(answers: &mut Answers, id: u32, event: ConnEvent) -> Result<(), NoMemory>
-    ensures { OnOk result (answers.new ≡ heard answers.old (filter (is_for id) (event_view event ∷ []))) }
+    ensures { OnOk result
+        (answers.new ≡ heard answers.old (filter (is_for id) (event_view event ∷ []))) }
 {
     if is_for(id, &event) {
         answers.add(event)?;

@@ -39,7 +39,8 @@ pub fn request_headers(
 ) -> Result<Vec<Header>, NoMemory>
     requires path { length path.now < 2 ^ 32 }
     requires authority { length authority.now < 2 ^ 32 }
-    ensures fields { IfOk result (λ list. views list.items ≡ request_fields path.now authority.now) }
+    ensures fields { IfOk result (λ list.
+        views list.items ≡ request_fields path.now authority.now) }
     ensures writable { IfOk result (λ list. All IsWritable list.items) }
 {
     let mut list = Vec::new(alloc);

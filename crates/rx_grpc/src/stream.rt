@@ -5,7 +5,7 @@ ghost use Rattle.std.specs.List.{All};
 ghost use Rattle.rx_h2conn.specs.Open.{refusal};
 ghost use Rattle.rx_hpack.specs.Encoder.{IsWritable};
 ghost use Rattle.rx_grpc.specs.Shown.{IsOpenAt};
-ghost use Rattle.rx_grpc.specs.Transport.{GivesUp, Opens};
+ghost use Rattle.rx_grpc.specs.Transport.{GivesUp, OpensStream};
 ghost use Rattle.rx_grpc.specs.declared.transfer_fault.TransferFault.TheVariants.{NoMemory as starved};
 
 use crate::transfer_fault::TransferFault;
@@ -31,7 +31,7 @@ fn give_up(conn: &mut Conn, unfinished: Option<u32>) -> Result<(), TransferFault
     }
 }
 
-/// Opens the stream of the next call, after the last one's was given up. `None` where the connection takes no stream.
+/// OpensStream the stream of the next call, after the last one's was given up. `None` where the connection takes no stream.
 pub fn next_stream(
     conn: &mut Conn,
     unfinished: Option<u32>,
@@ -43,7 +43,7 @@ pub fn next_stream(
     ensures memory { IfErr result (λ fault. fault ≡ starved) }
     ensures refused { IfOk result (λ id. MatchOption id (refusal conn.old.state ≢ None)
         (λ id. refusal conn.old.state ≡ None)) }
-    ensures opened { IfOk result (λ id. MatchOption id (Unit {0}) (Opens conn.old conn.new)) }
+    ensures opened { IfOk result (λ id. MatchOption id (Unit {0}) (OpensStream conn.old conn.new)) }
 {
     give_up(conn, unfinished)?;
     match conn.open_stream(headers, false) {

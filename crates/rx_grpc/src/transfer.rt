@@ -65,7 +65,8 @@ pub fn take_in<L: Link>(
     requires drained { IsDrained conn.old.state }
     requires room { 0 < room.old }
     ensures other { IfErr result IsOther }
-    ensures came { IfOk result (λ came. CameBy came (L.ended link.old) (L.ended link.new) conn.new) }
+    ensures came { IfOk result (λ came.
+        CameBy came (L.ended link.old) (L.ended link.new) conn.new) }
     ensures exchange { OnOk result
         (Exchange (L.wire link.old) (L.wire link.new) conn.old conn.new room.old room.new) }
     ensures less { IfOk result (λ came. is_piece came ≡ true → room.new < room.old) }
