@@ -74,7 +74,7 @@ build_program() {
     started_at=$(date +%s)
     told_at=$started_at
     echo "building $crate: $crate_count crates, each proved before it is built. The whole log is $log" >&2
-    echo "Where earlier builds are kept this takes seconds, and where none is up to 20 minutes on four processors." >&2
+    echo "Where earlier builds are kept this takes seconds, and where none is more than 20 minutes on four processors." >&2
     # rt run proves what isn't proved yet, leaves the program in out/, and runs it
     if ! {
         code=0

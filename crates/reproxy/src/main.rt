@@ -2,11 +2,13 @@
 #![tactic(auto)]
 
 mod host;
+mod remote_words;
 mod serve;
 #[cfg(test)]
 mod tests;
 mod words;
 
+use crate::remote_words::tell_failures;
 use crate::serve::serve;
 use crate::words::{USAGE, is_help};
 use std::io::ErrorKind;
@@ -23,7 +25,10 @@ fn main(rt: HostRuntime) -> ExitCode {
     let status = match read_words(&rt) {
         Ok(words) if is_help(&words) => return help(&rt),
         Ok(words) => match serve(&rt, rt, &words, rt.stdin(), rt.stdout()) {
-            Ok(ran) => ran.status,
+            Ok(ran) => {
+                tell_failures(&rt, &ran.transcripts);
+                ran.status
+            }
             Err(_) => NO_MEMORY,
         },
         Err(error) if error.kind() == ErrorKind::OutOfMemory => NO_MEMORY,

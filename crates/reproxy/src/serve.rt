@@ -7,9 +7,11 @@ ghost use Rattle.reproxy.specs.Serves.{ServesDesk};
 
 use crate::host::{
     HostBench, HostBenches, HostFront, HostPlace, HostSink, HostSource, HostSources, HostWorld,
+    NoFarm,
 };
 use rx_board::JOURNAL_LIMIT;
 use rx_engine::{Parts, Ran, root_in, run_proxy};
+use rx_exec_messages::Caller;
 use rx_world::{Bench, BenchMaker, Sink, Source, Sources, World};
 use std::alloc::AllocError;
 use std::io::{Print, Read};
@@ -48,7 +50,8 @@ pub(crate) fn serve<I: Read + Send + Drop, O: Print + Send + Drop>(
         ⟦<HostSources<HostRuntime> as Sources<HostWorld>>⟧
         ⟦<HostSources<HostRuntime> as Sources<HostWorld>>⟧
         ⟦<HostBenches<HostRuntime> as BenchMaker<HostWorld>>⟧
-        ⟦<HostBench<HostRuntime> as Bench<HostWorld>>⟧)
+        ⟦<HostBench<HostRuntime> as Bench<HostWorld>>⟧
+        ⟦<HostSources<HostRuntime> as Sources<HostWorld>>⟧ ⟦<NoFarm as Caller<HostWorld>>⟧)
         (λ desk. desk.input.input ≡ input) root JOURNAL_LIMIT ran.place.faults.count
         ran.front.desk ran.status ran.journal.items ran.desks.items ran.transcripts.items)) }
 {
@@ -62,6 +65,8 @@ pub(crate) fn serve<I: Read + Send + Drop, O: Print + Send + Drop>(
             tree: HostSources::new(rt, String::from_str(alloc, root)?),
             tree_local: HostSources::new(rt, String::from_str(alloc, root)?),
             benches: HostBenches::new(rt, String::from_str(alloc, SCRATCH)?, process),
+            tree_remote: HostSources::new(rt, String::from_str(alloc, root)?),
+            farm: NoFarm::new(),
         }),
         None => None,
     };

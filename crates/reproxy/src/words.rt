@@ -7,6 +7,7 @@ ghost use Rattle.reproxy.specs.Words.{is_help};
 pub(crate) const USAGE: &str = "usage: reproxy exec --root PATH
 Serves one request: its frame comes from standard input, the reply goes to standard output.
 PATH begins with a slash. Its files are the source tree and the place for outputs.
+No farm can be reached yet: a remote attempt fails, and standard error tells why.
 ";
 
 /// Whether the words are `--help` alone.

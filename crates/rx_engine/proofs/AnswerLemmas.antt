@@ -1,11 +1,12 @@
 -- From the steps of an answer to the whole of it.
-use Rattle.std.proofs.Common.{◌≡◌, ℕ, List, [], inl, inr, refl, sym, subst}
-use Rattle.std.proofs.lemmas.List.Elements.{All-nil}
+use Rattle.std.proofs.Common.{◌≡◌, ℕ, Bool, List, [], inl, inr, refl, sym, subst}
+use Rattle.std.proofs.lemmas.List.Elements.{All-nil, All-weaker}
 use Rattle.std.specs.Prelude.{Err, IfOk, IfSome, None, Ok, Option, Result, Some, All}
 use Rattle.rx_scan.specs.declared.gather_fault.GatherFault.{GatherFault}
 use Rattle.rx_scan.specs.declared.gather_fault.GatherFault.TheVariants as fault
 use Rattle.rx_scan.specs.declared.gathering.Gathered.{Gathered}
 use Rattle.rx_reach.specs.Explored.{HaveDigests}
+use Rattle.rx_scan.specs.Digests.{IsAsListed as IsAsSeen}
 use Rattle.rx_scan.specs.Gathering.{Asked, BlamesGather, Gathers, IsGatheredBy, IsOrderly}
 use Rattle.rx_scan.specs.Lists.{IsRightList, Tells, stretch}
 use Rattle.rx_reach.specs.Scenes.{scene_of}
@@ -15,6 +16,7 @@ use Rattle.rx_session.specs.declared.requests.Request.{Request}
 use Rattle.rx_session.specs.Jobs.{command_of, declared_of}
 use Rattle.rx_session.specs.Replies.{frame_of}
 use Rattle.rx_world.specs.declared.attempts.Ended.{Ended}
+use Rattle.rx_exec_messages.specs.declared.callers.Caller as callers
 use Rattle.rx_world.specs.declared.benches.Bench as benches
 use Rattle.rx_world.specs.declared.benches.BenchMaker as makers
 use Rattle.rx_world.specs.declared.sources.Sources as sources
@@ -22,20 +24,22 @@ use Rattle.rx_world.specs.declared.streams.Sink as sinks
 use Rattle.rx_world.specs.declared.streams.Source as inputs
 use Rattle.rx_world.specs.declared.world.World as world
 use Rattle.rx_world.specs.declared.commands.Command.{Command}
+use Rattle.rx_world.specs.declared.input_files.InputFile.{InputFile}
 use Rattle.rx_world.specs.declared.sources.SourceEntry.{SourceEntry}
 use Rattle.rx_world.proofs.AnswerLemmas.{gives-none}
+use Rattle.rx_world.specs.Inputs.{IsAsListed}
 use Rattle.rx_engine.specs.declared.answered.Answered.{Answered}
 use Rattle.rx_engine.specs.declared.answers.Handled.{Handled}
 use Rattle.rx_engine.specs.declared.attempts.Won.{Won}
 use Rattle.rx_engine.specs.declared.desk.Parts.{Parts}
 use Rattle.rx_engine.specs.Answered.{AnswersFault, IsPlain, TellsPublication, reply_no_memory}
 use Rattle.rx_engine.specs.Answers.{Answers, Grounds, HasRun, HasWon, IsUnrun, MayHaveRun, asked_of, grounds, stretch_of}
-use Rattle.rx_engine.specs.Attempts.{IsIdle}
+use Rattle.rx_engine.specs.Attempts.{HasAttempts, IsIdle}
 use Rattle.rx_engine.specs.Gathers.{AnswersRun, HasGatheredFor, HasNotGathered, HasRunAndPublished}
 use Rattle.rx_engine.specs.Meanings.{Meanings, meanings}
 use Rattle.rx_engine.specs.Ready.{AnswersAs, HasHandled, IsOrGivenUp}
 use Rattle.rx_engine.proofs.AttemptLemmas.{idle-none}
-use Rattle.rx_engine.proofs.Moves.{attempts-move, idle-move, tells-in, tells-move}
+use Rattle.rx_engine.proofs.Moves.{IsSame, attempts-move, idle-move, same-none, tells-in, tells-move}
 
 no-lists : (told : Option (List SourceEntry)) → IfSome told (λ entries. All (IsRightList (scene_of entries)) [])
 no-lists None = tt
@@ -49,6 +53,18 @@ tells-none w s tree = record { gives = gives-none w s tree; by_list = λ kept. n
 pub asked-is : (command : Command) (paths : List (List ℕ)) (request : Request) → command ≡ command_of request → paths ≡ declared_of request
     → record { command = command; kind = request.kind; inputs = paths; strategy = request.strategy } ≡ asked_of request
 asked-is command paths request c p = rw (c, p) refl
+
+-- each file that is as the gathering says it is listed
+as-listed : (told : Option (List SourceEntry)) (files : List InputFile) → IfSome told (λ entries. All (IsAsSeen entries) files) → IfSome told (λ entries. All (IsAsListed entries) files)
+as-listed None files h = tt
+as-listed (Some entries) files h = All-weaker (IsAsSeen entries) (IsAsListed entries) (λ file seen. record { look_is = seen.look_is; digest_is = seen.digest_is }) files h
+
+-- the parts that attempts have are the same in both directions
+pub same-back : {I O T L M R C : Type 0} (p q : Parts I O T L M R C) → IsSame p q → IsSame q p
+same-back p q h = record {
+  here = record { tree_local = sym h.here.tree_local; benches = sym h.here.benches };
+  there = record { tree_remote = sym h.there.tree_remote; farm = sym h.there.farm };
+}
 
 -- ---- the replies to attempts
 
@@ -102,75 +118,80 @@ module _ {P W B : Type 0} (m : Meanings P W B) (g : Grounds P) (request : Reques
 
 -- ---- the whole
 
-module _ {W I O T L M B : Type 0} (w : world.Ghosts W) (i : inputs.Ghosts I) (o : sinks.Ghosts O) (t : sources.Ghosts T W) (l : sources.Ghosts L W) (k : makers.Ghosts M W B) (b : benches.Ghosts B W) where
+module _ {W I O T L M B R C : Type 0} (w : world.Ghosts W) (i : inputs.Ghosts I) (o : sinks.Ghosts O) (t : sources.Ghosts T W) (l : sources.Ghosts L W) (k : makers.Ghosts M W B) (b : benches.Ghosts B W)
+    (v : sources.Ghosts R W) (z : callers.Ghosts C W) where
   -- what was gathered was run on
-  pub handled-run : (p q r : Parts I O T L M) (request : Request) (gathered : Gathered) (handled : Handled)
-      → q.tree_local ≡ p.tree_local → q.benches ≡ p.benches → r.tree ≡ q.tree
-      → HasGatheredFor (meanings w i o t l k b) request p q gathered → HasRunAndPublished (meanings w i o t l k b) gathered q r handled
-      → HasHandled (meanings w i o t l k b) request p r handled
-  handled-run p q r request gathered handled e f d h run =
+  pub handled-run : (p q r : Parts I O T L M R C) (request : Request) (gathered : Gathered) (accepts : Bool) (handled : Handled)
+      → IsSame p q → r.tree ≡ q.tree → accepts ≡ request.accept_cached
+      → HasGatheredFor (meanings w i o t l k b v z) request p q gathered → HasRunAndPublished (meanings w i o t l k b v z) gathered accepts q r handled
+      → HasHandled (meanings w i o t l k b v z) request p r handled
+  handled-run p q r request gathered accepts handled same d is h run =
       let inputs = h.inputs in
       record {
         answers = h.answers;
         lists = h.lists;
         view = h.view;
-        looked = tells-move w i o t l k b p q p r h.answers h.lists refl d h.looked;
-        answered = run-answers (meanings w i o t l k b) (grounds p r h.answers h.lists h.view) request handled.ends
+        looked = tells-move w i o t l k b v z p q p r h.answers h.lists refl d h.looked;
+        answered = run-answers (meanings w i o t l k b v z) (grounds p r h.answers h.lists h.view) request handled.ends
             (record {
               gathered = gathered;
               inputs = record {
                 by = record { view_is = inputs.by.view_is; viewed = inputs.by.viewed; seen = inputs.by.seen; shown = inputs.by.shown };
                 orderly = inputs.orderly;
                 digests = inputs.digests;
+                listed = inputs.listed;
               };
               attempts = run.attempts;
-              made = attempts-move w i o t l k b q r p r gathered run.attempts (sym e) refl (sym f) refl run.made;
+              made = attempts-move w i o t l k b v z q r p r gathered request.accept_cached run.attempts (same-back p q same) (same-none r)
+                  (subst (λ x. HasAttempts (meanings w i o t l k b v z) gathered x q r run.attempts) is run.made);
               ends_are = run.ends_are;
             })
             handled.answered run.answered;
       }
 
   -- nothing was gathered
-  pub handled-refused : {E : Type 0} (p q : Parts I O T L M) (request : Request) (why : GatherFault) (handled : Handled) (made : Result Answered E)
-      → q.tree_local ≡ p.tree_local → q.benches ≡ p.benches → HasNotGathered (meanings w i o t l k b) request p q why
+  pub handled-refused : {E : Type 0} (p q : Parts I O T L M R C) (request : Request) (why : GatherFault) (handled : Handled) (made : Result Answered E)
+      → IsSame p q → HasNotGathered (meanings w i o t l k b v z) request p q why
       → handled.ends ≡ [] → IfOk made (AnswersFault why) → IsOrGivenUp made handled.answered
-      → HasHandled (meanings w i o t l k b) request p q handled
-  handled-refused p q request why handled made e f h none answers given =
-      let idle : IsIdle (meanings w i o t l k b) p q = idle-move w i o t l k b p p p q refl e refl f (idle-none w i o t l k b p) in
+      → HasHandled (meanings w i o t l k b v z) request p q handled
+  handled-refused p q request why handled made same h none answers given =
+      let idle : IsIdle (meanings w i o t l k b v z) p q = idle-move w i o t l k b v z p p p q (same-none p) same (idle-none w i o t l k b v z p) in
       record {
         answers = h.answers;
         lists = h.lists;
         view = h.view;
         looked = h.looked;
-        answered = refused-answers (meanings w i o t l k b) (grounds p q h.answers h.lists h.view) request handled.ends
+        answered = refused-answers (meanings w i o t l k b v z) (grounds p q h.answers h.lists h.view) request handled.ends
             why made handled.answered (record { idle = idle; ends_are = none }) h.cause answers given;
       }
 
   -- memory ran out before anything was asked of the source tree
-  pub none-gathered : (p : Parts I O T L M) (request : Request) → HasNotGathered (meanings w i o t l k b) request p p fault.NoMemory
+  pub none-gathered : (p : Parts I O T L M R C) (request : Request) → HasNotGathered (meanings w i o t l k b v z) request p p fault.NoMemory
   none-gathered p request = record {
     answers = [];
     lists = [];
     view = [];
-    looked = tells-in w t (λ (x : Parts I O T L M). x.tree) p p [] [] (tells-none w t p.tree);
+    looked = tells-in w t (λ (x : Parts I O T L M R C). x.tree) p p [] [] (tells-none w t p.tree);
     cause = tt;
   }
 
   -- what the gathering gave
-  pub gathered-for : (p : Parts I O T L M) (tree : T) (asked : Asked) (request : Request) (gathered : Gathered) → asked ≡ asked_of request
+  pub gathered-for : (p : Parts I O T L M R C) (tree : T) (asked : Asked) (request : Request) (gathered : Gathered) → asked ≡ asked_of request
       → Gathers w t p.tree tree asked (Ok gathered) → IsOrderly asked gathered → (w.stamps_honest → HaveDigests w.content gathered.files)
-      → HasGatheredFor (meanings w i o t l k b) request p (record p { tree = tree }) gathered
-  gathered-for p tree asked request gathered e h orderly digests =
+      → (w.stamps_honest → t.keeps p.tree → IfSome (t.listed p.tree) (λ entries. All (IsAsSeen entries) gathered.files))
+      → HasGatheredFor (meanings w i o t l k b v z) request p (record p { tree = tree }) gathered
+  gathered-for p tree asked request gathered e h orderly digests listed =
       let by : IsGatheredBy (asked_of request) gathered (stretch [] h.view (t.faults p.tree) (t.faults tree) h.answers h.lists) =
       subst (λ x. IsGatheredBy x gathered (stretch [] h.view (t.faults p.tree) (t.faults tree) h.answers h.lists)) e h.outcome in
       record {
         answers = h.answers;
         lists = h.lists;
         view = h.view;
-        looked = tells-in w t (λ (x : Parts I O T L M). x.tree) p (record p { tree = tree }) h.answers h.lists h.tells;
+        looked = tells-in w t (λ (x : Parts I O T L M R C). x.tree) p (record p { tree = tree }) h.answers h.lists h.tells;
         inputs = record {
           by = record { view_is = by.view_is; viewed = by.viewed; seen = by.seen; shown = by.shown };
           orderly = subst (λ x. IsOrderly x gathered) e orderly;
           digests = digests;
+          listed = λ stamps keeps. as-listed (t.listed p.tree) gathered.files (listed stamps keeps);
         };
       }

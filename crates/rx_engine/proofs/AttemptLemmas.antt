@@ -1,36 +1,72 @@
--- From the end of the local attempt to the attempts of a plan.
-use Rattle.std.proofs.Common.{◌≡◌, true, false, List, [], ap, inl, inr, refl, sym}
-use Rattle.std.specs.Prelude.{Err, IfErr, IfOk, None, Ok, Option, Result, Some}
+-- From the ends of the attempts to the attempts of a plan.
+use Rattle.std.proofs.Common.{◌≡◌, ◌≤◌, ◌||◌, Bool, true, false, List, [], ◌∷◌, ◌++◌, ap, arith, inl, inr, refl, subst, sym}
+use Rattle.std.specs.Prelude.{All, Err, IfErr, IfOk, IfSome, None, Ok, Option, Result, Some, if◌then◌else◌, is_some}
+use Rattle.rx_action.specs.OutputPaths.{AreBelow}
+use Rattle.rx_base.specs.Digests.{digest_of}
+use Rattle.rx_base.specs.declared.digests.Digest.{Digest}
+use Rattle.rx_base.proofs.Members.{Contains-from_map}
+use Rattle.rx_base.proofs.PathsSorted.{AreSorted-sorted_paths}
+use Rattle.rx_exec_messages.specs.declared.callers.Caller as callers
+use Rattle.rx_exec_messages.specs.Calls.{Stays}
 use Rattle.rx_local.proofs.Ends.{forgets}
 use Rattle.rx_local.specs.Limits.{IsWithinLimits}
-use Rattle.rx_local.specs.Local.{HasAttempted, HasTold, IsStopped, Job, Tells}
+use Rattle.rx_local.specs.Local.{HasAttempted, HasTold, IsStopped, Tells}
+use Rattle.rx_remote.specs.Actions.{AreNamed}
 use Rattle.rx_scan.specs.declared.gathering.Gathered.{Gathered}
+use Rattle.rx_scan.specs.Gathering.{IsOrderly, reading_asked}
+use Rattle.rx_scan.specs.Words.{outputs_for}
+use Rattle.rx_session.specs.declared.requests.Request.{Request}
+use Rattle.rx_tree.specs.declared.blobs.Blob.{Blob as Directory}
+use Rattle.rx_tree.specs.Blobs.{blob_of}
+use Rattle.rx_tree.proofs.FitLemmas.{can_be_built}
 use Rattle.rx_world.specs.declared.attempts.Cause.{Cause}
 use Rattle.rx_world.specs.declared.attempts.Cause.TheVariants as causes
 use Rattle.rx_world.specs.declared.attempts.End.{End}
 use Rattle.rx_world.specs.declared.attempts.End.TheVariants as ends
 use Rattle.rx_world.specs.declared.attempts.Ended.{Ended}
-use Rattle.rx_world.specs.declared.attempts.Origin.TheVariants as origins
+use Rattle.rx_world.specs.declared.attempts.Origin.{Origin}
 use Rattle.rx_world.specs.declared.attempts.Plan.{Plan}
 use Rattle.rx_world.specs.declared.benches.Bench as benches
 use Rattle.rx_world.specs.declared.benches.BenchMaker as makers
+use Rattle.rx_world.specs.declared.commands.Command.{Command}
+use Rattle.rx_world.specs.declared.input_files.InputFile.{InputFile}
 use Rattle.rx_world.specs.declared.outcomes.Outcome.{Outcome}
+use Rattle.rx_world.specs.declared.remote_causes.RemoteCause.{RemoteCause}
+use Rattle.rx_world.specs.declared.remote_causes.RemoteCause.TheVariants as remote_causes
+use Rattle.rx_world.specs.declared.sources.SourceEntry.{SourceEntry}
 use Rattle.rx_world.specs.declared.sources.Sources as sources
 use Rattle.rx_world.specs.declared.streams.Sink as sinks
 use Rattle.rx_world.specs.declared.streams.Source as inputs
 use Rattle.rx_world.specs.declared.world.World as world
 use Rattle.rx_world.proofs.AnswerLemmas.{gives-none}
+use Rattle.rx_world.specs.Inputs.{IsAsListed}
 use Rattle.rx_world.specs.Outcomes.{IsProper, kept, listing}
 use Rattle.rx_engine.specs.declared.attempts.Attempted.{Attempted}
 use Rattle.rx_engine.specs.declared.attempts.Won.{Won}
 use Rattle.rx_engine.specs.declared.desk.Parts.{Parts}
-use Rattle.rx_engine.specs.Attempts.{Attempts, HasMade, IsIdle, KeepsHere, first_done, has_local, job_of, kept_ends, winner}
+use Rattle.rx_engine.specs.declared.held.Held.{Held}
+use Rattle.rx_engine.specs.Answers.{HasOutputsBelow, asked_of}
+use Rattle.rx_engine.specs.Attempts.{AreLaterThan, Attempts, HasAttempts, HasEndedHere, HasLocal, HasMade, HasRemote, HasRunHere, Holds, IsIdle, IsIdleHere, IsMadeOf, end_of, first_done, first_won, has_remote, is_remote_only, is_zero, job_of, kept_ends, kept_of, listed_remote, outcome_of, starts_here, whole_end, winner, won_remote}
 use Rattle.rx_engine.specs.Journal.{files_of}
-use Rattle.rx_engine.specs.Meanings.{meanings, source_part}
-use Rattle.rx_engine.proofs.Moves.{gives-in}
+use Rattle.rx_engine.specs.Meanings.{Meanings, meanings}
+use Rattle.rx_engine.specs.RemoteAttempts.{EndsThere, FitsFarm, HasRunThere, IsIdleThere, IsTreeOf}
+use Rattle.rx_engine.proofs.Mirrors.{farm-in, source-in, there-mirrored}
+use Rattle.rx_engine.proofs.Moves.{IsSame, IsSameHere, IsSameThere, gives-in, local-move, remote-move}
 
 some-inj : {A : Type 0} {a b : A} → Some a ≡ Some b → a ≡ b
 some-inj h = cc
+
+none-some : {A : Type 0} {a : A} → None ≡ Some a → ⊥
+none-some h = cc
+
+abbrev as-remote : End Outcome RemoteCause → End Outcome RemoteCause
+as-remote end = end
+
+unchanged-none : (told : Option (List SourceEntry)) (files : List InputFile) → IfSome told (λ entries. All (IsAsListed entries) files → Unit {0})
+unchanged-none None files = tt
+unchanged-none (Some entries) files = λ h. tt
+
+-- ---- the local attempt
 
 -- an attempt whose stop tells no decision isn't stopped
 unstopped-for : (cause : Cause) → Tells None None cause → IsStopped cause → ⊥
@@ -46,91 +82,214 @@ pub unstopped-by : (result : Result Outcome Cause) → HasTold None None result 
 unstopped-by (Ok outcome) told = tt
 unstopped-by (Err cause) told = unstopped-for cause told
 
-abbrev Only : Option (End Outcome Cause) → Attempts
-Only local = record { local = local; remote = None }
+module _ {M B T W : Type 0} (w : world.Ghosts W) (m : makers.Ghosts M W B) (b : benches.Ghosts B W) (s : sources.Ghosts T W) (gathered : Gathered) (benches_old benches_new : M) (old new : T) where
+  has-run : (result : Result Outcome Cause) → HasAttempted w m b s (job_of gathered) benches_old benches_new old new result
+      → IfOk result (IsProper gathered.command) → IfOk result IsWithinLimits → IfErr result (λ cause. IsStopped cause → ⊥)
+      → HasRunHere w m b s gathered benches_old benches_new old new (end_of result)
+  has-run (Ok outcome) a proper within unstopped = record { attempted = a; proper = proper; within = within; unstopped = tt; from = refl }
+  has-run (Err cause) a proper within unstopped = record { attempted = a; proper = tt; within = tt; unstopped = unstopped; from = tt }
 
-module _ {W I O T L M B : Type 0} (w : world.Ghosts W) (i : inputs.Ghosts I) (o : sinks.Ghosts O) (t : sources.Ghosts T W) (l : sources.Ghosts L W) (k : makers.Ghosts M W B) (b : benches.Ghosts B W) where
-  -- nothing was done yet
-  pub idle-none : (p : Parts I O T L M) → IsIdle (meanings w i o t l k b) p p
-  idle-none p = record {
-    unread = gives-in w l (λ (x : Parts I O T L M). x.tree_local) p p [] (gives-none w l p.tree_local);
+  -- an attempt on what was gathered, whose outcome is held where there is memory for it
+  pub run-held : (result : Result Outcome Cause) (held : End Held Cause) → HasAttempted w m b s (job_of gathered) benches_old benches_new old new result
+      → IfOk result (IsProper gathered.command) → IfOk result IsWithinLimits → IfErr result (λ cause. IsStopped cause → ⊥)
+      → Holds causes.NoMemory (end_of result) held → HasRunHere w m b s gathered benches_old benches_new old new (whole_end held)
+  run-held (Ok outcome) held a proper within unstopped (inl e) =
+      subst (HasRunHere w m b s gathered benches_old benches_new old new) (sym e) (has-run (Ok outcome) a proper within unstopped)
+  run-held (Ok outcome) held a proper within unstopped (inr e) =
+      subst (HasRunHere w m b s gathered benches_old benches_new old new) (sym e)
+      (has-run (Err causes.NoMemory) (forgets w m b s (job_of gathered) benches_old benches_new old new outcome a) tt tt (λ stopped. absurd stopped))
+  run-held (Err cause) held a proper within unstopped e =
+      subst (HasRunHere w m b s gathered benches_old benches_new old new) (sym e) (has-run (Err cause) a proper within unstopped)
+
+-- ---- what a remote attempt is about
+
+-- what was gathered for a request fits a farm
+pub fits-farm : (request : Request) (gathered : Gathered) → IsOrderly (asked_of request) gathered → HasOutputsBelow request → FitsFarm gathered
+fits-farm request gathered h below =
+    let asked = asked_of request in
+    record {
+      tree = can_be_built gathered.files gathered.dirs h.few h.sorted h.apart h.clear;
+      sorted = rw h.command_is (AreSorted-sorted_paths (asked.command.outputs ++ outputs_for (reading_asked asked)));
+      below = subst (λ directory. AreBelow directory gathered.command.outputs) (ap (λ (x : Command). x.working_directory) (sym h.command_is)) (h.outputs_below below);
+    }
+
+-- each Directory has the digest of its bytes
+pub named : (gathered : Gathered) (root : Digest) (directories : List Directory) → IsTreeOf gathered root directories → AreNamed directories
+named gathered root directories h = λ directory there.
+    let from = Contains-from_map blob_of _ directory ((h.directories_are directory).1 there) in
+    subst (λ (x : Directory). digest_of x.bytes ≡ x.digest) from.2 refl
+
+memory-done : (outcome : Outcome) (origin : Origin) → as-remote (ends.Failed remote_causes.NoMemory) ≡ ends.Done outcome origin → ⊥
+memory-done outcome origin e = cc e
+
+-- an outcome that isn't kept
+forgets-there : {C T W : Type 0} (w : world.Ghosts W) (c : callers.Ghosts C W) (s : sources.Ghosts T W) (gathered : Gathered) (accepts : Bool) (farm_old farm_new : C) (old new : T)
+    (end : End Outcome RemoteCause) → HasRunThere w c s gathered accepts farm_old farm_new old new end
+    → HasRunThere w c s gathered accepts farm_old farm_new old new (ends.Failed remote_causes.NoMemory)
+forgets-there w c s gathered accepts farm_old farm_new old new end h = record {
+  root = h.root;
+  directories = h.directories;
+  tree = h.tree;
+  ended = inl refl;
+  right = λ tree g v. record { fine = tt; clean = λ outcome origin e. absurd (memory-done outcome origin e) };
+  sound = λ outcome origin e. absurd (memory-done outcome origin e);
+  stays = h.stays;
+  own = record { answers = h.own.answers; gives = h.own.gives; reads = h.own.reads; is_such = tt };
+  unchanged = λ k. unchanged-none (s.listed old) gathered.files;
+}
+
+-- an end that is held, or want of memory
+pub there-held : {C T W : Type 0} (w : world.Ghosts W) (c : callers.Ghosts C W) (s : sources.Ghosts T W) (gathered : Gathered) (accepts : Bool) (farm_old farm_new : C) (old new : T)
+    (end : End Outcome RemoteCause) (held : End Held RemoteCause) → HasRunThere w c s gathered accepts farm_old farm_new old new end → Holds remote_causes.NoMemory end held
+    → HasRunThere w c s gathered accepts farm_old farm_new old new (whole_end held)
+there-held w c s gathered accepts farm_old farm_new old new (ends.Done outcome origin) held h (inl e) =
+    subst (HasRunThere w c s gathered accepts farm_old farm_new old new) (sym e) h
+there-held w c s gathered accepts farm_old farm_new old new (ends.Done outcome origin) held h (inr e) =
+    subst (HasRunThere w c s gathered accepts farm_old farm_new old new) (sym e) (forgets-there w c s gathered accepts farm_old farm_new old new (ends.Done outcome origin) h)
+there-held w c s gathered accepts farm_old farm_new old new (ends.Failed cause) held h e =
+    subst (HasRunThere w c s gathered accepts farm_old farm_new old new) (sym e) h
+
+-- ---- both attempts, over the parts
+
+stays-none : {C W : Type 0} (c : callers.Ghosts C W) (x : C) → Stays c.vouches c.genuine c.dialect x x
+stays-none c x = record { triples = λ digest command outcome h. h; still_genuine = λ h. h; same_dialect = refl }
+
+-- nothing was asked of a farm, and nothing read for it
+pub idle-there-none : {C T W : Type 0} (w : world.Ghosts W) (c : callers.Ghosts C W) (s : sources.Ghosts T W) (client : C) (tree : T) → IsIdleThere w c s client client tree tree
+idle-there-none w c s client tree = record {
+  unasked = record { conversation_is = refl; stays = stays-none c client; faults_are = refl };
+  unread = gives-none w s tree;
+  source_is = refl;
+}
+
+module _ {W I O T L M B R C : Type 0} (w : world.Ghosts W) (i : inputs.Ghosts I) (o : sinks.Ghosts O) (t : sources.Ghosts T W) (l : sources.Ghosts L W) (k : makers.Ghosts M W B) (b : benches.Ghosts B W)
+    (v : sources.Ghosts R W) (z : callers.Ghosts C W) where
+  -- no local attempt was made
+  pub idle-here-none : (p : Parts I O T L M R C) → IsIdleHere (meanings w i o t l k b v z) p p
+  idle-here-none p = record {
+    unread = gives-in w l (λ (x : Parts I O T L M R C). x.tree_local) p p [] (gives-none w l p.tree_local);
     source_is = refl;
     bench_is = refl;
     returned_is = refl;
   }
 
-  attempted-in : (p q : Parts I O T L M) (j : Job) (result : Result Outcome Cause) → HasAttempted w k b l j p.benches q.benches p.tree_local q.tree_local result
-      → HasAttempted w (meanings w i o t l k b).benches b (source_part (λ (x : Parts I O T L M). x.tree_local) l) j p q p q result
-  attempted-in p q j result a = record {
-    made = a.made;
-    returned = a.returned;
-    on = record {
-      answers = a.on.answers;
-      gives = gives-in w l (λ (x : Parts I O T L M). x.tree_local) p q a.on.answers a.on.gives;
-      ended = a.on.ended;
-    };
-    later = a.later;
-    counted = a.counted;
-    untouched = a.untouched;
+  -- nothing was done yet
+  pub idle-none : (p : Parts I O T L M R C) → IsIdle (meanings w i o t l k b v z) p p
+  idle-none p = record {
+    here = idle-here-none p;
+    there = idle-there-none w (meanings w i o t l k b v z).farm (meanings w i o t l k b v z).tree_remote p p;
   }
 
-  -- the local attempt of a plan that has one was made
-  pub made-here : (p q : Parts I O T L M) (gathered : Gathered) (ended : Result Outcome Cause) (made : Attempted)
-      → has_local gathered.plan ≡ true → HasAttempted w k b l (job_of gathered) p.benches q.benches p.tree_local q.tree_local ended
-      → IfOk ended (IsProper gathered.command) → IfOk ended IsWithinLimits → IfErr ended (λ cause. IsStopped cause → ⊥) → KeepsHere ended made
-      → HasMade (meanings w i o t l k b) gathered p q made
-  made-here p q gathered (Ok outcome) made planned a proper within unstopped (inl e) = record {
-    attempts = Only (Some (ends.Done outcome origins.Local));
-    each = record { local = record { attempted = attempted-in p q (job_of gathered) (Ok outcome) a; proper = proper; within = within; unstopped = tt; from = refl }; planned = sym planned; remote = refl };
-    ends_are = ap (λ (x : Attempted). x.ends) e;
-    won_is = ap (λ (x : Attempted). x.won) e;
-  }
-  made-here p q gathered (Ok outcome) made planned a proper within unstopped (inr e) = record {
-    attempts = Only (Some (ends.Failed causes.NoMemory));
+  -- the local attempt was made by its parts
+  pub here-in : (p q : Parts I O T L M R C) (gathered : Gathered) (end : End Outcome Cause) → HasRunHere w k b l gathered p.benches q.benches p.tree_local q.tree_local end
+      → HasEndedHere (meanings w i o t l k b v z) gathered p q end
+  here-in p q gathered end h =
+      let a = h.attempted in
+      record {
+        attempted = record {
+          made = a.made;
+          returned = a.returned;
+          on = record {
+            answers = a.on.answers;
+            gives = gives-in w l (λ (x : Parts I O T L M R C). x.tree_local) p q a.on.answers a.on.gives;
+            ended = a.on.ended;
+          };
+          later = a.later;
+          counted = a.counted;
+          untouched = a.untouched;
+        };
+        proper = h.proper;
+        within = h.within;
+        unstopped = h.unstopped;
+        from = h.from;
+      }
+
+  -- and so was the remote one
+  pub there-in : (p q : Parts I O T L M R C) (gathered : Gathered) (accepts : Bool) (end : End Outcome RemoteCause) → EndsThere w z v gathered accepts p.farm q.farm p.tree_remote q.tree_remote end
+      → HasRemote (meanings w i o t l k b v z) gathered accepts p q (Some end)
+  there-in p q gathered accepts end h =
+      there-mirrored w z _ v _ p.farm q.farm p q p.tree_remote q.tree_remote p q
+      (farm-in z (λ (x : Parts I O T L M R C). x.farm) p) (farm-in z (λ (x : Parts I O T L M R C). x.farm) q)
+      (source-in v (λ (x : Parts I O T L M R C). x.tree_remote) p) (source-in v (λ (x : Parts I O T L M R C). x.tree_remote) q)
+      gathered accepts end h
+
+  -- the remote attempt where the plan has one, then the local one where it starts
+  pub both-made : (p q r : Parts I O T L M R C) (gathered : Gathered) (accepts : Bool) (here : Option (End Outcome Cause)) (there : Option (End Outcome RemoteCause)) (made : Attempted)
+      → IsSameHere p q → IsSameThere q r
+      → HasRemote (meanings w i o t l k b v z) gathered accepts p q there → is_some there ≡ has_remote gathered.plan
+      → HasLocal (meanings w i o t l k b v z) gathered q r here → is_some here ≡ starts_here gathered.plan there
+      → IsMadeOf gathered.plan here there made
+      → HasMade (meanings w i o t l k b v z) gathered accepts p r made
+  both-made p q r gathered accepts here there made same_here same_there h started_there g started_here is = record {
+    attempts = record { local = here; remote = there };
     each = record {
-      local = record {
-        attempted = attempted-in p q (job_of gathered) (Err causes.NoMemory) (forgets w k b l (job_of gathered) p.benches q.benches p.tree_local q.tree_local outcome a);
-        proper = tt;
-        within = tt;
-        unstopped = λ stopped. absurd stopped;
-        from = tt;
-      };
-      planned = sym planned;
-      remote = refl;
+      local = local-move w i o t l k b v z q r p r gathered here (record { tree_local = sym same_here.tree_local; benches = sym same_here.benches }) (record { tree_local = refl; benches = refl }) g;
+      remote = remote-move w i o t l k b v z p q p r gathered accepts there (record { tree_remote = refl; farm = refl }) same_there h;
+      started_here = started_here;
+      started_there = started_there;
     };
-    ends_are = ap (λ (x : Attempted). x.ends) e;
-    won_is = ap (λ (x : Attempted). x.won) e;
-  }
-  made-here p q gathered (Err cause) made planned a proper within unstopped e = record {
-    attempts = Only (Some (ends.Failed cause));
-    each = record { local = record { attempted = attempted-in p q (job_of gathered) (Err cause) a; proper = tt; within = tt; unstopped = unstopped; from = tt }; planned = sym planned; remote = refl };
-    ends_are = ap (λ (x : Attempted). x.ends) e;
-    won_is = ap (λ (x : Attempted). x.won) e;
+    ends_are = is.ends_are;
+    won_is = is.won_is;
   }
 
-  -- a plan without a local attempt has none
-  pub made-nowhere : (p : Parts I O T L M) (gathered : Gathered) (ended : List Ended) → has_local gathered.plan ≡ false → ended ≡ []
-      → HasMade (meanings w i o t l k b) gathered p p (record { ends = ended; won = None })
-  made-nowhere p gathered ended planned e = record {
-    attempts = Only None;
-    each = record { local = idle-none p; planned = sym planned; remote = refl };
-    ends_are = e;
-    won_is = refl;
+-- ---- counts
+
+module _ {P W B : Type 0} (m : Meanings P W B) (before after : P) where
+  here-later : (gathered : Gathered) (end : Option (End Outcome Cause)) → HasLocal m gathered before after end
+      → (m.tree_local.faults before ≤ m.tree_local.faults after) × (m.benches.faults before ≤ m.benches.faults after)
+  here-later gathered None h = let s = h.source_is in let n = h.bench_is in (omega arith, omega arith)
+  here-later gathered (Some end) h = (h.attempted.on.gives.later, h.attempted.later)
+
+  there-later : (gathered : Gathered) (accepts : Bool) (end : Option (End Outcome RemoteCause)) → HasRemote m gathered accepts before after end
+      → (m.tree_remote.faults before ≤ m.tree_remote.faults after) × (m.farm.faults before ≤ m.farm.faults after)
+  there-later gathered accepts None h = let s = h.source_is in let n = h.unasked.faults_are in (omega arith, omega arith)
+  there-later gathered accepts (Some end) (inl h) = let s = h.1.source_is in let n = h.1.unasked.faults_are in (omega arith, omega arith)
+  there-later gathered accepts (Some end) (inr h) = (h.own.gives.later, h.stays.exchanged.later)
+
+  -- no count falls in attempts
+  pub attempts-later : (gathered : Gathered) (accepts : Bool) (attempts : Attempts) → HasAttempts m gathered accepts before after attempts → AreLaterThan m before after
+  attempts-later gathered accepts attempts h =
+      let here = here-later gathered attempts.local h.local in
+      let there = there-later gathered accepts attempts.remote h.remote in
+      record { tree_local = here.0; benches = here.1; tree_remote = there.0; farm = there.1 }
+
+module _ {W I O T L M B R C : Type 0} (w : world.Ghosts W) (i : inputs.Ghosts I) (o : sinks.Ghosts O) (t : sources.Ghosts T W) (l : sources.Ghosts L W) (k : makers.Ghosts M W B) (b : benches.Ghosts B W)
+    (v : sources.Ghosts R W) (z : callers.Ghosts C W) where
+  -- so it is from a state with the same parts on
+  pub later-same : (p q r : Parts I O T L M R C) → IsSame p q → AreLaterThan (meanings w i o t l k b v z) q r → AreLaterThan (meanings w i o t l k b v z) p r
+  later-same p q r same h = record {
+    tree_local = subst (λ x. l.faults x ≤ l.faults r.tree_local) same.here.tree_local h.tree_local;
+    benches = subst (λ x. k.faults x ≤ k.faults r.benches) same.here.benches h.benches;
+    tree_remote = subst (λ x. v.faults x ≤ v.faults r.tree_remote) same.there.tree_remote h.tree_remote;
+    farm = subst (λ x. z.faults x ≤ z.faults r.farm) same.there.farm h.farm;
   }
+
+  pub later-none : (p : Parts I O T L M R C) → AreLaterThan (meanings w i o t l k b v z) p p
+  later-none p = record { tree_local = omega arith; benches = omega arith; tree_remote = omega arith; farm = omega arith }
 
 -- ---- the outcome that is published
 
-only-done : (plan : Plan) (local : Option (End Outcome Cause)) (won : Won) → winner plan (Only local) ≡ Some won → first_done (kept_ends (Only local)) ≡ Some (kept won.outcome)
-only-done plan None won h = absurd (let e : None ≡ Some won = h in cc)
-only-done plan (Some (ends.Failed cause)) won h = absurd (let e : None ≡ Some won = h in cc)
-only-done plan (Some (ends.Done outcome origin)) won h = ap (λ (x : Won). Some (kept x.outcome)) (some-inj h)
+pub if-some : (test : Bool) (first won : Won) → (if test then Some first else None) ≡ Some won → first ≡ won
+if-some true first won h = some-inj h
+if-some false first won h = absurd (none-some h)
+
+remote-first : (plan : Plan) (remote : Option (End Outcome RemoteCause)) (won : Won) → won_remote plan remote ≡ Some won → first_done (listed_remote (kept_of remote)) ≡ Some (kept won.outcome)
+remote-first plan None won h = absurd (none-some h)
+remote-first plan (Some (ends.Failed cause)) won h = absurd (none-some h)
+remote-first plan (Some (ends.Done outcome origin)) won h =
+    ap (λ (x : Won). Some (kept x.outcome)) (if-some (is_zero outcome.exit.code || is_remote_only plan) (record { outcome = outcome; origin = origin }) won h)
+
+first-by : (plan : Plan) (local : Option (End Outcome Cause)) (remote : Option (End Outcome RemoteCause)) (won : Won) → first_won (outcome_of local) (won_remote plan remote) ≡ Some won
+    → first_done (kept_ends (record { local = local; remote = remote })) ≡ Some (kept won.outcome)
+first-by plan None remote won h = remote-first plan remote won h
+first-by plan (Some (ends.Failed cause)) remote won h = remote-first plan remote won h
+first-by plan (Some (ends.Done outcome origin)) remote won h = ap (λ (x : Won). Some (kept x.outcome)) (some-inj h)
 
 -- the first outcome among the ends is the one that is published
-pub won-first : (plan : Plan) (attempts : Attempts) (won : Won) → attempts.remote ≡ None → winner plan attempts ≡ Some won → first_done (kept_ends attempts) ≡ Some (kept won.outcome)
-won-first plan attempts won alone h =
-    rw alone (only-done plan attempts.local won (rw alone at h))
+pub won-first : (plan : Plan) (attempts : Attempts) (won : Won) → winner plan attempts ≡ Some won → first_done (kept_ends attempts) ≡ Some (kept won.outcome)
+won-first plan attempts won h = first-by plan attempts.local attempts.remote won h
 
 -- and its files are those of the entry
-pub won-files : (plan : Plan) (attempts : Attempts) (won : Won) (ended : List Ended) → attempts.remote ≡ None → winner plan attempts ≡ Some won → ended ≡ kept_ends attempts → files_of ended ≡ listing won.outcome.files
-won-files plan attempts won ended alone h e =
-    rw (e, won-first plan attempts won alone h) refl
+pub won-files : (plan : Plan) (attempts : Attempts) (won : Won) (ended : List Ended) → winner plan attempts ≡ Some won → ended ≡ kept_ends attempts → files_of ended ≡ listing won.outcome.files
+won-files plan attempts won ended h e =
+    rw (e, won-first plan attempts won h) refl

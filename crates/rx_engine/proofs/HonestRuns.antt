@@ -1,28 +1,35 @@
 -- What a session of an honest world stands on, and its clean run.
-use Rattle.std.proofs.Common.{◌≡◌, ℕ, ℤ, List, [], ◌∷◌, ◌++◌, refl, ap, sym, subst, ◌∙◌, append-nil, length}
-use Rattle.std.specs.Prelude.{All, IfSome, MatchOption, None, Ok, Option, Some}
+use Rattle.std.proofs.Common.{◌≡◌, ◌||◌, ℕ, ℤ, Bool, true, List, [], ◌∷◌, ◌++◌, refl, ap, sym, subst, ◌∙◌, append-nil, length, inl, inr}
+use Rattle.std.specs.Prelude.{All, IfSome, MatchOption, None, Ok, Option, Some, is_some}
 use Rattle.std.specs.Io.KnownBytes.{Consumes, IsAtEnd}
 use Rattle.std.proofs.lemmas.List.Elements.{All-weaker}
+use Rattle.rx_action.specs.ActionKeys.{key_of}
+use Rattle.rx_base.specs.declared.digests.Digest.{Digest}
 use Rattle.rx_board.specs.declared.journal.Entry.{Entry}
 use Rattle.rx_local.proofs.Staging.{staged-listed}
 use Rattle.rx_reach.specs.Scenes.{IsRight, scene_of}
+use Rattle.rx_remote.specs.Runs.{IsRightEnd}
 use Rattle.rx_scan.specs.declared.gathering.Gathered.{Gathered}
+use Rattle.rx_scan.specs.Gathering.{IsGathered}
 use Rattle.rx_scan.specs.Lists.{IsRightList, Shows}
 use Rattle.rx_session.specs.declared.replies.Reply.{Reply}
 use Rattle.rx_session.specs.declared.replies.Reply.TheVariants as reply
 use Rattle.rx_session.specs.declared.requests.Request.{Request}
 use Rattle.rx_session.specs.Frames.{request_of}
+use Rattle.rx_tree.specs.WorldTrees.{IsCopyOf, IsRootOfCopies, root_of}
 use Rattle.rx_world.specs.declared.attempts.Cause.{Cause}
 use Rattle.rx_world.specs.declared.attempts.End.{End}
 use Rattle.rx_world.specs.declared.attempts.End.TheVariants as ends
 use Rattle.rx_world.specs.declared.attempts.Ended.{Ended}
 use Rattle.rx_world.specs.declared.attempts.Origin.{Origin}
-use Rattle.rx_world.specs.declared.attempts.Plan.{Plan}
 use Rattle.rx_world.specs.declared.looks.Look.{Look}
 use Rattle.rx_world.specs.declared.outcomes.Outcome.{Outcome}
+use Rattle.rx_world.specs.declared.remote_causes.RemoteCause.{RemoteCause}
+use Rattle.rx_world.specs.declared.remote_causes.RemoteCause.TheVariants as remote_causes
 use Rattle.rx_world.specs.declared.sources.Given.{Given}
 use Rattle.rx_world.specs.declared.sources.SourceEntry.{SourceEntry}
 use Rattle.rx_world.specs.Answers.{IsAnswerOf}
+use Rattle.rx_world.specs.Inputs.{IsAsListed, listed_copy}
 use Rattle.rx_world.specs.Outcomes.{IsClean, listing}
 use Rattle.rx_world.specs.Sources.{entry_at}
 use Rattle.rx_world.specs.Trees.{tree_of}
@@ -30,19 +37,23 @@ use Rattle.rx_engine.specs.declared.attempts.Won.{Won}
 use Rattle.rx_engine.specs.declared.transcripts.Ending.{Ending}
 use Rattle.rx_engine.specs.declared.transcripts.Ending.TheVariants.{NoMemory, Replied, SinkLost, SourceLost}
 use Rattle.rx_engine.specs.declared.transcripts.Transcript.{Transcript}
-use Rattle.rx_engine.specs.Answers.{Grounds, HasWon, asked_of, done_reply, grounds}
-use Rattle.rx_engine.specs.Attempts.{Attempts, HasEndedHere, HasLocal, first_done, winner}
-use Rattle.rx_engine.specs.Honest.{IsCleanDone, IsCleanFrom, IsCleanIfDone, IsHonest, listed_tree, whole_entry}
+use Rattle.rx_engine.specs.Answers.{Grounds, HasGathered, HasWon, asked_of, done_reply, grounds}
+use Rattle.rx_engine.specs.Attempts.{HasEndedHere, HasLocal, HasRemote, first_done, first_won, has_remote, is_remote_only, is_zero, outcome_of, won_remote}
+use Rattle.rx_engine.specs.Honest.{IsCleanDone, IsCleanFrom, IsCleanIfDone, IsHonest, IsSteady, IsTrusted, IsTrustedFor, listed_tree, whole_entry}
 use Rattle.rx_engine.specs.Journal.{IsEntry, IsJournalled, IsPlaced, files_of}
 use Rattle.rx_engine.specs.Meanings.{Meanings}
+use Rattle.rx_engine.specs.RemoteAttempts.{EndsThere, HasRunThere}
 use Rattle.rx_engine.specs.Session.{IsCourse, IsSession, Replies, RepliesTo}
-use Rattle.rx_engine.proofs.AttemptLemmas.{won-files, won-first}
+use Rattle.rx_engine.proofs.AttemptLemmas.{if-some, won-files, won-first}
 
 none-some : {A : Type 0} {a : A} → None ≡ Some a → ⊥
 none-some h = cc
 
 some-inj : {A : Type 0} {a b : A} → Some a ≡ Some b → a ≡ b
 some-inj h = cc
+
+abbrev as-remote : End Outcome RemoteCause → End Outcome RemoteCause
+as-remote end = end
 
 -- ---- the request
 
@@ -75,7 +86,7 @@ nothing-seen : (entries : List SourceEntry) (path : List ℕ) (look : Look) → 
 nothing-seen entries path look h = absurd (none-some h)
 
 -- of what was told this holds
-told-by : (P : List SourceEntry → Type 0) (o : Option (List SourceEntry)) (entries : List SourceEntry) → o ≡ Some entries → IfSome o P → P entries
+pub told-by : (P : List SourceEntry → Type 0) (o : Option (List SourceEntry)) (entries : List SourceEntry) → o ≡ Some entries → IfSome o P → P entries
 told-by P None entries e h = absurd (none-some e)
 told-by P (Some told) entries e h = let same : told ≡ entries = some-inj e in subst P same h
 
@@ -83,11 +94,13 @@ told-by P (Some told) entries e h = let same : told ≡ entries = some-inj e in 
 abbrev pub grounds_of : {P W B : Type 0} (m : Meanings P W B) (root : List ℕ) (before after : P) (t : Transcript) → IsSession m root before after t → Grounds P
 grounds_of m root before after t s = grounds before after s.answers s.lists s.view
 
--- Tools are honest, and both source trees told what the list has and keep it.
+-- Tools are honest, and the source trees for gathering and for local attempts told what the list has and keep it.
 pub record IsByList {P W B : Type 0} (m : Meanings P W B) (entries : List SourceEntry) (g : Grounds P) : Type 0 where
   pub tools_hold : m.world.tools_honest
   pub told : All (IsAnswerOf entries) g.answers
   pub lists : All (IsRightList (scene_of entries)) g.lists
+  pub listed : m.tree.listed g.before ≡ Some entries
+  pub kept : m.tree.keeps g.before
   pub local_listed : m.tree_local.listed g.before ≡ Some entries
   pub local_kept : m.tree_local.keeps g.before
 
@@ -96,11 +109,13 @@ pub shows : {P W B : Type 0} (m : Meanings P W B) (entries : List SourceEntry) (
 shows m entries g h = record { seen = λ path look e. nothing-seen entries path look e; answered = all-right entries g.answers h.told; listed = h.lists }
 
 pub by-list : {P W B : Type 0} (m : Meanings P W B) (root : List ℕ) (before after : P) (t : Transcript) (bytes : List ℕ) (asked : Request) (entries : List SourceEntry)
-    → (s : IsSession m root before after t) → IsHonest m root before bytes asked entries → IsByList m entries (grounds_of m root before after t s)
+    → (s : IsSession m root before after t) → IsSteady m root before bytes asked entries → IsByList m entries (grounds_of m root before after t s)
 by-list m root before after t bytes asked entries s h = record {
   tools_hold = h.tools;
   told = told-by (λ entries. All (IsAnswerOf entries) s.answers) (m.tree.listed before) entries h.listed (s.looked.gives.by_list h.kept_list);
   lists = told-by (λ entries. All (IsRightList (scene_of entries)) s.lists) (m.tree.listed before) entries h.listed (s.looked.by_list h.kept_list);
+  listed = h.listed;
+  kept = h.kept_list;
   local_listed = h.local_listed;
   local_kept = h.local_kept;
 }
@@ -113,31 +128,90 @@ again m entries g gathered end b h =
 
 -- ---- a clean run
 
-abbrev Here : Option (End Outcome Cause) → Attempts
-Here local = record { local = local; remote = None }
+-- what was gathered is right in the list's scene
+pub gathered-by : {P W B : Type 0} (m : Meanings P W B) (entries : List SourceEntry) (g : Grounds P) (asked : Request) (gathered : Gathered) → IsByList m entries g → HasGathered m g asked gathered
+    → IsGathered (scene_of entries) (asked_of asked) gathered
+gathered-by m entries g asked gathered b h = h.by.shown (scene_of entries) (shows m entries g b)
+
+-- each gathered file is as the list has it
+pub files-listed : {P W B : Type 0} (m : Meanings P W B) (entries : List SourceEntry) (g : Grounds P) (asked : Request) (gathered : Gathered) → IsByList m entries g → m.world.stamps_honest
+    → HasGathered m g asked gathered → All (IsAsListed entries) gathered.files
+files-listed m entries g asked gathered b stamps h =
+    told-by (λ entries. All (IsAsListed entries) gathered.files) (m.tree.listed g.before) entries b.listed (h.listed stamps b.kept)
 
 -- the outcome of the local attempt is the clean one, from the list
-clean-here : {P W B : Type 0} (m : Meanings P W B) (entries : List SourceEntry) (g : Grounds P) (gathered : Gathered) (plan : Plan) (local : Option (End Outcome Cause)) (won : Won) → IsByList m entries g
-    → HasLocal m gathered g.before g.after local → winner plan (Here local) ≡ Some won → IsClean m.world.tool gathered.command (listed_tree entries gathered) won.outcome
-clean-here m entries g gathered plan None won b h w = absurd (none-some w)
-clean-here m entries g gathered plan (Some (ends.Failed cause)) won b h w = absurd (none-some w)
-clean-here m entries g gathered plan (Some (ends.Done outcome origin)) won b h w =
+clean-here : {P W B : Type 0} (m : Meanings P W B) (entries : List SourceEntry) (g : Grounds P) (gathered : Gathered) (outcome : Outcome) (origin : Origin) → IsByList m entries g
+    → HasEndedHere m gathered g.before g.after (ends.Done outcome origin) → IsClean m.world.tool gathered.command (listed_tree entries gathered) outcome
+clean-here m entries g gathered outcome origin b h =
     let of = h.attempted.on.ended.of in
-    let same : outcome ≡ won.outcome = ap (λ (x : Won). x.outcome) (some-inj w) in
-    subst (λ x. IsClean m.world.tool gathered.command (listed_tree entries gathered) x) same
-    (subst (λ copies. IsClean m.world.tool gathered.command (tree_of copies gathered.dirs) outcome)
-    (staged-listed entries gathered.files h.attempted.on.answers of.staged of.each (again m entries g gathered (ends.Done outcome origin) b h)) (of.clean b.tools_hold))
+    subst (λ copies. IsClean m.world.tool gathered.command (tree_of copies gathered.dirs) outcome)
+    (staged-listed entries gathered.files h.attempted.on.answers of.staged of.each (again m entries g gathered (ends.Done outcome origin) b h)) (of.clean b.tools_hold)
+
+-- the root of the tree that was gathered is that of the list's tree
+root-listed : (entries : List SourceEntry) (gathered : Gathered) (root : Digest) → IsRootOfCopies gathered.files gathered.dirs root → All (IsAsListed entries) gathered.files
+    → root ≡ root_of (listed_tree entries gathered)
+root-listed entries gathered root copies listed =
+    copies (listed_copy entries)
+    (All-weaker (IsAsListed entries) (λ file. IsCopyOf file (listed_copy entries file)) (λ file here. record { path_is = refl; digest_is = here.digest_is; mark_is = refl }) gathered.files listed)
+
+-- the end of a remote attempt on a farm that is trusted is right for the list's tree
+pub right-there : {P W B : Type 0} (m : Meanings P W B) (entries : List SourceEntry) (g : Grounds P) (gathered : Gathered) (accepts : Bool) (end : End Outcome RemoteCause)
+    → All (IsAsListed entries) gathered.files → IsTrusted m g.before gathered.command (listed_tree entries gathered)
+    → HasRunThere m.world m.farm m.tree_remote gathered accepts g.before g.after g.before g.after end
+    → IsRightEnd m.world.tool gathered.command (listed_tree entries gathered) end
+right-there m entries g gathered accepts end listed trusted h =
+    let tree = listed_tree entries gathered in
+    h.right tree trusted.genuine
+    (subst (λ x. m.farm.vouches g.before (key_of gathered.command x (m.farm.dialect g.before)).digest gathered.command (m.world.tool gathered.command tree))
+    (sym (root-listed entries gathered h.root h.tree.of_copies listed)) trusted.vouches)
+
+failed-done : (outcome : Outcome) (origin : Origin) (cause : RemoteCause) → as-remote (ends.Done outcome origin) ≡ ends.Failed cause → ⊥
+failed-done outcome origin cause e = cc e
+
+-- so its outcome is the clean one
+clean-there : {P W B : Type 0} (m : Meanings P W B) (entries : List SourceEntry) (g : Grounds P) (gathered : Gathered) (accepts : Bool) (outcome : Outcome) (origin : Origin)
+    → All (IsAsListed entries) gathered.files → IsTrusted m g.before gathered.command (listed_tree entries gathered)
+    → EndsThere m.world m.farm m.tree_remote gathered accepts g.before g.after g.before g.after (ends.Done outcome origin)
+    → IsClean m.world.tool gathered.command (listed_tree entries gathered) outcome
+clean-there m entries g gathered accepts outcome origin listed trusted (inl h) = absurd (failed-done outcome origin remote_causes.NoMemory h.0)
+clean-there m entries g gathered accepts outcome origin listed trusted (inr h) =
+    (right-there m entries g gathered accepts (ends.Done outcome origin) listed trusted h).clean outcome origin refl
+
+module _ {P W B : Type 0} (m : Meanings P W B) (entries : List SourceEntry) (g : Grounds P) (asked : Request) (b : IsByList m entries g) (farm : IsTrustedFor m g.before entries (asked_of asked))
+    (gathered : Gathered) (inputs : HasGathered m g asked gathered) where
+  -- the farm is trusted where the plan has a remote attempt
+  pub trusted : has_remote gathered.plan ≡ true → IsTrusted m g.before gathered.command (listed_tree entries gathered)
+  trusted has = farm gathered (gathered-by m entries g asked gathered b inputs) inputs.orderly has
+
+  won-there : (remote : Option (End Outcome RemoteCause)) (won : Won) → HasRemote m gathered asked.accept_cached g.before g.after remote → is_some remote ≡ has_remote gathered.plan
+      → won_remote gathered.plan remote ≡ Some won → IsClean m.world.tool gathered.command (listed_tree entries gathered) won.outcome
+  won-there None won h started w = absurd (none-some w)
+  won-there (Some (ends.Failed cause)) won h started w = absurd (none-some w)
+  won-there (Some (ends.Done outcome origin)) won h started w =
+      let here = trusted (sym started) in
+      let same : outcome ≡ won.outcome = ap (λ (x : Won). x.outcome) (if-some (is_zero outcome.exit.code || is_remote_only gathered.plan) (record { outcome = outcome; origin = origin }) won w) in
+      subst (λ x. IsClean m.world.tool gathered.command (listed_tree entries gathered) x) same
+      (clean-there m entries g gathered asked.accept_cached outcome origin (files-listed m entries g asked gathered b here.stamps inputs) here h)
+
+  -- the outcome that is published is the clean one, from the list
+  won-clean : (local : Option (End Outcome Cause)) (remote : Option (End Outcome RemoteCause)) (won : Won)
+      → HasLocal m gathered g.before g.after local → HasRemote m gathered asked.accept_cached g.before g.after remote → is_some remote ≡ has_remote gathered.plan
+      → first_won (outcome_of local) (won_remote gathered.plan remote) ≡ Some won → IsClean m.world.tool gathered.command (listed_tree entries gathered) won.outcome
+  won-clean None remote won h there started w = won-there remote won there started w
+  won-clean (Some (ends.Failed cause)) remote won h there started w = won-there remote won there started w
+  won-clean (Some (ends.Done outcome origin)) remote won h there started w =
+      let same : outcome ≡ won.outcome = ap (λ (x : Won). x.outcome) (some-inj w) in
+      subst (λ x. IsClean m.world.tool gathered.command (listed_tree entries gathered) x) same (clean-here m entries g gathered outcome origin b h)
 
 clean-from : {P W B : Type 0} (m : Meanings P W B) (entries : List SourceEntry) (g : Grounds P) (asked : Request) (kept : List Ended) (won : Won)
-    → IsByList m entries g → HasWon m g asked kept won → IsCleanFrom m.world.tool entries (asked_of asked) won.outcome
-clean-from m entries g asked kept won b h =
+    → IsByList m entries g → IsTrustedFor m g.before entries (asked_of asked) → HasWon m g asked kept won → IsCleanFrom m.world.tool entries (asked_of asked) won.outcome
+clean-from m entries g asked kept won b farm h =
     let run = h.run in
-    let w : winner run.gathered.plan (Here run.attempts.local) ≡ Some won = rw run.made.remote at h.won_is in
     record {
       gathered = run.gathered;
-      inputs = run.inputs.by.shown (scene_of entries) (shows m entries g b);
+      inputs = gathered-by m entries g asked run.gathered b run.inputs;
       orderly = run.inputs.orderly;
-      clean = clean-here m entries g run.gathered run.gathered.plan run.attempts.local won b run.made.local w;
+      clean = won-clean m entries g asked b farm run.gathered run.inputs run.attempts.local run.attempts.remote won run.made.local run.made.remote run.made.started_there h.won_is;
     }
 
 -- the entry of a session that is done has all files of its outcome
@@ -162,17 +236,17 @@ module _ {P W B : Type 0} (m : Meanings P W B) (root : List ℕ) (before after :
       let g : Grounds P = grounds_of m root before after t s in
       let done : RepliesTo m root g t.read t.request t.receipt t.ends (reply.Done exit stdout stderr from number placed) =
       subst (λ a. Replies m root g t.read t.request t.receipt t.ends a) (some-inj (sym e ∙ is_done)) replies in
-      let same : done.0 ≡ asked = same-request root (m.input.left before) (m.input.left after) bytes t.read done.0 asked h.told s.read done.1.ended done.1.decoded h.valid in
+      let same : done.0 ≡ asked = same-request root (m.input.left before) (m.input.left after) bytes t.read done.0 asked h.steady.told s.read done.1.ended done.1.decoded h.steady.valid in
       let won : Won = done.2.0 in
       let has : HasWon m g asked t.ends won = subst (λ x. HasWon m g x t.ends won) same done.2.1 in
       let run = has.run in
       let reply_is : t.reply ≡ Some (done_reply won number) = is_done ∙ ap (λ a. Some a) done.2.2 in
       record {
         won = won;
-        clean = clean-from m entries g asked t.ends won (by-list m root before after t bytes asked entries s h) has;
+        clean = clean-from m entries g asked t.ends won (by-list m root before after t bytes asked entries s h.steady) h.farm has;
         reply_is = reply_is;
-        end_is = ap first_done run.ends_are ∙ won-first run.gathered.plan run.attempts won run.made.remote has.won_is;
-        entry = whole limit old new pb pn t won number j done.2.3 reply_is (won-files run.gathered.plan run.attempts won t.ends run.made.remote has.won_is run.ends_are);
+        end_is = ap first_done run.ends_are ∙ won-first run.gathered.plan run.attempts won has.won_is;
+        entry = whole limit old new pb pn t won number j done.2.3 reply_is (won-files run.gathered.plan run.attempts won t.ends has.won_is run.ends_are);
       }
 
   done-by : (ending : Ending) → IsCourse m root (grounds_of m root before after t s) t ending → IsCleanDone m.world.tool entries (asked_of asked) old new t number

@@ -1,5 +1,6 @@
 mod AnswerLemmas
 mod AttemptLemmas
+mod Calm
 mod CourseLemmas
 mod EachDone
 mod Early
@@ -7,10 +8,11 @@ mod Entries
 mod Failures
 mod HonestRuns
 mod LegalLemmas
+mod LostRuns
+mod Mirrors
 mod Moves
 mod Quiet
 mod ReadyLemmas
 mod ReplyMoves
 mod RunLemmas
-mod Served
 mod SessionSteps

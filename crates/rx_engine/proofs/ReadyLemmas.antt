@@ -1,6 +1,6 @@
 -- What is made ready is a reply to what was read.
 use Rattle.std.proofs.Common.{◌≡◌, ◌⊎◌, ℕ, List, [], false, true, inl, inr, refl}
-use Rattle.std.specs.Prelude.{◌↔◌, Err, IfSome, IsNone, None, Ok, Option, Result, Some}
+use Rattle.std.specs.Prelude.{◌↔◌, Err, IfOk, IfSome, IsNone, None, Ok, Option, Result, Some}
 use Rattle.std.specs.Io.KnownBytes.{IsAtEnd}
 use Rattle.rx_board.specs.declared.journal.Receipt.{Receipt}
 use Rattle.rx_session.specs.declared.bad.Bad.{Bad}
@@ -12,7 +12,9 @@ use Rattle.rx_session.specs.declared.replies.Reply.TheVariants as reply
 use Rattle.rx_session.specs.declared.requests.Request.{Request}
 use Rattle.rx_session.specs.Bad.{Decodes}
 use Rattle.rx_session.specs.Frames.{EndsRead, request_of}
+use Rattle.rx_session.proofs.DecodedLemmas.{outputs-below}
 use Rattle.rx_world.specs.declared.attempts.Ended.{Ended}
+use Rattle.rx_exec_messages.specs.declared.callers.Caller as callers
 use Rattle.rx_world.specs.declared.benches.Bench as benches
 use Rattle.rx_world.specs.declared.benches.BenchMaker as makers
 use Rattle.rx_world.specs.declared.sources.Sources as sources
@@ -24,7 +26,7 @@ use Rattle.rx_engine.specs.declared.answers.Handled.{Handled}
 use Rattle.rx_engine.specs.declared.desk.Parts.{Parts}
 use Rattle.rx_engine.specs.declared.sessions.Ready.{Ready}
 use Rattle.rx_engine.specs.Answered.{IsPlain, bad_request, reply_no_memory}
-use Rattle.rx_engine.specs.Answers.{Answers, Grounds, IsUnrun, grounds}
+use Rattle.rx_engine.specs.Answers.{Answers, Grounds, HasOutputsBelow, IsUnrun, grounds}
 use Rattle.rx_engine.specs.Meanings.{Meanings, meanings}
 use Rattle.rx_engine.specs.Ready.{AnswersAs, HasHandled, HasReadied, IsReady, IsReadyAs, IsRefusalOf}
 use Rattle.rx_engine.specs.Session.{IsAsked, IsUntouched, Replies}
@@ -78,6 +80,11 @@ module _ {P W B : Type 0} (m : Meanings P W B) (root : List ℕ) (g : Grounds P)
   ready-refused faults.NoMemory ready u d end h = rw (h.request_is, h.ends_are) (given-up [] ready.handled.answered u.unrun h.answered)
   ready-refused faults.ReadFault ready u d end h = absurd (some-none h)
 
+-- a request that was read has its outputs below its working directory
+pub read-outputs : (root read : List ℕ) (asked : Result Request SessionFault) → Decodes (λ request. request) asked (request_of root read) → IfOk asked HasOutputsBelow
+read-outputs root read (Ok request) h = outputs-below root read request h
+read-outputs root read (Err fault) h = tt
+
 -- a request was handled
 pub readied-request : {P W B : Type 0} (m : Meanings P W B) (asked : Result Request SessionFault) (request : Request) (before after : P) (handled : Handled)
     → asked ≡ Ok request → HasHandled m request before after handled → HasReadied m asked before after (record { request = Some request; handled = handled })
@@ -89,22 +96,23 @@ readied-request m asked request before after handled e h = record {
   is_ready = λ root read d end. ready-asked m root _ read request handled.ends handled.answered (record { request_is = refl; decoded = rw e at d; ended = rw e at end }) h.answered;
 }
 
-module _ {W I O T L M B : Type 0} (w : world.Ghosts W) (i : inputs.Ghosts I) (o : sinks.Ghosts O) (t : sources.Ghosts T W) (l : sources.Ghosts L W) (k : makers.Ghosts M W B) (b : benches.Ghosts B W) where
-  readied-at : (p : Parts I O T L M) (asked : Result Request SessionFault) (fault : SessionFault) (ready : Ready) → asked ≡ Err fault → IsRefusalOf fault (Some ready)
-      → HasReadied (meanings w i o t l k b) asked p p ready
+module _ {W I O T L M B R C : Type 0} (w : world.Ghosts W) (i : inputs.Ghosts I) (o : sinks.Ghosts O) (t : sources.Ghosts T W) (l : sources.Ghosts L W) (k : makers.Ghosts M W B) (b : benches.Ghosts B W)
+    (v : sources.Ghosts R W) (z : callers.Ghosts C W) where
+  readied-at : (p : Parts I O T L M R C) (asked : Result Request SessionFault) (fault : SessionFault) (ready : Ready) → asked ≡ Err fault → IsRefusalOf fault (Some ready)
+      → HasReadied (meanings w i o t l k b v z) asked p p ready
   readied-at p asked fault ready e h = record {
     answers = [];
     lists = [];
     view = [];
-    looked = tells-in w t (λ (x : Parts I O T L M). x.tree) p p [] [] (tells-none w t p.tree);
+    looked = tells-in w t (λ (x : Parts I O T L M R C). x.tree) p p [] [] (tells-none w t p.tree);
     is_ready = λ root read d end.
-        ready-refused (meanings w i o t l k b) root (grounds p p [] [] []) read fault ready
-        (record { answers_are = refl; lists_are = refl; unrun = record { idle = idle-none w i o t l k b p; ends_are = refl } }) (rw e at d) (rw e at end) h;
+        ready-refused (meanings w i o t l k b v z) root (grounds p p [] [] []) read fault ready
+        (record { answers_are = refl; lists_are = refl; unrun = record { idle = idle-none w i o t l k b v z p; ends_are = refl } }) (rw e at d) (rw e at end) h;
   }
 
   -- what is no request was refused
-  pub readied-refusal : (p : Parts I O T L M) (asked : Result Request SessionFault) (fault : SessionFault) (result : Option Ready) → asked ≡ Err fault → IsRefusalOf fault result
-      → IfSome result (HasReadied (meanings w i o t l k b) asked p p)
+  pub readied-refusal : (p : Parts I O T L M R C) (asked : Result Request SessionFault) (fault : SessionFault) (result : Option Ready) → asked ≡ Err fault → IsRefusalOf fault result
+      → IfSome result (HasReadied (meanings w i o t l k b v z) asked p p)
   readied-refusal p asked fault None e h = tt
   readied-refusal p asked fault (Some ready) e h = readied-at p asked fault ready e h
 

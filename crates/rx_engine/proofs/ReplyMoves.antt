@@ -1,10 +1,11 @@
 -- What a reply says of some states of the parts, it says of others that differ in the streams alone.
 use Rattle.std.proofs.Common.{◌≡◌, ℕ, List, [], inl, inr, subst, sym}
-use Rattle.std.specs.Prelude.{None, Option, Some}
+use Rattle.std.specs.Prelude.{All, IfSome, None, Option, Some}
 use Rattle.std.specs.Io.KnownBytes.{IsAtEnd}
 use Rattle.rx_board.specs.declared.journal.Receipt.{Receipt}
 use Rattle.rx_scan.specs.declared.gather_fault.GatherFault.{GatherFault}
 use Rattle.rx_scan.specs.declared.gather_fault.GatherFault.TheVariants as fault
+use Rattle.rx_scan.specs.declared.gathering.Gathered.{Gathered}
 use Rattle.rx_scan.specs.Gathering.{BlamesGather}
 use Rattle.rx_scan.specs.Lists.{Listing, stretch}
 use Rattle.rx_session.specs.declared.replies.Reply.{Reply}
@@ -13,12 +14,14 @@ use Rattle.rx_session.specs.declared.requests.Request.{Request}
 use Rattle.rx_world.specs.declared.attempts.Ended.{Ended}
 use Rattle.rx_world.specs.declared.looks.Look.{Look}
 use Rattle.rx_world.specs.declared.sources.Given.{Given}
+use Rattle.rx_exec_messages.specs.declared.callers.Caller as callers
 use Rattle.rx_world.specs.declared.benches.Bench as benches
 use Rattle.rx_world.specs.declared.benches.BenchMaker as makers
 use Rattle.rx_world.specs.declared.sources.Sources as sources
 use Rattle.rx_world.specs.declared.streams.Sink as sinks
 use Rattle.rx_world.specs.declared.streams.Source as inputs
 use Rattle.rx_world.specs.declared.world.World as world
+use Rattle.rx_world.specs.Inputs.{IsAsListed}
 use Rattle.rx_engine.specs.declared.answered.Answered.{Answered}
 use Rattle.rx_engine.specs.declared.attempts.Won.{Won}
 use Rattle.rx_engine.specs.declared.desk.Parts.{Parts}
@@ -26,26 +29,30 @@ use Rattle.rx_engine.specs.Answers.{Answers, HasRun, HasWon, IsRefused, IsUnrun,
 use Rattle.rx_engine.specs.Meanings.{meanings}
 use Rattle.rx_engine.specs.Ready.{IsReadyAs}
 use Rattle.rx_engine.specs.Session.{Replies, RepliesTo, WasHandled}
-use Rattle.rx_engine.proofs.Moves.{attempts-move, idle-move}
+use Rattle.rx_engine.proofs.Moves.{IsSame, attempts-move, idle-move}
 
 -- but for the streams the second pair of states is the first, and the input is in the same state at the end
-pub record AreSame {I O T L M : Type 0} (p q r s : Parts I O T L M) : Type 0 where
+pub record AreSame {I O T L M R C : Type 0} (p q r s : Parts I O T L M R C) : Type 0 where
   pub tree_before : r.tree ≡ p.tree
   pub tree_after : s.tree ≡ q.tree
-  pub local_before : r.tree_local ≡ p.tree_local
-  pub local_after : s.tree_local ≡ q.tree_local
-  pub benches_before : r.benches ≡ p.benches
-  pub benches_after : s.benches ≡ q.benches
+  pub before : IsSame p r
+  pub after : IsSame q s
   pub input_after : s.input ≡ q.input
 
-module _ {W I O T L M B : Type 0} (w : world.Ghosts W) (i : inputs.Ghosts I) (o : sinks.Ghosts O) (t : sources.Ghosts T W) (l : sources.Ghosts L W) (k : makers.Ghosts M W B) (b : benches.Ghosts B W) (p q r s : Parts I O T L M) (same : AreSame p q r s) (xs : List Given) (ls : List Listing) (vs : List (List ℕ × Look)) where
-  unrun-move : (ends : List Ended) → IsUnrun (meanings w i o t l k b) (grounds p q xs ls vs) ends → IsUnrun (meanings w i o t l k b) (grounds r s xs ls vs) ends
+module _ {W I O T L M B R C : Type 0} (w : world.Ghosts W) (i : inputs.Ghosts I) (o : sinks.Ghosts O) (t : sources.Ghosts T W) (l : sources.Ghosts L W) (k : makers.Ghosts M W B) (b : benches.Ghosts B W)
+    (v : sources.Ghosts R W) (z : callers.Ghosts C W) (p q r s : Parts I O T L M R C) (same : AreSame p q r s) (xs : List Given) (ls : List Listing) (vs : List (List ℕ × Look)) where
+  unrun-move : (ends : List Ended) → IsUnrun (meanings w i o t l k b v z) (grounds p q xs ls vs) ends → IsUnrun (meanings w i o t l k b v z) (grounds r s xs ls vs) ends
   unrun-move ends h = record {
-    idle = idle-move w i o t l k b p q r s same.local_before same.local_after same.benches_before same.benches_after h.idle;
+    idle = idle-move w i o t l k b v z p q r s same.before same.after h.idle;
     ends_are = h.ends_are;
   }
 
-  run-move : (request : Request) (ends : List Ended) → HasRun (meanings w i o t l k b) (grounds p q xs ls vs) request ends → HasRun (meanings w i o t l k b) (grounds r s xs ls vs) request ends
+  listed-move : (gathered : Gathered) → (w.stamps_honest → t.keeps p.tree → IfSome (t.listed p.tree) (λ entries. All (IsAsListed entries) gathered.files))
+      → w.stamps_honest → t.keeps r.tree → IfSome (t.listed r.tree) (λ entries. All (IsAsListed entries) gathered.files)
+  listed-move gathered h =
+      subst (λ x. w.stamps_honest → t.keeps x → IfSome (t.listed x) (λ entries. All (IsAsListed entries) gathered.files)) (sym same.tree_before) h
+
+  run-move : (request : Request) (ends : List Ended) → HasRun (meanings w i o t l k b v z) (grounds p q xs ls vs) request ends → HasRun (meanings w i o t l k b v z) (grounds r s xs ls vs) request ends
   run-move request ends h =
       let n = h.inputs in
       record {
@@ -54,21 +61,22 @@ module _ {W I O T L M B : Type 0} (w : world.Ghosts W) (i : inputs.Ghosts I) (o 
           by = record { view_is = n.by.view_is; viewed = n.by.viewed; seen = n.by.seen; shown = n.by.shown };
           orderly = n.orderly;
           digests = n.digests;
+          listed = listed-move h.gathered n.listed;
         };
         attempts = h.attempts;
-        made = attempts-move w i o t l k b p q r s h.gathered h.attempts same.local_before same.local_after same.benches_before same.benches_after h.made;
+        made = attempts-move w i o t l k b v z p q r s h.gathered request.accept_cached h.attempts same.before same.after h.made;
         ends_are = h.ends_are;
       }
 
-  may-move : (request : Request) (ends : List Ended) → MayHaveRun (meanings w i o t l k b) (grounds p q xs ls vs) request ends → MayHaveRun (meanings w i o t l k b) (grounds r s xs ls vs) request ends
+  may-move : (request : Request) (ends : List Ended) → MayHaveRun (meanings w i o t l k b v z) (grounds p q xs ls vs) request ends → MayHaveRun (meanings w i o t l k b v z) (grounds r s xs ls vs) request ends
   may-move request ends (inl h) = inl (unrun-move ends h)
   may-move request ends (inr h) = inr (run-move request ends h)
 
-  won-move : (request : Request) (ends : List Ended) (won : Won) → HasWon (meanings w i o t l k b) (grounds p q xs ls vs) request ends won → HasWon (meanings w i o t l k b) (grounds r s xs ls vs) request ends won
+  won-move : (request : Request) (ends : List Ended) (won : Won) → HasWon (meanings w i o t l k b v z) (grounds p q xs ls vs) request ends won → HasWon (meanings w i o t l k b v z) (grounds r s xs ls vs) request ends won
   unfolding run-move
   won-move request ends won h = record { run = run-move request ends h.run; won_is = h.won_is }
 
-  refused-move : (request : Request) (receipt : Option Receipt) (ends : List Ended) (why : GatherFault) → IsRefused (meanings w i o t l k b) (grounds p q xs ls vs) request receipt ends why → IsRefused (meanings w i o t l k b) (grounds r s xs ls vs) request receipt ends why
+  refused-move : (request : Request) (receipt : Option Receipt) (ends : List Ended) (why : GatherFault) → IsRefused (meanings w i o t l k b v z) (grounds p q xs ls vs) request receipt ends why → IsRefused (meanings w i o t l k b v z) (grounds r s xs ls vs) request receipt ends why
   refused-move request receipt ends why h = record {
     cause = subst (λ x. BlamesGather (asked_of request) why (stretch [] vs (t.faults x) (t.faults s.tree) xs ls)) (sym same.tree_before)
         (subst (λ y. BlamesGather (asked_of request) why (stretch [] vs (t.faults p.tree) (t.faults y) xs ls)) (sym same.tree_after) h.cause);
@@ -76,7 +84,7 @@ module _ {W I O T L M B : Type 0} (w : world.Ghosts W) (i : inputs.Ghosts I) (o 
     receipt_is = h.receipt_is;
   }
 
-  answers-move : (request : Request) (receipt : Option Receipt) (ends : List Ended) (answer : Reply) → Answers (meanings w i o t l k b) (grounds p q xs ls vs) request receipt ends answer → Answers (meanings w i o t l k b) (grounds r s xs ls vs) request receipt ends answer
+  answers-move : (request : Request) (receipt : Option Receipt) (ends : List Ended) (answer : Reply) → Answers (meanings w i o t l k b v z) (grounds p q xs ls vs) request receipt ends answer → Answers (meanings w i o t l k b v z) (grounds r s xs ls vs) request receipt ends answer
   unfolding run-move
   answers-move request receipt ends (reply.Done exit stdout stderr from number placed) h = (h.0, won-move request ends h.0 h.1, h.2, h.3)
   answers-move request receipt ends (reply.PlaceFault number placed) h = (h.0, won-move request ends h.0 h.1, h.2, h.3)
@@ -95,15 +103,15 @@ module _ {W I O T L M B : Type 0} (w : world.Ghosts W) (i : inputs.Ghosts I) (o 
   at-end : IsAtEnd (i.left q.input) → IsAtEnd (i.left s.input)
   at-end h = subst (λ x. IsAtEnd (i.left x)) (sym same.input_after) h
 
-  to-move : (root read : List ℕ) (request : Option Request) (receipt : Option Receipt) (ends : List Ended) (answer : Reply) → RepliesTo (meanings w i o t l k b) root (grounds p q xs ls vs) read request receipt ends answer → RepliesTo (meanings w i o t l k b) root (grounds r s xs ls vs) read request receipt ends answer
+  to-move : (root read : List ℕ) (request : Option Request) (receipt : Option Receipt) (ends : List Ended) (answer : Reply) → RepliesTo (meanings w i o t l k b v z) root (grounds p q xs ls vs) read request receipt ends answer → RepliesTo (meanings w i o t l k b v z) root (grounds r s xs ls vs) read request receipt ends answer
   to-move root read request receipt ends answer h =
       (h.0, record { request_is = h.1.request_is; decoded = h.1.decoded; ended = at-end h.1.ended }, answers-move h.0 receipt ends answer h.2)
 
-  handled-move : (request : Option Request) (ends : List Ended) → WasHandled (meanings w i o t l k b) (grounds p q xs ls vs) request ends → WasHandled (meanings w i o t l k b) (grounds r s xs ls vs) request ends
+  handled-move : (request : Option Request) (ends : List Ended) → WasHandled (meanings w i o t l k b v z) (grounds p q xs ls vs) request ends → WasHandled (meanings w i o t l k b v z) (grounds r s xs ls vs) request ends
   handled-move None ends h = unrun-move ends h
   handled-move (Some asked) ends h = may-move asked ends h
 
-  replies-move : (root read : List ℕ) (request : Option Request) (receipt : Option Receipt) (ends : List Ended) (answer : Reply) → Replies (meanings w i o t l k b) root (grounds p q xs ls vs) read request receipt ends answer → Replies (meanings w i o t l k b) root (grounds r s xs ls vs) read request receipt ends answer
+  replies-move : (root read : List ℕ) (request : Option Request) (receipt : Option Receipt) (ends : List Ended) (answer : Reply) → Replies (meanings w i o t l k b v z) root (grounds p q xs ls vs) read request receipt ends answer → Replies (meanings w i o t l k b v z) root (grounds r s xs ls vs) read request receipt ends answer
   replies-move root read request receipt ends (reply.BadRequest bad) h =
       (h.0, h.1, record { answers_are = h.2.answers_are; lists_are = h.2.lists_are; unrun = unrun-move ends h.2.unrun }, h.3, λ cut. at-end (h.4 cut))
   replies-move root read request receipt ends reply.NoMemory h = (h.0, handled-move request ends h.1, h.2)
@@ -118,6 +126,6 @@ module _ {W I O T L M B : Type 0} (w : world.Ghosts W) (i : inputs.Ghosts I) (o 
   replies-move root read request receipt ends reply.JournalFull h = to-move root read request receipt ends reply.JournalFull h
   replies-move root read request receipt ends (reply.Blocked path) h = to-move root read request receipt ends (reply.Blocked path) h
 
-  pub ready-move : (root read : List ℕ) (request : Option Request) (ends : List Ended) (answered : Option Answered) → IsReadyAs (meanings w i o t l k b) root (grounds p q xs ls vs) read request ends answered → IsReadyAs (meanings w i o t l k b) root (grounds r s xs ls vs) read request ends answered
+  pub ready-move : (root read : List ℕ) (request : Option Request) (ends : List Ended) (answered : Option Answered) → IsReadyAs (meanings w i o t l k b v z) root (grounds p q xs ls vs) read request ends answered → IsReadyAs (meanings w i o t l k b v z) root (grounds r s xs ls vs) read request ends answered
   ready-move root read request ends None h = (h.0, handled-move request ends h.1)
   ready-move root read request ends (Some a) h = (h.0, replies-move root read request a.receipt ends a.reply h.1)

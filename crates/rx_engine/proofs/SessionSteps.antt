@@ -8,6 +8,7 @@ use Rattle.rx_session.specs.declared.requests.Request.{Request}
 use Rattle.rx_session.specs.Bad.{Decodes}
 use Rattle.rx_session.specs.Frames.{EndsRead, request_of}
 use Rattle.rx_world.specs.declared.attempts.Ended.{Ended}
+use Rattle.rx_exec_messages.specs.declared.callers.Caller as callers
 use Rattle.rx_world.specs.declared.benches.Bench as benches
 use Rattle.rx_world.specs.declared.benches.BenchMaker as makers
 use Rattle.rx_world.specs.declared.places.Place as places
@@ -22,6 +23,7 @@ use Rattle.rx_engine.specs.declared.sessions.Ready.{Ready}
 use Rattle.rx_engine.specs.declared.transcripts.Ending.TheVariants.{SinkLost}
 use Rattle.rx_engine.specs.declared.transcripts.Transcript.{Transcript}
 use Rattle.rx_engine.specs.Journal.{JournalsBoard}
+use Rattle.rx_engine.specs.Attempts.{AreLaterThan}
 use Rattle.rx_engine.specs.Meanings.{meanings}
 use Rattle.rx_engine.specs.Ready.{EntersAs, Finishes, FinishesAs, HasReadied}
 use Rattle.rx_engine.specs.Session.{IsSession}
@@ -30,25 +32,26 @@ use Rattle.rx_engine.proofs.Entries.{enters-nothing}
 use Rattle.rx_engine.proofs.Moves.{tells-move}
 use Rattle.rx_engine.proofs.ReplyMoves.{AreSame, ready-move}
 
-module _ {W I O T L M B : Type 0} (w : world.Ghosts W) (i : inputs.Ghosts I) (o : sinks.Ghosts O) (t : sources.Ghosts T W) (l : sources.Ghosts L W) (k : makers.Ghosts M W B) (b : benches.Ghosts B W) where
+module _ {W I O T L M B R C : Type 0} (w : world.Ghosts W) (i : inputs.Ghosts I) (o : sinks.Ghosts O) (t : sources.Ghosts T W) (l : sources.Ghosts L W) (k : makers.Ghosts M W B) (b : benches.Ghosts B W)
+    (v : sources.Ghosts R W) (z : callers.Ghosts C W) where
   -- the input was read, an answer was made ready, and it was written
-  pub session-written : (root : List ℕ) (p : Parts I O T L M) (source : I) (q : Parts I O T L M) (sink : O) (number : ℕ) (read : List ℕ) (asked : Result Request SessionFault) (ready : Ready) (kept : Transcript)
+  pub session-written : (root : List ℕ) (p : Parts I O T L M R C) (source : I) (q : Parts I O T L M R C) (sink : O) (number : ℕ) (read : List ℕ) (asked : Result Request SessionFault) (ready : Ready) (kept : Transcript)
       → q.input ≡ source → q.output ≡ p.output
       → Consumes (i.left p.input) (i.left source) read → Appends (o.taken q.output) (o.taken sink) kept.written
-      → HasReadied (meanings w i o t l k b) asked (record p { input = source }) q ready
+      → HasReadied (meanings w i o t l k b v z) asked (record p { input = source }) q ready
       → Decodes (λ x. x) asked (request_of root read) → EndsRead (i.left source) asked → Finishes number read ready kept
       → (kept.ending ≡ SinkLost → Rose (o.faults q.output) (o.faults sink))
-      → i.faults p.input ≤ i.faults source → o.faults q.output ≤ o.faults sink → l.faults p.tree_local ≤ l.faults q.tree_local → k.faults p.benches ≤ k.faults q.benches
-      → IsSession (meanings w i o t l k b) root p (record q { output = sink }) kept
-  session-written root p source q sink number read asked ready kept same_in same_out consumed written readied decodes ends finished lost later_in later_out later_local later_benches =
-      let first : Parts I O T L M = record p { input = source } in
-      let last : Parts I O T L M = record q { output = sink } in
-      let same : AreSame first q p last = record { tree_before = refl; tree_after = refl; local_before = refl; local_after = refl; benches_before = refl; benches_after = refl; input_after = refl } in
-      session-finished (meanings w i o t l k b) root p last number read ready.request ready.handled.ends ready.handled.answered kept readied.answers readied.lists readied.view
+      → i.faults p.input ≤ i.faults source → o.faults q.output ≤ o.faults sink → AreLaterThan (meanings w i o t l k b v z) (record p { input = source }) q
+      → IsSession (meanings w i o t l k b v z) root p (record q { output = sink }) kept
+  session-written root p source q sink number read asked ready kept same_in same_out consumed written readied decodes ends finished lost later_in later_out later =
+      let first : Parts I O T L M R C = record p { input = source } in
+      let last : Parts I O T L M R C = record q { output = sink } in
+      let same : AreSame first q p last = record { tree_before = refl; tree_after = refl; before = record { here = record { tree_local = refl; benches = refl }; there = record { tree_remote = refl; farm = refl } }; after = record { here = record { tree_local = refl; benches = refl }; there = record { tree_remote = refl; farm = refl } }; input_after = refl } in
+      session-finished (meanings w i o t l k b v z) root p last number read ready.request ready.handled.ends ready.handled.answered kept readied.answers readied.lists readied.view
       (subst (λ x. Consumes (i.left p.input) (i.left x) read) (sym same_in) consumed)
       (subst (λ x. Appends (o.taken x) (o.taken sink) kept.written) same_out written)
-      (tells-move w i o t l k b first q p last readied.answers readied.lists refl refl readied.looked)
-      (ready-move w i o t l k b first q p last same readied.answers readied.lists readied.view root read ready.request ready.handled.ends ready.handled.answered
+      (tells-move w i o t l k b v z first q p last readied.answers readied.lists refl refl readied.looked)
+      (ready-move w i o t l k b v z first q p last same readied.answers readied.lists readied.view root read ready.request ready.handled.ends ready.handled.answered
       (readied.is_ready root read decodes (subst (λ x. EndsRead (i.left x) asked) (sym same_in) ends)))
       finished
       (λ e. subst (λ x. Rose (o.faults x) (o.faults sink)) same_out (lost e))
@@ -56,8 +59,7 @@ module _ {W I O T L M B : Type 0} (w : world.Ghosts W) (i : inputs.Ghosts I) (o 
         input = subst (λ x. i.faults p.input ≤ i.faults x) (sym same_in) later_in;
         output = subst (λ x. o.faults x ≤ o.faults sink) same_out later_out;
         tree = readied.looked.gives.later;
-        tree_local = later_local;
-        benches = later_benches;
+        attempts = record { tree_local = later.tree_local; benches = later.benches; tree_remote = later.tree_remote; farm = later.farm };
       })
 
 -- what was ready is what the transcript says of the journal

@@ -1,6 +1,7 @@
 -- What a session answers to a request.
-use Rattle.std.specs.Prelude.{◌≡◌, ◌⊎◌, ℕ, ◌<◌, List, [], Option, None, Some, length}
+use Rattle.std.specs.Prelude.{◌≡◌, ◌⊎◌, ℕ, ◌<◌, List, [], Option, None, Some, All, IfSome, length}
 use Rattle.std.specs.List.{flat_map}
+use Rattle.rx_action.specs.OutputPaths.{AreBelow}
 use Rattle.rx_board.specs.declared.journal.Receipt.{Receipt}
 use Rattle.rx_session.specs.declared.replies.Reply.{Reply}
 use Rattle.rx_session.specs.declared.replies.Reply.TheVariants as reply
@@ -15,6 +16,7 @@ use Rattle.rx_scan.specs.Lists.{Listing, Stretch, stretch}
 use Rattle.rx_world.specs.declared.attempts.Ended.{Ended}
 use Rattle.rx_world.specs.declared.looks.Look.{Look}
 use Rattle.rx_world.specs.declared.sources.Given.{Given}
+use Rattle.rx_world.specs.Inputs.{IsAsListed}
 use Rattle.rx_engine.specs.declared.attempts.Won.{Won}
 use Rattle.rx_engine.specs.Attempts.{AreTellable, Attempts, HasAttempts, IsIdle, failure_of, kept_ends, winner}
 use Rattle.rx_engine.specs.Meanings.{Meanings}
@@ -40,12 +42,19 @@ stretch_of m g = stretch [] g.view (m.tree.faults g.before) (m.tree.faults g.aft
 abbrev pub asked_of : Request → Asked
 asked_of request = record { command = command_of request; kind = request.kind; inputs = declared_of request; strategy = request.strategy }
 
+-- the outputs of its command are below the working directory, as those of each request are that was read
+abbrev pub HasOutputsBelow : Request → Type 0
+HasOutputsBelow request = AreBelow (command_of request).working_directory (command_of request).outputs
+
 -- What the command of a request runs on, as the source tree told it: in each scene that shows its answers and lists, just the inputs.
--- Whatever it told, these can be staged, and the plan is one of the strategy.
+-- Whatever it told, these can be staged, and the plan is one of the strategy. Where stamps are honest, each file is as the source tree lists
+-- it, while that keeps its list.
 pub record HasGathered {P W B : Type 0} (m : Meanings P W B) (g : Grounds P) (request : Request) (gathered : Gathered) : Type 0 where
   pub by : IsGatheredBy (asked_of request) gathered (stretch_of m g)
   pub orderly : IsOrderly (asked_of request) gathered
   pub digests : m.world.stamps_honest → HaveDigests m.world.content gathered.files
+  pub listed : m.world.stamps_honest → m.tree.keeps g.before →
+      IfSome (m.tree.listed g.before) (λ entries. All (IsAsListed entries) gathered.files)
 
 -- no attempt was made
 pub record IsUnrun {P W B : Type 0} (m : Meanings P W B) (g : Grounds P) (ends : List Ended) : Type 0 where
@@ -66,7 +75,7 @@ pub record HasRun {P W B : Type 0} (m : Meanings P W B) (g : Grounds P) (request
   pub gathered : Gathered
   pub inputs : HasGathered m g request gathered
   pub attempts : Attempts
-  pub made : HasAttempts m gathered g.before g.after attempts
+  pub made : HasAttempts m gathered request.accept_cached g.before g.after attempts
   pub ends_are : ends ≡ kept_ends attempts
 
 -- the same, and this is the outcome that is to be published

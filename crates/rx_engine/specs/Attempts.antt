@@ -1,5 +1,5 @@
 -- The attempts of a session: which a plan has, how they ended, and what is published of them.
-use Rattle.std.specs.Prelude.{◌≡◌, ◌≢◌, ◌⊎◌, ◌||◌, ◌==◌, ℤ, Bool, true, false, List, [], ◌∷◌, ◌++◌, Option, None, Some, Result, Ok, Err, All, IfErr, IfOk, if◌then◌else◌, is_some, negsuc, pos}
+use Rattle.std.specs.Prelude.{◌≡◌, ◌≢◌, ◌⊎◌, ◌≤◌, ◌||◌, ◌&&◌, ◌==◌, ℤ, Bool, true, false, not, List, [], ◌∷◌, ◌++◌, Option, None, Some, Result, Ok, Err, All, IfErr, IfOk, if◌then◌else◌, is_some, negsuc, pos}
 use Rattle.rx_local.specs.Limits.{IsWithinLimits}
 use Rattle.rx_local.specs.Local.{HasAttempted, IsStopped, Job, job}
 use Rattle.rx_scan.specs.declared.gathering.Gathered.{Gathered}
@@ -14,15 +14,21 @@ use Rattle.rx_world.specs.declared.attempts.Failure.TheVariants as failures
 use Rattle.rx_world.specs.declared.attempts.Origin.TheVariants as origins
 use Rattle.rx_world.specs.declared.attempts.Plan.{Plan}
 use Rattle.rx_world.specs.declared.attempts.Plan.TheVariants.{Both, Fallback, LocalOnly, RemoteOnly}
+use Rattle.rx_world.specs.declared.benches.Bench as benches
+use Rattle.rx_world.specs.declared.benches.BenchMaker as makers
 use Rattle.rx_world.specs.declared.outcomes.KeptOutcome.{KeptOutcome}
 use Rattle.rx_world.specs.declared.outcomes.Outcome.{Outcome}
 use Rattle.rx_world.specs.declared.remote_causes.RemoteCause.{RemoteCause}
 use Rattle.rx_world.specs.declared.remote_causes.RemoteCause.TheVariants as remote_causes
+use Rattle.rx_world.specs.declared.sources.Sources as sources
+use Rattle.rx_world.specs.declared.world.World as world
 use Rattle.rx_world.specs.Answers.{Gives}
 use Rattle.rx_world.specs.Outcomes.{IsProper, kept}
 use Rattle.rx_engine.specs.declared.attempts.Attempted.{Attempted}
 use Rattle.rx_engine.specs.declared.attempts.Won.{Won}
+use Rattle.rx_engine.specs.declared.held.Held.{Held}
 use Rattle.rx_engine.specs.Meanings.{Meanings}
+use Rattle.rx_engine.specs.RemoteAttempts.{EndsThere, IsIdleThere}
 
 -- ---- plans
 
@@ -31,6 +37,12 @@ has_local LocalOnly = true
 has_local RemoteOnly = false
 has_local Fallback = true
 has_local Both = true
+
+abbrev pub has_remote : Plan → Bool
+has_remote LocalOnly = false
+has_remote RemoteOnly = true
+has_remote Fallback = true
+has_remote Both = true
 
 abbrev pub is_remote_only : Plan → Bool
 is_remote_only RemoteOnly = true
@@ -49,17 +61,22 @@ abbrev pub kept_end : {C : Type 0} → End Outcome C → End KeptOutcome C
 kept_end (ends.Done outcome origin) = ends.Done (kept outcome) origin
 kept_end (ends.Failed cause) = ends.Failed cause
 
-abbrev pub kept_local : Option (End Outcome Cause) → List Ended
-kept_local None = []
-kept_local (Some end) = ended.Local (kept_end end) ∷ []
+-- the same of an attempt that may not have been started
+abbrev pub kept_of : {C : Type 0} → Option (End Outcome C) → Option (End KeptOutcome C)
+kept_of None = None
+kept_of (Some end) = Some (kept_end end)
 
-abbrev pub kept_remote : Option (End Outcome RemoteCause) → List Ended
-kept_remote None = []
-kept_remote (Some end) = ended.Remote (kept_end end) ∷ []
+abbrev pub listed_local : Option (End KeptOutcome Cause) → List Ended
+listed_local None = []
+listed_local (Some end) = ended.Local end ∷ []
+
+abbrev pub listed_remote : Option (End KeptOutcome RemoteCause) → List Ended
+listed_remote None = []
+listed_remote (Some end) = ended.Remote end ∷ []
 
 -- the ends as a transcript keeps them: local before remote
 abbrev pub kept_ends : Attempts → List Ended
-kept_ends attempts = kept_local attempts.local ++ kept_remote attempts.remote
+kept_ends attempts = listed_local (kept_of attempts.local) ++ listed_remote (kept_of attempts.remote)
 
 -- ---- what is published
 
@@ -67,10 +84,11 @@ abbrev pub is_zero : ℤ → Bool
 is_zero (pos n) = n == 0
 is_zero (negsuc n) = false
 
-abbrev pub won_local : Option (End Outcome Cause) → Option Won
-won_local (Some (ends.Done outcome origin)) = Some (record { outcome = outcome; origin = origin })
-won_local (Some (ends.Failed cause)) = None
-won_local None = None
+-- the outcome of an attempt, where it has one
+abbrev pub outcome_of : {C : Type 0} → Option (End Outcome C) → Option Won
+outcome_of (Some (ends.Done outcome origin)) = Some (record { outcome = outcome; origin = origin })
+outcome_of (Some (ends.Failed cause)) = None
+outcome_of None = None
 
 -- a remote outcome may be published at code 0, and at every code where no local attempt is planned
 abbrev pub won_remote : Plan → Option (End Outcome RemoteCause) → Option Won
@@ -79,13 +97,17 @@ won_remote plan (Some (ends.Done outcome origin)) =
 won_remote plan (Some (ends.Failed cause)) = None
 won_remote plan None = None
 
+-- whether the local attempt starts, by the remote end: it does unless that may be published
+abbrev pub starts_here : Plan → Option (End Outcome RemoteCause) → Bool
+starts_here plan remote = has_local plan && not (is_some (won_remote plan remote))
+
 abbrev pub first_won : Option Won → Option Won → Option Won
 first_won (Some won) other = Some won
 first_won None other = other
 
 -- the outcome that is published, where there is one
 abbrev pub winner : Plan → Attempts → Option Won
-winner plan attempts = first_won (won_local attempts.local) (won_remote plan attempts.remote)
+winner plan attempts = first_won (outcome_of attempts.local) (won_remote plan attempts.remote)
 
 -- the first outcome among ends that are kept
 abbrev pub first_done : List Ended → Option KeptOutcome
@@ -128,50 +150,84 @@ abbrev pub IsFromHere : End Outcome Cause → Type 0
 IsFromHere (ends.Done outcome origin) = origin ≡ origins.Local
 IsFromHere (ends.Failed cause) = Unit {0}
 
--- no attempt was made: the source tree that attempts read answered nothing, no bench was made, and no count changed
-pub record IsIdle {P W B : Type 0} (m : Meanings P W B) (before after : P) : Type 0 where
-  pub unread : Gives m.world m.tree_local before after []
-  pub source_is : m.tree_local.faults after ≡ m.tree_local.faults before
-  pub bench_is : m.benches.faults after ≡ m.benches.faults before
-  pub returned_is : m.benches.returned after ≡ m.benches.returned before
-
 -- The local attempt was made on what was gathered, and ended so. It runs alone, and nothing stops it.
-pub record HasEndedHere {P W B : Type 0} (m : Meanings P W B) (gathered : Gathered) (before after : P) (end : End Outcome Cause) : Type 0 where
-  pub attempted : HasAttempted m.world m.benches m.bench m.tree_local (job_of gathered) before after before after (result_of end)
+pub record HasRunHere {M B T W : Type 0} (w : world.Ghosts W) (m : makers.Ghosts M W B) (b : benches.Ghosts B W) (s : sources.Ghosts T W)
+    (gathered : Gathered) (benches_before benches_after : M) (before after : T) (end : End Outcome Cause) : Type 0 where
+  pub attempted : HasAttempted w m b s (job_of gathered) benches_before benches_after before after (result_of end)
   pub proper : IfOk (result_of end) (IsProper gathered.command)
   pub within : IfOk (result_of end) IsWithinLimits
   pub unstopped : IfErr (result_of end) (λ cause. IsStopped cause → ⊥)
   pub from : IsFromHere end
 
+abbrev pub HasEndedHere : {P W B : Type 0} → Meanings P W B → Gathered → P → P → End Outcome Cause → Type 0
+HasEndedHere m gathered before after end = HasRunHere m.world m.benches m.bench m.tree_local gathered before after before after end
+
+-- no local attempt was made: the source tree that it reads answered nothing, no bench was made, and no count changed
+pub record IsIdleHere {P W B : Type 0} (m : Meanings P W B) (before after : P) : Type 0 where
+  pub unread : Gives m.world m.tree_local before after []
+  pub source_is : m.tree_local.faults after ≡ m.tree_local.faults before
+  pub bench_is : m.benches.faults after ≡ m.benches.faults before
+  pub returned_is : m.benches.returned after ≡ m.benches.returned before
+
+-- no attempt was made
+pub record IsIdle {P W B : Type 0} (m : Meanings P W B) (before after : P) : Type 0 where
+  pub here : IsIdleHere m before after
+  pub there : IsIdleThere m.world m.farm m.tree_remote before after before after
+
 abbrev pub HasLocal : {P W B : Type 0} → Meanings P W B → Gathered → P → P → Option (End Outcome Cause) → Type 0
-HasLocal m gathered before after None = IsIdle m before after
+HasLocal m gathered before after None = IsIdleHere m before after
 HasLocal m gathered before after (Some end) = HasEndedHere m gathered before after end
 
--- The attempts of the plan were made, and these are their ends. There is no farm yet, so no remote attempt is made.
-pub record HasAttempts {P W B : Type 0} (m : Meanings P W B) (gathered : Gathered) (before after : P) (attempts : Attempts) : Type 0 where
+abbrev pub HasRemote : {P W B : Type 0} → Meanings P W B → Gathered → Bool → P → P → Option (End Outcome RemoteCause) → Type 0
+HasRemote m gathered accepts before after None = IsIdleThere m.world m.farm m.tree_remote before after before after
+HasRemote m gathered accepts before after (Some end) =
+    EndsThere m.world m.farm m.tree_remote gathered accepts before after before after end
+
+-- The attempts of the plan were made, and these are their ends: the remote one where the plan has one, and the local one where it starts
+-- after that.
+pub record HasAttempts {P W B : Type 0} (m : Meanings P W B) (gathered : Gathered) (accepts : Bool) (before after : P)
+    (attempts : Attempts) : Type 0 where
   pub local : HasLocal m gathered before after attempts.local
-  pub planned : is_some attempts.local ≡ has_local gathered.plan
-  pub remote : attempts.remote ≡ None
+  pub remote : HasRemote m gathered accepts before after attempts.remote
+  pub started_here : is_some attempts.local ≡ starts_here gathered.plan attempts.remote
+  pub started_there : is_some attempts.remote ≡ has_remote gathered.plan
 
 -- the same, and what is kept and published of them
-pub record HasMade {P W B : Type 0} (m : Meanings P W B) (gathered : Gathered) (before after : P) (made : Attempted) : Type 0 where
+pub record HasMade {P W B : Type 0} (m : Meanings P W B) (gathered : Gathered) (accepts : Bool) (before after : P) (made : Attempted) : Type 0 where
   pub attempts : Attempts
-  pub each : HasAttempts m gathered before after attempts
+  pub each : HasAttempts m gathered accepts before after attempts
   pub ends_are : made.ends ≡ kept_ends attempts
   pub won_is : made.won ≡ winner gathered.plan attempts
 
--- ---- what the code keeps of a local attempt
+-- of these ends that is kept and published
+pub record IsMadeOf (plan : Plan) (local : Option (End Outcome Cause)) (remote : Option (End Outcome RemoteCause)) (made : Attempted) : Type 0 where
+  pub ends_are : made.ends ≡ listed_local (kept_of local) ++ listed_remote (kept_of remote)
+  pub won_is : made.won ≡ first_won (outcome_of local) (won_remote plan remote)
 
-abbrev pub won_here : Outcome → Attempted
-won_here outcome = record {
-  ends = ended.Local (ends.Done (kept outcome) origins.Local) ∷ [];
-  won = Some (record { outcome = outcome; origin = origins.Local });
-}
+-- no count of a part that attempts have fell
+pub record AreLaterThan {P W B : Type 0} (m : Meanings P W B) (before after : P) : Type 0 where
+  pub tree_local : m.tree_local.faults before ≤ m.tree_local.faults after
+  pub benches : m.benches.faults before ≤ m.benches.faults after
+  pub tree_remote : m.tree_remote.faults before ≤ m.tree_remote.faults after
+  pub farm : m.farm.faults before ≤ m.farm.faults after
 
-abbrev pub failed_here : Cause → Attempted
-failed_here cause = record { ends = ended.Local (ends.Failed cause) ∷ []; won = None }
+-- ---- outcomes that are held with their kept form
 
--- an outcome counts as want of memory where there is none to keep it
-abbrev pub KeepsHere : Result Outcome Cause → Attempted → Type 0
-KeepsHere (Ok outcome) made = (made ≡ won_here outcome) ⊎ (made ≡ failed_here causes.NoMemory)
-KeepsHere (Err cause) made = made ≡ failed_here cause
+-- the end with the whole outcome
+abbrev pub whole_end : {C : Type 0} → End Held C → End Outcome C
+whole_end (ends.Done held origin) = ends.Done held.outcome origin
+whole_end (ends.Failed cause) = ends.Failed cause
+
+abbrev pub whole : {C : Type 0} → Option (End Held C) → Option (End Outcome C)
+whole None = None
+whole (Some end) = Some (whole_end end)
+
+-- the end is held, or there was no memory for its outcome
+abbrev pub Holds : {C : Type 0} → C → End Outcome C → End Held C → Type 0
+Holds no_memory (ends.Done outcome origin) held = (whole_end held ≡ ends.Done outcome origin) ⊎ (whole_end held ≡ ends.Failed no_memory)
+Holds no_memory (ends.Failed cause) held = whole_end held ≡ ends.Failed cause
+
+-- how a local attempt with this result ended
+abbrev pub end_of : Result Outcome Cause → End Outcome Cause
+end_of (Ok outcome) = ends.Done outcome origins.Local
+end_of (Err cause) = ends.Failed cause

@@ -1,5 +1,5 @@
 -- The steps from a request to its answer: what was gathered for it, and what was made of that.
-use Rattle.std.specs.Prelude.{◌≡◌, ◌⊎◌, ℕ, List, None, Some, IfSome}
+use Rattle.std.specs.Prelude.{◌≡◌, ◌⊎◌, ℕ, Bool, List, None, Some, IfSome}
 use Rattle.rx_scan.specs.declared.gather_fault.GatherFault.{GatherFault}
 use Rattle.rx_scan.specs.declared.gathering.Gathered.{Gathered}
 use Rattle.rx_scan.specs.Gathering.{BlamesGather}
@@ -41,8 +41,9 @@ AnswersRun plan attempts ends answered =
     ⊎ IsPlain reply_no_memory answered
 
 -- the attempts of the plan were made on what was gathered, and their ends answered
-pub record HasRunAndPublished {P W B : Type 0} (m : Meanings P W B) (gathered : Gathered) (before after : P) (handled : Handled) : Type 0 where
+pub record HasRunAndPublished {P W B : Type 0} (m : Meanings P W B) (gathered : Gathered) (accepts : Bool) (before after : P)
+    (handled : Handled) : Type 0 where
   pub attempts : Attempts
-  pub made : HasAttempts m gathered before after attempts
+  pub made : HasAttempts m gathered accepts before after attempts
   pub ends_are : handled.ends ≡ kept_ends attempts
   pub answered : IfSome handled.answered (AnswersRun gathered.plan attempts handled.ends)

@@ -9,6 +9,7 @@ pub mod Meanings
 pub mod Proxy
 pub mod Quiet
 pub mod Ready
+pub mod RemoteAttempts
 pub mod Serves
 pub mod Session
 pub mod Words

@@ -1,5 +1,5 @@
 -- Sessions in which nothing fails, in an honest world, and what they answer.
-use Rattle.std.specs.Prelude.{◌≡◌, ◌≢◌, ◌↔◌, ℕ, true, List, Option, None, Some, Contains, length, pos}
+use Rattle.std.specs.Prelude.{◌≡◌, ◌≢◌, ◌↔◌, ℕ, true, List, [], ◌∷◌, Option, None, Some, Contains, length, pos}
 use Rattle.rx_base.specs.Paths.{is_below}
 use Rattle.rx_base.specs.SortedPaths.{AreSorted}
 use Rattle.rx_board.specs.declared.journal.Entry.{Entry}
@@ -13,11 +13,17 @@ use Rattle.rx_scan.specs.Ways.{blocked}
 use Rattle.rx_session.specs.declared.replies.Reply.{Reply}
 use Rattle.rx_session.specs.declared.replies.Reply.TheVariants as reply
 use Rattle.rx_session.specs.declared.requests.Request.{Request}
+use Rattle.rx_world.specs.declared.attempts.Failure.{Failure}
+use Rattle.rx_world.specs.declared.attempts.Failure.TheVariants as failure
 use Rattle.rx_world.specs.declared.commands.Command.{Command}
+use Rattle.rx_world.specs.declared.commands.Strategy.{Strategy}
+use Rattle.rx_world.specs.declared.commands.Strategy.TheVariants.{Local, Racing, Remote, RemoteLocalFallback}
 use Rattle.rx_world.specs.declared.looks.Look.TheVariants.{Absent}
 use Rattle.rx_world.specs.declared.outcomes.Outcome.{Outcome}
 use Rattle.rx_world.specs.declared.refusals.Limit.{Limit}
 use Rattle.rx_world.specs.declared.refusals.LocalCause.{LocalCause}
+use Rattle.rx_world.specs.declared.remote_causes.RemoteCause.{RemoteCause}
+use Rattle.rx_world.specs.declared.remote_causes.RemoteCause.TheVariants as causes
 use Rattle.rx_world.specs.declared.sources.SourceEntry.{SourceEntry}
 use Rattle.rx_world.specs.declared.trees.Tree.{Tree}
 use Rattle.rx_world.specs.Causes.{Rose}
@@ -26,7 +32,7 @@ use Rattle.rx_world.specs.Sources.{entry_at, is_file}
 use Rattle.rx_engine.specs.declared.transcripts.Ending.{Ending}
 use Rattle.rx_engine.specs.declared.transcripts.Ending.TheVariants.{NoMemory, Replied, SinkLost, SourceLost}
 use Rattle.rx_engine.specs.Answers.{asked_of}
-use Rattle.rx_engine.specs.Honest.{IsHonest, listed_tree}
+use Rattle.rx_engine.specs.Honest.{IsSteady, IsTrustedFor, listed_tree}
 use Rattle.rx_engine.specs.Meanings.{Meanings}
 
 -- the list has a file at the path
@@ -66,11 +72,20 @@ abbrev pub KeepsLimitsFrom : (Command → Tree → Outcome) → List SourceEntry
 KeepsLimitsFrom tool entries asked =
     (gathered : Gathered) → IsGathered (scene_of entries) asked gathered → IsOrderly asked gathered → KeepsLimits tool gathered.command (listed_tree entries gathered)
 
--- The session is honest, stamps are too, what is asked for can be gathered from the list, the clean outcome of its command is proper and
--- within the limits, and no count rises.
+-- The farm is trusted where it is asked, no call on it failed, and the source tree that remote attempts read tells the list, keeps it and
+-- didn't fail.
+pub record IsQuietThere {P W B : Type 0} (m : Meanings P W B) (before after : P) (entries : List SourceEntry) (asked : Asked) : Type 0 where
+  pub farm : IsTrustedFor m before entries asked
+  pub calls : Rose (m.farm.faults before) (m.farm.faults after) → ⊥
+  pub listed : m.tree_remote.listed before ≡ Some entries
+  pub kept_list : m.tree_remote.keeps before
+  pub tree : Rose (m.tree_remote.faults before) (m.tree_remote.faults after) → ⊥
+
+-- The session is steady, stamps are honest, what is asked for can be gathered from the list, the clean outcome of its command is proper and
+-- within the limits, and no count rises. Of the farm this says something for the strategy remote alone.
 pub record IsQuiet {P W B : Type 0} (m : Meanings P W B) (root : List ℕ) (before after : P) (bytes : List ℕ) (asked : Request) : Type 0 where
   pub entries : List SourceEntry
-  pub honest : IsHonest m root before bytes asked entries
+  pub steady : IsSteady m root before bytes asked entries
   pub stamps : m.world.stamps_honest
   pub apart : AreApart entries
   pub gathers : CanGather (scene_of entries) (asked_of asked)
@@ -80,31 +95,51 @@ pub record IsQuiet {P W B : Type 0} (m : Meanings P W B) (root : List ℕ) (befo
   pub tree : Rose (m.tree.faults before) (m.tree.faults after) → ⊥
   pub tree_local : Rose (m.tree_local.faults before) (m.tree_local.faults after) → ⊥
   pub benches : Rose (m.benches.faults before) (m.benches.faults after) → ⊥
+  pub there : asked.strategy ≡ Remote → IsQuietThere m before after entries (asked_of asked)
 
 -- the journal takes an entry, and the place doesn't fail
 pub record HasRoom (limit : ℕ) (journal : List Entry) (before now : ℕ) : Type 0 where
   pub room : length journal ≢ limit
   pub place : Rose before now → ⊥
 
--- the reply is Done, or says that memory ran out
-abbrev pub IsDoneReply : Option Reply → Type 0
-IsDoneReply (Some (reply.Done exit stdout stderr from number placed)) = Unit {0}
-IsDoneReply (Some reply.NoMemory) = Unit {0}
-IsDoneReply (Some (reply.BadRequest bad)) = ⊥
-IsDoneReply (Some (reply.NotRemotable cause)) = ⊥
-IsDoneReply (Some (reply.InputMissing path)) = ⊥
-IsDoneReply (Some (reply.InputChanged input)) = ⊥
-IsDoneReply (Some (reply.SourceFault path)) = ⊥
-IsDoneReply (Some (reply.TooLarge limit n path)) = ⊥
-IsDoneReply (Some (reply.AllFailed failures)) = ⊥
-IsDoneReply (Some (reply.PlaceFault number placed)) = ⊥
-IsDoneReply (Some reply.JournalFull) = ⊥
-IsDoneReply (Some (reply.Blocked path)) = ⊥
-IsDoneReply None = ⊥
+-- for these two an attempt may end on a farm that is honest and didn't fail: it serves another version, or it isn't done after so many states
+abbrev pub IsFarmCause : RemoteCause → Type 0
+IsFarmCause (causes.WrongVersion low high) = Unit {0}
+IsFarmCause causes.OperationsSpent = Unit {0}
+IsFarmCause (causes.CallFailed faults) = ⊥
+IsFarmCause (causes.BadBlob expected got) = ⊥
+IsFarmCause (causes.BadResult fault) = ⊥
+IsFarmCause (causes.Stopped decision) = ⊥
+IsFarmCause (causes.InputChanged input) = ⊥
+IsFarmCause (causes.SourceFault path) = ⊥
+IsFarmCause causes.NoMemory = ⊥
+
+-- under the strategy remote that is the one failure that may be told, and under the others there is none
+abbrev pub MayFail : Strategy → List Failure → Type 0
+MayFail Remote failures = (cause : RemoteCause) × IsFarmCause cause × (failures ≡ failure.Remote cause ∷ [])
+MayFail Local failures = ⊥
+MayFail RemoteLocalFallback failures = ⊥
+MayFail Racing failures = ⊥
+
+-- the reply is Done, or says that memory ran out, or that the farm's own end left the strategy remote no outcome
+abbrev pub IsDoneReply : Strategy → Option Reply → Type 0
+IsDoneReply strategy (Some (reply.Done exit stdout stderr from number placed)) = Unit {0}
+IsDoneReply strategy (Some reply.NoMemory) = Unit {0}
+IsDoneReply strategy (Some (reply.AllFailed failures)) = MayFail strategy failures
+IsDoneReply strategy (Some (reply.BadRequest bad)) = ⊥
+IsDoneReply strategy (Some (reply.NotRemotable cause)) = ⊥
+IsDoneReply strategy (Some (reply.InputMissing path)) = ⊥
+IsDoneReply strategy (Some (reply.InputChanged input)) = ⊥
+IsDoneReply strategy (Some (reply.SourceFault path)) = ⊥
+IsDoneReply strategy (Some (reply.TooLarge limit n path)) = ⊥
+IsDoneReply strategy (Some (reply.PlaceFault number placed)) = ⊥
+IsDoneReply strategy (Some reply.JournalFull) = ⊥
+IsDoneReply strategy (Some (reply.Blocked path)) = ⊥
+IsDoneReply strategy None = ⊥
 
 -- the session ended so, or memory ran out even for that
-abbrev pub IsDoneOr : Ending → Option Reply → Type 0
-IsDoneOr Replied answer = IsDoneReply answer
-IsDoneOr SinkLost answer = IsDoneReply answer
-IsDoneOr NoMemory answer = Unit {0}
-IsDoneOr SourceLost answer = ⊥
+abbrev pub IsDoneOr : Strategy → Ending → Option Reply → Type 0
+IsDoneOr strategy Replied answer = IsDoneReply strategy answer
+IsDoneOr strategy SinkLost answer = IsDoneReply strategy answer
+IsDoneOr strategy NoMemory answer = Unit {0}
+IsDoneOr strategy SourceLost answer = ⊥

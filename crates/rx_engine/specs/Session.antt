@@ -17,6 +17,7 @@ use Rattle.rx_engine.specs.declared.transcripts.Ending.{Ending}
 use Rattle.rx_engine.specs.declared.transcripts.Ending.TheVariants.{NoMemory, Replied, SinkLost, SourceLost}
 use Rattle.rx_engine.specs.declared.transcripts.Transcript.{Transcript}
 use Rattle.rx_engine.specs.Answers.{Answers, Grounds, IsUnrun, MayHaveRun, grounds}
+use Rattle.rx_engine.specs.Attempts.{AreLaterThan}
 use Rattle.rx_engine.specs.Meanings.{Meanings}
 
 -- The bytes are this request, all of them, and the input was read to its end.
@@ -88,8 +89,7 @@ pub record AreLater {P W B : Type 0} (m : Meanings P W B) (before after : P) : T
   pub input : m.input.faults before ≤ m.input.faults after
   pub output : m.output.faults before ≤ m.output.faults after
   pub tree : m.tree.faults before ≤ m.tree.faults after
-  pub tree_local : m.tree_local.faults before ≤ m.tree_local.faults after
-  pub benches : m.benches.faults before ≤ m.benches.faults after
+  pub attempts : AreLaterThan m before after
 
 -- The session's own part of a transcript.
 pub record IsSession {P W B : Type 0} (m : Meanings P W B) (root : List ℕ) (before after : P) (t : Transcript) : Type 0 where

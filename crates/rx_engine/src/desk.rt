@@ -5,11 +5,12 @@ ghost use Rattle.rx_world.specs.Causes.{HasCause};
 ghost use Rattle.rx_engine.specs.declared.desk.Parts.{Parts};
 ghost use Rattle.rx_engine.specs.Fronts.{GivesNext};
 
+use rx_exec_messages::Caller;
 use rx_world::{BenchMaker, Failed, Sink, Source, Sources, World};
 
 /// The parts of a desk. They are a desk themselves.
 #[derive(Drop)]
-pub struct Parts<I, O, T, L, B> {
+pub struct Parts<I, O, T, L, B, R, C> {
     /// Where the request comes from.
     pub input: I,
     /// Where the reply goes.
@@ -20,6 +21,10 @@ pub struct Parts<I, O, T, L, B> {
     pub tree_local: L,
     /// Where local attempts run.
     pub benches: B,
+    /// The source tree that remote attempts read, another view like that of the local ones.
+    pub tree_remote: R,
+    /// The client by which remote attempts ask the farm.
+    pub farm: C,
 }
 
 /// What one session owns. It is taken apart as the session begins and put together at its end.
@@ -34,13 +39,17 @@ pub trait Desk<W: World>: Sized {
 
     type B: BenchMaker<W> + Send;
 
-    /// The parts.
-    ghost parts: { Self → Parts Self.I Self.O Self.T Self.L Self.B };
+    type R: Sources<W> + Send;
 
-    fn split(self) -> Parts<Self::I, Self::O, Self::T, Self::L, Self::B>
+    type C: Caller<W> + Send;
+
+    /// The parts.
+    ghost parts: { Self → Parts Self.I Self.O Self.T Self.L Self.B Self.R Self.C };
+
+    fn split(self) -> Parts<Self::I, Self::O, Self::T, Self::L, Self::B, Self::R, Self::C>
         ensures { result ≡ parts self };
 
-    fn unite(of: Parts<Self::I, Self::O, Self::T, Self::L, Self::B>) -> Self
+    fn unite(of: Parts<Self::I, Self::O, Self::T, Self::L, Self::B, Self::R, Self::C>) -> Self
         ensures { parts result ≡ of };
 }
 
@@ -51,7 +60,9 @@ impl<
     T: Sources<W> + Send,
     L: Sources<W> + Send,
     B: BenchMaker<W> + Send,
-> Desk<W> for Parts<I, O, T, L, B> {
+    R: Sources<W> + Send,
+    C: Caller<W> + Send,
+> Desk<W> for Parts<I, O, T, L, B, R, C> {
     type I = I;
 
     type O = O;
@@ -62,13 +73,17 @@ impl<
 
     type B = B;
 
+    type R = R;
+
+    type C = C;
+
     ghost parts = { λ parts. parts };
 
-    fn split(self) -> Parts<I, O, T, L, B> {
+    fn split(self) -> Parts<I, O, T, L, B, R, C> {
         self
     }
 
-    fn unite(of: Parts<I, O, T, L, B>) -> Parts<I, O, T, L, B>
+    fn unite(of: Parts<I, O, T, L, B, R, C>) -> Parts<I, O, T, L, B, R, C>
         ensures { result ≡ of }
     {
         of

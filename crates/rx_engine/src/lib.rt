@@ -1,13 +1,18 @@
-//! Serves sessions: a request in, one attempt, its files placed once and whole, a reply out.
+//! Serves sessions: a request in, the attempts of its plan, the files of one placed once and whole, a
+//! reply out.
 #![tactic(auto)]
 
 mod answered;
 mod answers;
 mod attempts;
 mod desk;
+mod ends;
+mod held;
+mod here;
 mod proxy;
 mod publishing;
 mod sessions;
+mod there;
 mod transcripts;
 mod words;
 

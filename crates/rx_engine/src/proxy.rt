@@ -13,6 +13,7 @@ use crate::sessions::{Shared, serve_session};
 use crate::transcripts::{Ending, Transcript};
 use crate::words::root_in;
 use rx_base::Text;
+use rx_blobs::{PRESENCE_LIMIT, Presence};
 use rx_board::{Board, Entry, JOURNAL_LIMIT};
 use rx_digest_cache::{DIGEST_CACHE_LIMIT, DigestCache};
 use rx_world::{Place, World};
@@ -60,7 +61,7 @@ fn serve_all<W: World, F: Front<W>, P: Place>(
     requires desks { desks.old.items ≡ [] }
     ensures runs { Runs (F.coming front.old) (F.coming front.new) (Serves
         (meanings W.World F.D.I.Source F.D.O.Sink F.D.T.Sources F.D.L.Sources F.D.B.BenchMaker
-        F.D.B.B.Bench) F.D.parts shared.old.root shared.old.board.limit)
+        F.D.B.B.Bench F.D.R.Sources F.D.C.Caller) F.D.parts shared.old.root shared.old.board.limit)
         shared.old.board.journal shared.new.board.journal
         (P.faults shared.old.board.place) (P.faults shared.new.board.place)
         desks.new.items transcripts.new.items }
@@ -157,7 +158,7 @@ fn serve_words<W: World, F: Front<W>, P: Place>(
     requires desks { desks.old.items ≡ [] }
     ensures runs { Runs (F.coming front.old) (F.coming front.new) (Serves
         (meanings W.World F.D.I.Source F.D.O.Sink F.D.T.Sources F.D.L.Sources F.D.B.BenchMaker
-        F.D.B.B.Bench) F.D.parts root.now board.limit)
+        F.D.B.B.Bench F.D.R.Sources F.D.C.Caller) F.D.parts root.now board.limit)
         board.journal result.1.journal (P.faults board.place) (P.faults result.1.place)
         desks.new.items transcripts.new.items }
     ensures status { HasStatus (F.coming front.old) (F.coming front.new)
@@ -170,13 +171,19 @@ fn serve_words<W: World, F: Front<W>, P: Place>(
     let Ok(cache) = DigestCache::<W>::new(alloc, DIGEST_CACHE_LIMIT) else {
         return (4, board);
     };
-    let mut shared = Shared { root, board, cache };
+    let mut shared = Shared {
+        root,
+        board,
+        cache,
+        presence: Presence::new(alloc, PRESENCE_LIMIT),
+    };
     let stop = serve_all::<W, F, P>(rt, alloc, front, &mut shared, transcripts, desks);
     let status = status_of(stop, transcripts);
     let Shared {
         root: _,
         board,
         cache: _,
+        presence: _,
     } = shared;
     (status, board)
 }
@@ -203,7 +210,7 @@ pub fn run_proxy<W: World, F: Front<W>, P: Place>(
     ensures sessions { IfSome (root_in words.now) (λ root. RunsDone
         (F.coming front) (F.coming result.front)
         (meanings W.World F.D.I.Source F.D.O.Sink F.D.T.Sources F.D.L.Sources F.D.B.BenchMaker
-        F.D.B.B.Bench) F.D.parts root JOURNAL_LIMIT
+        F.D.B.B.Bench F.D.R.Sources F.D.C.Caller) F.D.parts root JOURNAL_LIMIT
         result.journal.items (P.faults result.place) result.desks.items result.transcripts.items) }
     // The journal is the sessions' entries, in their order.
     ensures legal { IsLegal 1 result.journal.items result.transcripts.items }

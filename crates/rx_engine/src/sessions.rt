@@ -1,12 +1,15 @@
 //! One session: a request is read, answered, and its reply written.
 
-ghost use Rattle.std.specs.Prelude.{◌≡◌, ◌≤◌, ◌↔◌, [], ℕ, List, Err, None, IfNone, IfSome, IsNone};
-ghost use Rattle.std.specs.Io.KnownBytes.{Appends};
+ghost use Rattle.std.specs.Prelude.{◌≡◌, ◌≤◌, ◌↔◌, [], ℕ, List, Err, None, IfNone, IfOk, IfSome, IsErrOf, IsNone};
+ghost use Rattle.std.specs.Io.KnownBytes.{Appends, Consumes};
 ghost use Rattle.rx_session.specs.declared.bad.SessionFault.TheVariants.{ReadFault as read_fault};
 ghost use Rattle.rx_session.specs.declared.requests.Request.{Request};
+ghost use Rattle.rx_session.specs.Bad.{Decodes};
+ghost use Rattle.rx_session.specs.Frames.{EndsRead, request_of};
 ghost use Rattle.rx_world.specs.declared.sources.SourceEntry.{SourceEntry};
 ghost use Rattle.rx_world.specs.Causes.{Rose};
-ghost use Rattle.rx_engine.specs.Answers.{asked_of};
+ghost use Rattle.rx_engine.specs.Answers.{HasOutputsBelow, asked_of};
+ghost use Rattle.rx_engine.specs.Attempts.{AreLaterThan};
 ghost use Rattle.rx_engine.specs.Honest.{IsCleanIfDone, IsHonest};
 ghost use Rattle.rx_engine.specs.Journal.{IsBoardAfter, JournalsBoard};
 ghost use Rattle.rx_engine.specs.Meanings.{meanings};
@@ -19,10 +22,11 @@ use crate::answers::{Handled, answer};
 use crate::desk::{Desk, Parts};
 use crate::transcripts::{Ending, Transcript};
 use rx_base::{Bytes, Items, Text};
+use rx_blobs::Presence;
 use rx_board::Board;
 use rx_digest_cache::DigestCache;
 use rx_session::{Request, SessionFault, read_request, write_frame};
-use rx_world::{Place, Sink, World};
+use rx_world::{Place, Sink, Source, World};
 use std::alloc::{AllocError, Global};
 use std::sync::Wait;
 
@@ -34,6 +38,8 @@ pub struct Shared<W: World, P: Place> {
     pub board: Board<P>,
     /// Digests of the source trees' files.
     pub cache: DigestCache<W>,
+    /// Which blobs the farm is known to have.
+    pub presence: Presence,
 }
 
 /// The request, and what was done of it.
@@ -102,20 +108,24 @@ fn make_ready<W: World, D: Desk<W>, P: Place>(
     alloc: Global,
     session: u32,
     asked: Result<Request, SessionFault>,
-    parts: &mut Parts<D::I, D::O, D::T, D::L, D::B>,
+    parts: &mut Parts<D::I, D::O, D::T, D::L, D::B, D::R, D::C>,
     shared: &mut Shared<W, P>,
 ) -> Option<Ready>
+    requires { IfOk asked HasOutputsBelow }
     ensures lost { IsNone result ↔ (asked ≡ Err read_fault) }
     ensures ready { IfSome result (HasReadied
-        (meanings W.World D.I.Source D.O.Sink D.T.Sources D.L.Sources D.B.BenchMaker D.B.B.Bench)
+        (meanings W.World D.I.Source D.O.Sink D.T.Sources D.L.Sources D.B.BenchMaker D.B.B.Bench
+        D.R.Sources D.C.Caller)
         asked parts.old parts.new) }
     ensures enters { IfSome result (λ ready.
         EntersHandled P.Place shared.old.board shared.new.board session ready.handled) }
     ensures same { IfNone result ((parts.new ≡ parts.old) × (shared.new ≡ shared.old)) }
     ensures board { IsBoardAfter P.Place shared.old.board shared.new.board }
     ensures root { shared.new.root ≡ shared.old.root }
-    ensures later { (D.L.faults parts.old.tree_local ≤ D.L.faults parts.new.tree_local)
-        × (D.B.faults parts.old.benches ≤ D.B.faults parts.new.benches) }
+    ensures later { AreLaterThan
+        (meanings W.World D.I.Source D.O.Sink D.T.Sources D.L.Sources D.B.BenchMaker D.B.B.Bench
+        D.R.Sources D.C.Caller)
+        parts.old parts.new }
     ensures input { parts.new.input ≡ parts.old.input }
     ensures output { parts.new.output ≡ parts.old.output }
 {
@@ -173,16 +183,34 @@ fn lost(alloc: Global, number: u32, read: Bytes) -> Transcript
     }
 }
 
+/// Reads the request. Of one that the bytes are, the outputs stand below its working directory.
+fn read_asked<S: Source>(
+    alloc: Global,
+    source: &mut S,
+    root: &str,
+    read: &mut Vec<u8>,
+) -> Result<Request, SessionFault>
+    ensures read { Consumes (S.left source.old) (S.left source.new) read.new.items }
+    ensures request { Decodes (λ request. request) result (request_of root.now read.new.items) }
+    ensures outputs { IfOk result HasOutputsBelow }
+    ensures end { EndsRead (S.left source.new) result }
+    ensures later { S.faults source.old ≤ S.faults source.new }
+    ensures failed { IsErrOf result read_fault → Rose (S.faults source.old) (S.faults source.new) }
+{
+    read_request(alloc, source, root, read)
+}
+
 /// Reads, answers and writes.
 fn converse<W: World, D: Desk<W>, P: Place>(
     rt: &impl Wait,
     alloc: Global,
     number: u32,
-    parts: &mut Parts<D::I, D::O, D::T, D::L, D::B>,
+    parts: &mut Parts<D::I, D::O, D::T, D::L, D::B, D::R, D::C>,
     shared: &mut Shared<W, P>,
 ) -> Transcript
     ensures session { IsSession
-        (meanings W.World D.I.Source D.O.Sink D.T.Sources D.L.Sources D.B.BenchMaker D.B.B.Bench)
+        (meanings W.World D.I.Source D.O.Sink D.T.Sources D.L.Sources D.B.BenchMaker D.B.B.Bench
+        D.R.Sources D.C.Caller)
         shared.old.root parts.old parts.new result }
     ensures number { result.number ≡ number }
     ensures journal { JournalsBoard P.Place shared.old.board shared.new.board result }
@@ -190,7 +218,7 @@ fn converse<W: World, D: Desk<W>, P: Place>(
     ensures board { IsBoardAfter P.Place shared.old.board shared.new.board }
 {
     let mut read = Vec::new(alloc);
-    let asked = read_request(alloc, &mut parts.input, shared.root.as_str(), &mut read);
+    let asked = read_asked(alloc, &mut parts.input, shared.root.as_str(), &mut read);
     match make_ready::<W, D, P>(rt, alloc, number, asked, parts, shared) {
         None => lost(alloc, number, Bytes::from_vec(read)),
         Some(ready) => finish(
@@ -214,7 +242,8 @@ pub fn serve_session<W: World, D: Desk<W>, P: Place>(
 ) -> (Transcript, D)
     // The session's own part: what was read, done and written, and the reply with its cause.
     ensures session { IsSession
-        (meanings W.World D.I.Source D.O.Sink D.T.Sources D.L.Sources D.B.BenchMaker D.B.B.Bench)
+        (meanings W.World D.I.Source D.O.Sink D.T.Sources D.L.Sources D.B.BenchMaker D.B.B.Bench
+        D.R.Sources D.C.Caller)
         shared.old.root (D.parts desk) (D.parts result.1) result.0 }
     ensures number { result.0.number ≡ number }
     // The journal's part: at most one entry, of this session's files.
@@ -222,17 +251,19 @@ pub fn serve_session<W: World, D: Desk<W>, P: Place>(
     // In an honest world a Done is the clean run of the request that the input tells, on its inputs
     // as the source trees list them: so are its texts, the end that is kept and the entry.
     ensures clean { (bytes : List ℕ) (asked : Request) (entries : List SourceEntry) → IsHonest
-        (meanings W.World D.I.Source D.O.Sink D.T.Sources D.L.Sources D.B.BenchMaker D.B.B.Bench)
+        (meanings W.World D.I.Source D.O.Sink D.T.Sources D.L.Sources D.B.BenchMaker D.B.B.Bench
+        D.R.Sources D.C.Caller)
         shared.old.root (D.parts desk) bytes asked entries → IsCleanIfDone W.tool entries
         (asked_of asked) shared.old.board.journal shared.new.board.journal result.0 }
     // Where nothing fails in an honest world, the request that the input tells is done, unless
     // memory runs out.
     ensures complete { (bytes : List ℕ) (asked : Request) → IsQuiet
-        (meanings W.World D.I.Source D.O.Sink D.T.Sources D.L.Sources D.B.BenchMaker D.B.B.Bench)
+        (meanings W.World D.I.Source D.O.Sink D.T.Sources D.L.Sources D.B.BenchMaker D.B.B.Bench
+        D.R.Sources D.C.Caller)
         shared.old.root (D.parts desk) (D.parts result.1) bytes asked →
         HasRoom shared.old.board.limit shared.old.board.journal
         (P.faults shared.old.board.place) (P.faults shared.new.board.place) →
-        IsDoneOr result.0.ending result.0.reply }
+        IsDoneOr asked.strategy result.0.ending result.0.reply }
     ensures root { shared.new.root ≡ shared.old.root }
     ensures board { IsBoardAfter P.Place shared.old.board shared.new.board }
 {

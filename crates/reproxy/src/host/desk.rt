@@ -5,6 +5,7 @@ ghost use Rattle.std.specs.Option.{option_to_list};
 
 use super::benches::HostBenches;
 use super::files::HostSources;
+use super::no_farm::NoFarm;
 use super::streams::{HostSink, HostSource};
 use super::world::HostWorld;
 use rx_engine::{Front, Parts};
@@ -20,6 +21,8 @@ pub(crate) type HostDesk<R, I, O> = Parts<
     HostSources<R>,
     HostSources<R>,
     HostBenches<R>,
+    HostSources<R>,
+    NoFarm,
 >;
 
 /// Gives its desk, if it has one, and then no more. It never fails.

@@ -11,7 +11,7 @@ invariant-loop-served g l =
     let place = g.P.Place.faults in
     record {
       runs : Runs (coming l.fn.front) (coming l.front)
-          (Serves (meanings g.W.World g.F.D.I.Source g.F.D.O.Sink g.F.D.T.Sources g.F.D.L.Sources g.F.D.B.BenchMaker g.F.D.B.B.Bench)
+          (Serves (meanings g.W.World g.F.D.I.Source g.F.D.O.Sink g.F.D.T.Sources g.F.D.L.Sources g.F.D.B.BenchMaker g.F.D.B.B.Bench g.F.D.R.Sources g.F.D.C.Caller)
           g.F.D.Desk.parts l.fn.shared.root l.fn.shared.board.limit)
           l.fn.shared.board.journal l.shared.board.journal (place l.fn.shared.board.place) (place l.shared.board.place) l.desks.items l.transcripts.items;
       served_is : l.served ≡ length l.transcripts.items;

@@ -1,0 +1,47 @@
+//! The local attempt of a session: made on what was gathered, with nothing that stops it.
+
+ghost use Rattle.std.specs.Prelude.{◌≡◌};
+ghost use Rattle.rx_engine.specs.Attempts.{HasRunHere, end_of, whole_end};
+
+use crate::ends::hold;
+use crate::held::Held;
+use rx_local::{LocalJob, run_local};
+use rx_scan::Gathered;
+use rx_world::{Attempt, BenchMaker, Cause, End, Origin, Outcome, Sources, Unstopped, World};
+use std::alloc::Global;
+
+/// Makes the local attempt on what was gathered. An outcome that can't be kept for want of memory
+/// isn't published, and the attempt's end is then want of memory.
+pub(crate) fn run_here<W: World, B: BenchMaker<W>, S: Sources<W>>(
+    alloc: Global,
+    gathered: &Gathered,
+    benches: &mut B,
+    sources: &mut S,
+) -> End<Held, Cause>
+    ensures { HasRunHere W.World B.BenchMaker B.B.Bench S.Sources gathered.now
+        benches.old benches.new sources.old sources.new (whole_end result) }
+{
+    let job = LocalJob {
+        command: &gathered.command,
+        files: gathered.files.as_slice(),
+        directories: gathered.dirs.as_slice(),
+    };
+    let mut stop = Unstopped {
+        attempt: Attempt::Local,
+    };
+    let ended = run_local::<W, B, S, Unstopped>(alloc, &job, benches, sources, &mut stop);
+    hold(alloc, end_of(ended), Cause::NoMemory)
+}
+
+/// How a local attempt with this result ended.
+fn end_of(ended: Result<Outcome, Cause>) -> End<Outcome, Cause>
+    ensures { result ≡ end_of ended }
+{
+    match ended {
+        Ok(outcome) => End::Done {
+            outcome,
+            origin: Origin::Local,
+        },
+        Err(cause) => End::Failed { cause },
+    }
+}

@@ -1,0 +1,65 @@
+//! The remote attempt of a session: the tree of what was gathered, and the attempt on it, with
+//! nothing that stops it.
+
+ghost use Rattle.std.specs.Prelude.{IfOk};
+ghost use Rattle.rx_remote.specs.Actions.{AreNamed};
+ghost use Rattle.rx_tree.specs.Refusals.{CanBeBuilt};
+ghost use Rattle.rx_engine.specs.RemoteAttempts.{EndsThere, FitsFarm, IsTreeOf};
+ghost use Rattle.rx_engine.specs.Attempts.{whole_end};
+
+use crate::attempts::Job;
+use crate::ends::hold;
+use crate::held::Held;
+use rx_base::NoMemory;
+use rx_exec_messages::Caller;
+use rx_remote::{RemoteJob, run_remote};
+use rx_scan::Gathered;
+use rx_tree::{Built, TreeFault, build};
+use rx_world::{Attempt, End, RemoteCause, Sources, Unstopped, World};
+use std::alloc::{AllocError, Global};
+use std::sync::Wait;
+
+/// Makes the remote attempt on what was gathered. Want of memory is an end of it, also where its tree
+/// can't be built or its outcome can't be kept for that.
+pub(crate) fn run_there<W: World, C: Caller<W>, S: Sources<W>>(
+    rt: &impl Wait,
+    alloc: Global,
+    job: &Job<'_>,
+    farm: &mut C,
+    sources: &mut S,
+) -> End<Held, RemoteCause>
+    requires { FitsFarm job.now.gathered.now }
+    ensures { EndsThere W.World C.Caller S.Sources job.now.gathered.now
+        job.now.accept_cached farm.old farm.new sources.old sources.new (whole_end result) }
+{
+    let Ok(tree) = tree_of(alloc, job.gathered) else {
+        return End::Failed {
+            cause: RemoteCause::NoMemory,
+        };
+    };
+    let remote = RemoteJob {
+        command: &job.gathered.command,
+        accept_cached: job.accept_cached,
+        tree: &tree,
+        files: job.gathered.files.as_slice(),
+        presence: job.presence,
+    };
+    let mut stop = Unstopped {
+        attempt: Attempt::Remote,
+    };
+    let end = run_remote::<W, C, S, Unstopped, _>(rt, alloc, &remote, farm, sources, &mut stop);
+    hold(alloc, end, RemoteCause::NoMemory)
+}
+
+/// The tree of what was gathered, of which nothing is to be refused.
+fn tree_of(alloc: Global, gathered: &Gathered) -> Result<Built, NoMemory>
+    requires { CanBeBuilt gathered.now.files gathered.now.dirs }
+    ensures tree { IfOk result (λ tree. IsTreeOf gathered.now tree.root tree.blobs) }
+    ensures named { IfOk result (λ tree. AreNamed tree.blobs) }
+{
+    match build(alloc, gathered.files.as_slice(), gathered.dirs.as_slice()) {
+        Ok(tree) => Ok(tree),
+        Err(TreeFault::NoMemory) => Err(AllocError),
+        Err(_) => unreachable!(),
+    }
+}
