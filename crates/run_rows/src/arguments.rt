@@ -1,11 +1,12 @@
 //! The arguments of rows: words of a command line, files and the parts that fail.
 
 use crate::plans::{Node, Part};
-use rx_base::Bytes;
+use rx_base::{Bytes, Digest, read_hash};
 use rx_row_values::read_string;
 use rx_rows::{Row, RowFault};
 use rx_world::Stamp;
 use std::alloc::Global;
+use std::str;
 
 /// The words of a text, with one space between each two.
 pub(crate) fn words_in(alloc: Global, row: &mut Row<'_>) -> Result<Vec<String>, RowFault> {
@@ -15,6 +16,20 @@ pub(crate) fn words_in(alloc: Global, row: &mut Row<'_>) -> Result<Vec<String>, 
         words.push(String::from_str(alloc, word)?)?;
     }
     Ok(words)
+}
+
+/// The next word, a digest as answers have it: `HASH/SIZE`.
+pub(crate) fn read_digest(row: &mut Row<'_>) -> Result<Digest, RowFault> {
+    let Ok(word) = str::from_utf8(row.word()?) else {
+        return Err(RowFault::BadBytes);
+    };
+    let Some((hash, size)) = word.split_once('/') else {
+        return Err(RowFault::BadBytes);
+    };
+    match (read_hash(hash), size.parse::<u64>()) {
+        (Ok(hash), Ok(size)) => Ok(Digest { hash, size }),
+        _ => Err(RowFault::BadBytes),
+    }
 }
 
 /// What may stand behind the text of a file: `mark N` and `executable`.
@@ -66,6 +81,7 @@ pub(crate) fn part_in(row: &mut Row<'_>) -> Result<Part, RowFault> {
         b"output" => Ok(Part::Output),
         b"tree" => Ok(Part::Tree),
         b"local" => Ok(Part::TreeLocal),
+        b"remote" => Ok(Part::TreeRemote),
         b"benches" => Ok(Part::Benches),
         b"bench" => Ok(Part::Bench),
         b"place" => Ok(Part::Place),

@@ -1,7 +1,8 @@
 //! The rows: what each does, by its first word.
 
+use crate::after::show_after;
 use crate::arguments::{file_in, part_in, sized_in, words_in};
-use crate::outcomes::{show_benches, show_entry, show_files, show_reads, show_session};
+use crate::farms::read_line;
 use crate::plans::{DeskPlan, FailingCall, Node, Part, PlannedPath, PlannedTree};
 use crate::replies::show_number;
 use crate::requests::request_frame;
@@ -24,15 +25,13 @@ pub(crate) struct RunCalls<'a, R> {
     finished: Option<Finished>,
 }
 
-/// The item of a number from 1 on.
-fn nth<T>(items: &[T], number: u64) -> Result<&T, RowFault> {
-    if number == 0 {
+/// The first of these desks.
+fn first(desks: Vec<DeskPlan>) -> Result<DeskPlan, RowFault> {
+    let mut desks = desks;
+    if desks.is_empty() {
         return Err(RowFault::BadCall);
     }
-    match items.get((number - 1) as usize) {
-        Some(item) => Ok(item),
-        None => Err(RowFault::BadCall),
-    }
+    Ok(desks.swap_remove(0))
 }
 
 impl<'a, R: Wait> RunCalls<'a, R> {
@@ -118,13 +117,20 @@ impl<'a, R: Wait> RunCalls<'a, R> {
     /// Rows that say which tree the next rows fill.
     fn call_trees(&mut self, word: &[u8], row: &mut Row<'_>) -> Result<(), RowFault> {
         let desk = self.desk()?;
-        if word == b"local".as_slice() {
-            desk.local_apart = true;
-            desk.filling = PlannedTree::Local;
-            return Ok(());
+        match word {
+            b"local" => {
+                desk.local_apart = true;
+                desk.filling = PlannedTree::Local;
+            }
+            b"remote" => {
+                desk.remote_apart = true;
+                desk.filling = PlannedTree::Remote;
+            }
+            _ => {
+                desk.changes_after = Some(row.number()?);
+                desk.filling = PlannedTree::Later;
+            }
         }
-        desk.changes_after = Some(row.number()?);
-        desk.filling = PlannedTree::Later;
         Ok(())
     }
 
@@ -146,6 +152,18 @@ impl<'a, R: Wait> RunCalls<'a, R> {
         Ok(())
     }
 
+    /// `farm LINE`: the farm's client of the last desk answers this, behind its other lines.
+    fn add_line(&mut self, row: &mut Row<'_>) -> Result<(), RowFault> {
+        let line = read_line(self.alloc, row)?;
+        self.desk()?.lines.push(line)?;
+        Ok(())
+    }
+
+    /// The desks of the rows so far, which are no longer kept.
+    fn take_desks(&mut self) -> Vec<DeskPlan> {
+        std::mem::replace(&mut self.desks, Vec::new(self.alloc))
+    }
+
     /// `run WORDS` and `serve LIMIT`: the status, and how many sessions and entries there are.
     fn call_runs(
         &mut self,
@@ -156,12 +174,13 @@ impl<'a, R: Wait> RunCalls<'a, R> {
         let finished = match word {
             b"run" => {
                 let words = words_in(self.alloc, row)?;
-                run(self.rt, self.alloc, &words, &self.desks, &self.failing)?
+                let plans = self.take_desks();
+                run(self.rt, self.alloc, &words, plans, &self.failing)?
             }
             _ => {
                 let limit = row.number()? as usize;
-                let desk = nth(&self.desks, 1)?;
-                serve(self.rt, self.alloc, limit, desk, &self.failing)?
+                let plan = first(self.take_desks())?;
+                serve(self.rt, self.alloc, limit, plan, &self.failing)?
             }
         };
         if let Some(status) = finished.status {
@@ -170,30 +189,6 @@ impl<'a, R: Wait> RunCalls<'a, R> {
         show_number(answer, "sessions", finished.transcripts.len() as u64)?;
         show_number(answer, "entries", finished.journal.len() as u64)?;
         self.finished = Some(finished);
-        Ok(())
-    }
-
-    /// Rows that ask what is left behind a run.
-    fn call_after(
-        &self,
-        word: &[u8],
-        row: &mut Row<'_>,
-        answer: &mut Answer,
-    ) -> Result<(), RowFault> {
-        let alloc = self.alloc;
-        let run = self.last_run()?;
-        if word == b"place".as_slice() {
-            show_files(answer, run.place.files.as_slice())?;
-            return Ok(());
-        }
-        let number = row.number()?;
-        match word {
-            b"session" => show_session(alloc, answer, nth(&run.transcripts, number)?)?,
-            b"frame" => answer.bytes(nth(&run.desks, number)?.output.bytes.as_slice())?,
-            b"entry" => show_entry(alloc, answer, nth(&run.journal, number)?)?,
-            b"reads" => show_reads(answer, nth(&run.desks, number)?)?,
-            _ => show_benches(answer, nth(&run.desks, number)?)?,
-        }
         Ok(())
     }
 
@@ -214,7 +209,8 @@ impl<'a, R: Wait> RunCalls<'a, R> {
             b"desk" => self.desks.push(DeskPlan::new(self.alloc))?,
             b"fails" => self.add_failure(row)?,
             b"pieces" => self.set_piece(row)?,
-            b"local" | b"later" => self.call_trees(word, row)?,
+            b"local" | b"remote" | b"later" => self.call_trees(word, row)?,
+            b"farm" => self.add_line(row)?,
             b"file" | b"sized" | b"dir" | b"other" => self.call_paths(word, row)?,
             _ => return Err(RowFault::NoCall),
         }
@@ -228,9 +224,14 @@ impl<'a, R: Wait> Calls for RunCalls<'a, R> {
         match word {
             b"request" | b"bytes" => self.call_input(word, row, answer),
             b"run" | b"serve" => self.call_runs(word, row, answer),
-            b"session" | b"frame" | b"entry" | b"place" | b"benches" | b"reads" => {
-                self.call_after(word, row, answer)
-            }
+            b"session"
+            | b"frame"
+            | b"entry"
+            | b"place"
+            | b"benches"
+            | b"reads"
+            | b"ends"
+            | b"calls" => { show_after(self.alloc, self.last_run()?, word, row, answer) }
             b"root" => self.call_root(row, answer),
             _ => {
                 self.call_plans(word, row)?;

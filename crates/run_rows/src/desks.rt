@@ -3,6 +3,7 @@
 ghost use Rattle.std.specs.Prelude.{Some};
 
 use rx_engine::{Front, Parts};
+use rx_exec_messages::Script as FarmScript;
 use rx_fakes::{MemorySink, MemorySource, MemorySources, Script, ToyBenches};
 use rx_world::{Failed, Toy};
 use std::marker::Brand;
@@ -17,6 +18,8 @@ pub(crate) type MemoryDesk = Parts<
     MemorySources<Brand>,
     MemorySources<Brand>,
     ToyBenches,
+    MemorySources<Brand>,
+    FarmScript,
 >;
 
 /// Desks in memory, of which the first is given first.

@@ -2,13 +2,17 @@
 //! it, stands in the journal and lies in the place. The headings of `stdin` say what each row does.
 #![tactic(auto)]
 
+mod after;
 mod arguments;
 mod calls;
 mod desks;
+mod ends;
+mod farms;
 mod outcomes;
 mod plans;
 mod replies;
 mod requests;
+mod results;
 mod runs;
 mod trees;
 

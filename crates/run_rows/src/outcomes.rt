@@ -5,9 +5,10 @@ use crate::replies::{show_number, show_reply};
 use rx_base::NoMemory;
 use rx_board::Entry;
 use rx_engine::Transcript;
+use rx_farm_values::write_asks;
 use rx_row_values::write_digest;
 use rx_rows::Answer;
-use rx_world::FileOut;
+use rx_world::{FileOut, Listed};
 use std::alloc::Global;
 
 /// How a session ended, how many bytes it read, what it replied and where it published.
@@ -38,7 +39,16 @@ pub(crate) fn show_entry(
     show_number(answer, "number", entry.number)?;
     show_number(answer, "session", u64::from(entry.session))?;
     show_number(answer, "placed", entry.placed)?;
-    for file in entry.files.as_slice() {
+    show_listed(alloc, answer, entry.files.as_slice())
+}
+
+/// Files by their paths, digests and marks.
+pub(crate) fn show_listed(
+    alloc: Global,
+    answer: &mut Answer,
+    files: &[Listed],
+) -> Result<(), NoMemory> {
+    for file in files {
         answer.text(file.path.as_str().as_bytes())?;
         write_digest(alloc, answer, &file.digest)?;
         show_mark(answer, file.executable)?;
@@ -80,8 +90,20 @@ pub(crate) fn show_benches(answer: &mut Answer, desk: &MemoryDesk) -> Result<(),
     show_number(answer, "runs", runs as u64)
 }
 
-/// How many reads the two source trees answered.
+/// How many reads the source trees of the gathering and of the local attempt answered.
 pub(crate) fn show_reads(answer: &mut Answer, desk: &MemoryDesk) -> Result<(), NoMemory> {
     show_number(answer, "tree", desk.tree.reads() as u64)?;
     show_number(answer, "local", desk.tree_local.reads() as u64)
+}
+
+/// What the farm's client was asked, how many of these calls failed, and how many reads the source tree
+/// of the remote attempt answered.
+pub(crate) fn show_farm(
+    alloc: Global,
+    answer: &mut Answer,
+    desk: &MemoryDesk,
+) -> Result<(), NoMemory> {
+    write_asks(alloc, desk.farm.asks(), answer)?;
+    show_number(answer, "faults", desk.farm.faults())?;
+    show_number(answer, "reads", desk.tree_remote.reads() as u64)
 }

@@ -3,6 +3,7 @@
 ghost use Rattle.std.specs.Prelude.{◌≡◌, IfOk};
 
 use rx_base::{Bytes, NoMemory, RelPath};
+use rx_exec_messages::ScriptLine;
 use rx_fakes::Script;
 use rx_world::Stamp;
 use std::alloc::Global;
@@ -23,11 +24,13 @@ pub(crate) enum Node {
 /// The source trees of a desk: which of them has a path.
 #[derive(Clone, Copy, Debug, PartialEq, Eq)]
 pub(crate) enum PlannedTree {
-    /// The one that inputs are gathered from, and the one that the local attempt reads.
-    Both,
+    /// Each of them, unless it is another one.
+    All,
     /// The one that the local attempt reads, where it is another one.
     Local,
-    /// What both become after some calls on each.
+    /// The one that the remote attempt reads, where it is another one.
+    Remote,
+    /// What each becomes after some calls on it.
     Later,
 }
 
@@ -46,6 +49,7 @@ pub(crate) enum Part {
     Output,
     Tree,
     TreeLocal,
+    TreeRemote,
     /// The bench maker.
     Benches,
     /// Each bench.
@@ -61,8 +65,8 @@ pub(crate) struct FailingCall {
     pub number: u64,
 }
 
-/// A desk, and the trees behind it.
-#[derive(Debug, Drop)]
+/// A desk, and the trees and the farm behind it.
+#[derive(Drop)]
 pub(crate) struct DeskPlan {
     /// The bytes that come in.
     pub input: Vec<u8>,
@@ -71,26 +75,32 @@ pub(crate) struct DeskPlan {
     pub filling: PlannedTree,
     /// Whether the local attempt reads a tree of its own.
     pub local_apart: bool,
-    /// After how many calls both trees change.
+    /// Whether the remote attempt reads a tree of its own.
+    pub remote_apart: bool,
+    /// After how many calls each tree changes.
     pub changes_after: Option<u64>,
     pub failing: Vec<FailingCall>,
     /// How many bytes a call on the input gives, and one on the output takes, at most.
     pub input_piece: usize,
     pub output_piece: usize,
+    /// What the farm's client answers, call by call.
+    pub lines: Vec<ScriptLine>,
 }
 
 impl DeskPlan {
-    /// No byte comes in, and nothing stands in the trees.
+    /// No byte comes in, nothing stands in the trees, and the farm answers nothing.
     pub(crate) fn new(alloc: Global) -> DeskPlan {
         DeskPlan {
             input: Vec::new(alloc),
             paths: Vec::new(alloc),
-            filling: PlannedTree::Both,
+            filling: PlannedTree::All,
             local_apart: false,
+            remote_apart: false,
             changes_after: None,
             failing: Vec::new(alloc),
             input_piece: usize::MAX,
             output_piece: usize::MAX,
+            lines: Vec::new(alloc),
         }
     }
 }

@@ -1,6 +1,7 @@
 //! Replies in words.
 
 use rx_base::{NoMemory, RelPath};
+use rx_farm_values::write_remote_cause;
 use rx_row_values::write_changed;
 use rx_rows::Answer;
 use rx_session::Reply;
@@ -26,7 +27,11 @@ fn show_changed(alloc: Global, answer: &mut Answer, input: &ChangedInput) -> Res
 }
 
 /// Why a local attempt has no outcome.
-fn show_cause(alloc: Global, answer: &mut Answer, cause: &Cause) -> Result<(), NoMemory> {
+pub(crate) fn show_cause(
+    alloc: Global,
+    answer: &mut Answer,
+    cause: &Cause,
+) -> Result<(), NoMemory> {
     match cause {
         Cause::BenchFault { step } => {
             answer.word("BenchFault")?;
@@ -56,7 +61,7 @@ fn show_failure(alloc: Global, answer: &mut Answer, failure: &Failure) -> Result
         }
         Failure::Remote { cause } => {
             answer.word("remote")?;
-            answer.value(cause)
+            write_remote_cause(alloc, cause, answer)
         }
         Failure::NonZero { exit } => {
             answer.word("NonZero")?;

@@ -4,6 +4,7 @@ use crate::desks::{MemoryDesk, MemoryFront, ToyWorld};
 use crate::plans::{DeskPlan, FailingCall, Part, script_for};
 use crate::trees::desk_of;
 use rx_base::{Items, NoMemory, Text};
+use rx_blobs::Presence;
 use rx_board::{Board, Entry};
 use rx_digest_cache::DigestCache;
 use rx_engine::{Shared, Transcript, run_proxy, serve_session};
@@ -13,6 +14,9 @@ use std::sync::Wait;
 
 /// The root of all requests in rows.
 const ROOT: &str = "/r";
+
+/// How many digests of a farm's blobs are kept for one session.
+const PRESENCE: usize = 1000;
 
 /// What is left behind a run.
 #[derive(Drop)]
@@ -26,7 +30,7 @@ pub(crate) struct Finished {
 }
 
 /// The desks of plans, in their order.
-fn desks_of(alloc: Global, plans: &[DeskPlan]) -> Result<Vec<MemoryDesk>, NoMemory> {
+fn desks_of(alloc: Global, plans: Vec<DeskPlan>) -> Result<Vec<MemoryDesk>, NoMemory> {
     let mut desks = Vec::new(alloc);
     for plan in plans {
         desks.push(desk_of(alloc, plan)?)?;
@@ -39,7 +43,7 @@ pub(crate) fn run(
     rt: &impl Wait,
     alloc: Global,
     words: &[String],
-    plans: &[DeskPlan],
+    plans: Vec<DeskPlan>,
     failing: &[FailingCall],
 ) -> Result<Finished, NoMemory> {
     let front = MemoryFront {
@@ -63,7 +67,7 @@ pub(crate) fn serve(
     rt: &impl Wait,
     alloc: Global,
     limit: usize,
-    plan: &DeskPlan,
+    plan: DeskPlan,
     failing: &[FailingCall],
 ) -> Result<Finished, NoMemory> {
     let script = script_for(alloc, failing, Part::Place)?;
@@ -72,9 +76,10 @@ pub(crate) fn serve(
         root: Text::copy_of(alloc, ROOT)?,
         board: Board::new(alloc, place, limit),
         cache: DigestCache::new(alloc, 1)?,
+        presence: Presence::new(alloc, PRESENCE),
     };
     let desk = desk_of(alloc, plan)?;
-    let (transcript, desk) = serve_session::<ToyWorld, _, _>(rt, alloc, 1, desk, &mut shared);
+    let (transcript, desk) = serve_desk(rt, alloc, desk, &mut shared);
     let (place, journal) = shared.board.into_parts();
     Ok(Finished {
         status: None,
@@ -83,4 +88,14 @@ pub(crate) fn serve(
         transcripts: vec![in alloc; transcript]?,
         desks: vec![in alloc; desk]?,
     })
+}
+
+/// Serves a desk as session 1.
+fn serve_desk(
+    rt: &impl Wait,
+    alloc: Global,
+    desk: MemoryDesk,
+    shared: &mut Shared<ToyWorld, MemoryPlace>,
+) -> (Transcript, MemoryDesk) {
+    serve_session::<ToyWorld, _, _>(rt, alloc, 1, desk, shared)
 }

@@ -4,7 +4,9 @@ use crate::desks::MemoryDesk;
 use crate::plans::{DeskPlan, Node, Part, PlannedPath, PlannedTree, failing_calls, script_for};
 use rx_base::{NoMemory, TryClone};
 use rx_engine::Parts;
+use rx_exec_messages::Script as FarmScript;
 use rx_fakes::{Change, MemorySink, MemorySource, MemorySources, SourceEntries, ToyBenches, When};
+use rx_world::Dialect;
 use std::alloc::Global;
 use std::marker::Brand;
 
@@ -87,18 +89,22 @@ fn output_of(alloc: Global, plan: &DeskPlan) -> Result<MemorySink, NoMemory> {
     Ok(output)
 }
 
+/// The tree of an attempt: one of its own, or the one that inputs are gathered from.
+fn tree_for(is_apart: bool, own: PlannedTree) -> PlannedTree {
+    if is_apart { own } else { PlannedTree::All }
+}
+
 /// The desk of a plan.
-pub(crate) fn desk_of(alloc: Global, plan: &DeskPlan) -> Result<MemoryDesk, NoMemory> {
-    let local = if plan.local_apart {
-        PlannedTree::Local
-    } else {
-        PlannedTree::Both
-    };
+pub(crate) fn desk_of(alloc: Global, plan: DeskPlan) -> Result<MemoryDesk, NoMemory> {
+    let local = tree_for(plan.local_apart, PlannedTree::Local);
+    let remote = tree_for(plan.remote_apart, PlannedTree::Remote);
     Ok(Parts {
-        input: input_of(alloc, plan)?,
-        output: output_of(alloc, plan)?,
-        tree: sources_of(alloc, plan, PlannedTree::Both, Part::Tree)?,
-        tree_local: sources_of(alloc, plan, local, Part::TreeLocal)?,
-        benches: benches_of(alloc, plan)?,
+        input: input_of(alloc, &plan)?,
+        output: output_of(alloc, &plan)?,
+        tree: sources_of(alloc, &plan, PlannedTree::All, Part::Tree)?,
+        tree_local: sources_of(alloc, &plan, local, Part::TreeLocal)?,
+        benches: benches_of(alloc, &plan)?,
+        tree_remote: sources_of(alloc, &plan, remote, Part::TreeRemote)?,
+        farm: FarmScript::new(alloc, plan.lines, Dialect::New),
     })
 }

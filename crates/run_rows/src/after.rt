@@ -1,0 +1,43 @@
+//! What rows ask of a run that ended, by their first words.
+
+use crate::ends::show_ends;
+use crate::outcomes::{show_benches, show_entry, show_farm, show_files, show_reads, show_session};
+use crate::runs::Finished;
+use rx_rows::{Answer, Row, RowFault};
+use std::alloc::Global;
+
+/// The item of a number from 1 on.
+fn nth<T>(items: &[T], number: u64) -> Result<&T, RowFault> {
+    if number == 0 {
+        return Err(RowFault::BadCall);
+    }
+    match items.get((number - 1) as usize) {
+        Some(item) => Ok(item),
+        None => Err(RowFault::BadCall),
+    }
+}
+
+/// What is left behind a run: of the place, or of the session or entry whose number is the next word.
+pub(crate) fn show_after(
+    alloc: Global,
+    run: &Finished,
+    word: &[u8],
+    row: &mut Row<'_>,
+    answer: &mut Answer,
+) -> Result<(), RowFault> {
+    if word == b"place".as_slice() {
+        show_files(answer, run.place.files.as_slice())?;
+        return Ok(());
+    }
+    let number = row.number()?;
+    match word {
+        b"session" => show_session(alloc, answer, nth(&run.transcripts, number)?)?,
+        b"frame" => answer.bytes(nth(&run.desks, number)?.output.bytes.as_slice())?,
+        b"entry" => show_entry(alloc, answer, nth(&run.journal, number)?)?,
+        b"ends" => show_ends(alloc, answer, &nth(&run.transcripts, number)?.ends)?,
+        b"reads" => show_reads(answer, nth(&run.desks, number)?)?,
+        b"calls" => show_farm(alloc, answer, nth(&run.desks, number)?)?,
+        _ => show_benches(answer, nth(&run.desks, number)?)?,
+    }
+    Ok(())
+}

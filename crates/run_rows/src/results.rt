@@ -1,0 +1,77 @@
+//! Results of a farm, as rows tell them: see the headings of `stdin`.
+
+use crate::arguments::read_digest;
+use rx_base::{Bytes, Items, Text};
+use rx_messages::{ActionResult, OutputFile};
+use rx_row_values::read_string;
+use rx_rows::{Row, RowFault};
+use std::alloc::Global;
+
+/// The words that are left, a result: `none`, or `code N` and what else it has.
+pub(crate) fn read_result(
+    alloc: Global,
+    row: &mut Row<'_>,
+) -> Result<Option<ActionResult>, RowFault> {
+    match row.word()? {
+        b"none" => Ok(None),
+        b"code" => read_whole(alloc, row),
+        _ => Err(RowFault::BadCall),
+    }
+}
+
+/// `N PART ..`: a result with this code and these parts.
+fn read_whole(alloc: Global, row: &mut Row<'_>) -> Result<Option<ActionResult>, RowFault> {
+    let Ok(exit_code) = i32::try_from(row.number()?) else {
+        return Err(RowFault::BadNumber);
+    };
+    let mut given = code_alone(alloc, exit_code);
+    for _ in 0..u64::MAX {
+        if row.is_done() {
+            break;
+        }
+        add_part(alloc, row, &mut given)?;
+    }
+    Ok(Some(given))
+}
+
+/// A result with this code, without texts and outputs.
+fn code_alone(alloc: Global, exit_code: i32) -> ActionResult {
+    ActionResult {
+        output_files: Items::new(alloc),
+        output_directories: Items::new(alloc),
+        exit_code,
+        stdout_raw: Bytes::new(alloc),
+        stdout_digest: None,
+        stderr_raw: Bytes::new(alloc),
+        stderr_digest: None,
+        execution_metadata: Bytes::new(alloc),
+        output_symlinks: Items::new(alloc),
+    }
+}
+
+/// `stdout TEXT`, `stderr TEXT` or `output FILE`.
+fn add_part(alloc: Global, row: &mut Row<'_>, given: &mut ActionResult) -> Result<(), RowFault> {
+    match row.word()? {
+        b"stdout" => given.stdout_raw = Bytes::from_vec(row.text(alloc)?),
+        b"stderr" => given.stderr_raw = Bytes::from_vec(row.text(alloc)?),
+        b"output" => given.output_files.push(read_file(alloc, row)?)?,
+        _ => return Err(RowFault::BadCall),
+    }
+    Ok(())
+}
+
+/// `PATH MARK DIGEST TEXT`: an output, whose contents are in the result unless the text is empty.
+fn read_file(alloc: Global, row: &mut Row<'_>) -> Result<OutputFile, RowFault> {
+    let path = Text::from_string(read_string(alloc, row)?);
+    let is_executable = match row.word()? {
+        b"executable" => true,
+        b"plain" => false,
+        _ => return Err(RowFault::BadCall),
+    };
+    Ok(OutputFile {
+        path,
+        digest: Some(read_digest(row)?),
+        is_executable,
+        contents: Bytes::from_vec(row.text(alloc)?),
+    })
+}
