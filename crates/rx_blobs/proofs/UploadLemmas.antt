@@ -212,10 +212,10 @@ group-known digests known asked split e = record {
   stored = λ d c. elim (split.each d c) [ inl k ↦ inl k | inr a ↦ absurd (not_in_nothing d (subst (λ ds. Contains ds d) e a)) ];
 }
 
-pub group-uploaded : (digests known asked missing : List Digest) (part : List Exchange) → IsSplit digests known asked → IsSent missing missing part →
-    IsUploaded digests known (FindMissing asked (Ok missing) ∷ [] ++ part)
-group-uploaded digests known asked missing part split s = record {
-  calls = (tt, s.calls);
+pub group-uploaded : (digests known asked missing : List Digest) (part : List Exchange) → IsSplit digests known asked → length asked ≤ 20000 →
+    IsSent missing missing part → IsUploaded digests known (FindMissing asked (Ok missing) ∷ [] ++ part)
+group-uploaded digests known asked missing part split few s = record {
+  calls = (few, s.calls);
   sends = (tt, s.sends);
   stored = λ d c. elim (split.each d c) [
     | inl k ↦ inl k
@@ -232,13 +232,13 @@ group-uploaded digests known asked missing part split s = record {
   ];
 }
 
-pub group-failed : (asked missing : List Digest) (fault : BlobFault) (part : List Exchange) → IsFailedSending missing fault part →
+pub group-failed : (asked missing : List Digest) (fault : BlobFault) (part : List Exchange) → length asked ≤ 20000 → IsFailedSending missing fault part →
     IsFailedUpload fault (FindMissing asked (Ok missing) ∷ [] ++ part)
-group-failed asked missing fault part s =
-    record { calls = (tt, s.calls); sends = (tt, s.sends); shown = shown-later fault (FindMissing asked (Ok missing) ∷ []) part s.shown }
+group-failed asked missing fault part few s =
+    record { calls = (few, s.calls); sends = (tt, s.sends); shown = shown-later fault (FindMissing asked (Ok missing) ∷ []) part s.shown }
 
-pub ask-failed : (asked : List Digest) (fault : CallFault) → IsFailedUpload (of_ask fault) (FindMissing asked (Err fault) ∷ [])
-ask-failed asked fault = record { calls = (tt, tt); sends = (tt, tt); shown = shown-by (of_ask fault) (FindMissing asked (Err fault)) refl }
+pub ask-failed : (asked : List Digest) (fault : CallFault) → length asked ≤ 20000 → IsFailedUpload (of_ask fault) (FindMissing asked (Err fault) ∷ [])
+ask-failed asked fault few = record { calls = (few, tt); sends = (tt, tt); shown = shown-by (of_ask fault) (FindMissing asked (Err fault)) refl }
 
 pub stopped : (ds left : List Digest) (part : List Exchange) → IsUploaded ds left part → IsFailedUpload faults.NoMemory part
 stopped ds left part f = record { calls = f.calls; sends = f.sends; shown = tt }
@@ -309,14 +309,14 @@ nothing-in (x ∷ xs) e = cc ((Decides-eqb (length (x ∷ xs)) 0).0 e)
 abbrev pub IsJust : Exchange → List Exchange → Type 0
 IsJust exchange part = part ≡ exchange ∷ []
 
-pub group-sent : {C W : Type 0} (c : callers.Ghosts C W) (old now new : C) (digests known asked missing : List Digest) → IsSplit digests known asked →
+pub group-sent : {C W : Type 0} (c : callers.Ghosts C W) (old now new : C) (digests known asked missing : List Digest) → IsSplit digests known asked → length asked ≤ 20000 →
     HasExchanged c old now (IsJust (FindMissing asked (Ok missing))) → HasExchanged c now new (IsSent missing missing) → HasExchanged c old new (IsUploaded digests known)
-group-sent c old now new digests known asked missing split f g =
+group-sent c old now new digests known asked missing split few f g =
     exchanges-then c (IsJust (FindMissing asked (Ok missing))) (IsSent missing missing) (IsUploaded digests known) old now new f g
-    (λ front back p q. rw p (group-uploaded digests known asked missing back split q))
+    (λ front back p q. rw p (group-uploaded digests known asked missing back split few q))
 
-pub group-unsent : {C W : Type 0} (c : callers.Ghosts C W) (old now new : C) (asked missing : List Digest) (fault : BlobFault) →
+pub group-unsent : {C W : Type 0} (c : callers.Ghosts C W) (old now new : C) (asked missing : List Digest) (fault : BlobFault) → length asked ≤ 20000 →
     HasExchanged c old now (IsJust (FindMissing asked (Ok missing))) → HasExchanged c now new (IsFailedSending missing fault) → HasExchanged c old new (IsFailedUpload fault)
-group-unsent c old now new asked missing fault f g =
+group-unsent c old now new asked missing fault few f g =
     exchanges-then c (IsJust (FindMissing asked (Ok missing))) (IsFailedSending missing fault) (IsFailedUpload fault) old now new f g
-    (λ front back p q. rw p (group-failed asked missing fault back q))
+    (λ front back p q. rw p (group-failed asked missing fault back few q))

@@ -1,5 +1,5 @@
 -- Lists within others, parts of lists, and whether a digest is among others.
-use Rattle.std.proofs.Common.{◌+◌, ◌<◌, get_or, length, take, ◌≡◌, ◌≢◌, ◌⊎◌, ◌∙◌, ℕ, List, [], ◌∷◌, ◌++◌, refl, sym, ap, subst, inl, inr, Bool, true, false}
+use Rattle.std.proofs.Common.{◌+◌, ◌<◌, arith, get_or, length, length-append, take, ◌≡◌, ◌≢◌, ◌⊎◌, ◌∙◌, ℕ, List, [], ◌∷◌, ◌++◌, refl, sym, ap, subst, inl, inr, Bool, true, false}
 use Rattle.std.specs.Bool.{Decides}
 use Rattle.std.specs.Str.{bytes_eq}
 use Rattle.std.specs.Prelude.{◌==◌, Contains}
@@ -56,7 +56,7 @@ part-append (x ∷ xs) ys (z ∷ all) more p q = elim p [
 -- ---- which blobs are asked for
 
 pub split-none : IsSplit [] [] []
-split-none = record { part = tt; each = λ d c. absurd (not_in_nothing d c) }
+split-none = record { part = tt; each = λ d c. absurd (not_in_nothing d c); few = omega arith }
 
 pub split-known : (digests known asked : List Digest) (digest : Digest) → IsSplit digests known asked → IsSplit (digests ++ digest ∷ []) (known ++ digest ∷ []) asked
 split-known digests known asked digest s = record {
@@ -65,6 +65,7 @@ split-known digests known asked digest s = record {
     | inl before ↦ elim (s.each d before) [ inl k ↦ inl (Contains-append_left known (digest ∷ []) d k) | inr a ↦ inr a ]
     | inr is ↦ inl (subst (λ x. Contains (known ++ digest ∷ []) x) is (Contains-append_right known (digest ∷ []) digest (Contains-head digest [])))
   ];
+  few = let all = length-append digests (digest ∷ []) in omega (arith, all, s.few);
 }
 
 pub split-asked : (digests known asked : List Digest) (digest : Digest) → IsSplit digests known asked → IsSplit (digests ++ digest ∷ []) known (asked ++ digest ∷ [])
@@ -74,10 +75,15 @@ split-asked digests known asked digest s = record {
     | inl before ↦ elim (s.each d before) [ inl k ↦ inl k | inr a ↦ inr (Contains-append_left asked (digest ∷ []) d a) ]
     | inr is ↦ inr (subst (λ x. Contains (asked ++ digest ∷ []) x) is (Contains-append_right asked (digest ∷ []) digest (Contains-head digest [])))
   ];
+  few = let all = length-append digests (digest ∷ []) in let others = length-append asked (digest ∷ []) in omega (arith, all, others, s.few);
 }
 
 pub split-fresh : (digests asked : List Digest) → asked ≡ digests → IsSplit digests [] asked
-split-fresh digests asked e = record { part = tt; each = λ d c. inr (subst (λ xs. Contains xs d) (sym e) c) }
+split-fresh digests asked e = record {
+  part = tt;
+  each = λ d c. inr (subst (λ xs. Contains xs d) (sym e) c);
+  few = let same = ap length e in omega (arith, same);
+}
 
 -- ---- whether a digest is among others
 

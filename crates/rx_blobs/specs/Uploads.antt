@@ -1,5 +1,5 @@
 -- What an upload of blobs asked, sent and read.
-use Rattle.std.specs.Prelude.{◌≡◌, ◌⊎◌, ◌++◌, ℕ, List, [], ◌∷◌, Result, Ok, Err, Contains, map}
+use Rattle.std.specs.Prelude.{◌≡◌, ◌≤◌, ◌⊎◌, ◌++◌, ℕ, List, [], ◌∷◌, length, Result, Ok, Err, Contains, map}
 use Rattle.std.specs.List.{AllByRecursion, flat_map}
 use Rattle.rx_base.specs.Digests.{digest_of}
 use Rattle.rx_base.specs.declared.digests.Digest.{Digest}
@@ -53,9 +53,9 @@ IsWithin {A = A} some all = (x : A) → Contains some x → Contains all x
 
 -- ---- what exchanges did
 
--- the exchange stores blobs, or asks which are missing
+-- the exchange stores blobs, or asks of at most 20,000 which are missing
 abbrev pub IsUploadCall : Exchange → Type 0
-IsUploadCall (FindMissing digests answer) = Unit {0}
+IsUploadCall (FindMissing digests answer) = length digests ≤ 20000
 IsUploadCall (Update blobs answer) = Unit {0}
 IsUploadCall (WriteStream digest bytes answer) = Unit {0}
 IsUploadCall (Read digests answer) = ⊥
@@ -245,10 +245,11 @@ pub record HasRead {T W : Type 0} (w : world.Ghosts W) (s : sources.Ghosts T W) 
 
 -- ---- which blobs are asked for
 
--- the first of these are some of the digests, in their order, and each digest is among the first or among the others
+-- the first of these are some of the digests, in their order, and each digest is among the first or among the others, which aren't more
 pub record IsSplit (digests known asked : List Digest) : Type 0 where
   pub part : IsPartOf known digests
   pub each : (digest : Digest) → Contains digests digest → Contains known digest ⊎ Contains asked digest
+  pub few : length asked ≤ length digests
 
 -- ---- amid an upload
 

@@ -1,6 +1,6 @@
 //! Uploads: the farm is asked which blobs it lacks, and these are sent to it.
 
-ghost use Rattle.std.specs.Prelude.{◌≡◌, [], IfErr, IfOk, true};
+ghost use Rattle.std.specs.Prelude.{◌≡◌, ◌≤◌, [], IfErr, IfOk, length, true};
 ghost use Rattle.rx_exec_messages.specs.Exchanged.{HasExchanged};
 ghost use Rattle.rx_exec_messages.specs.Calls.{IsPartOf};
 ghost use Rattle.rx_blobs.specs.Uploads.{AreMade, HasRead, IsReadEnd, IsSplit, IsUpload, IsUploadCause, digests_of_blobs};
@@ -88,7 +88,8 @@ fn upload_group<W: World, C: Caller<W>, S: Sources<W>, R: Wait>(
     fresh: bool,
     way: &mut Way,
 ) -> Result<Items<Digest>, BlobFault>
-    requires { AreMade blobs.now }
+    requires made { AreMade blobs.now }
+    requires few { length blobs.now ≤ 20000 }
     ensures part { IfOk result (λ left. IsPartOf left (digests_of_blobs blobs.now)) }
     ensures fresh { IfOk result (λ left. fresh ≡ true → left ≡ []) }
     ensures exchanged { HasExchanged C.Caller caller.old caller.new

@@ -128,6 +128,7 @@ module _ {C D W : Type 0} (w : world.Ghosts W) (c : callers.Ghosts C W) (d : cal
     history = h.history;
     stored = h.stored;
     of_action = h.of_action;
+    once = h.once;
     legal = h.legal;
     leaves = h.leaves;
     exchanged = exchanged-mirrored _ h.exchanged;

@@ -1,5 +1,5 @@
 -- An attempt ends for calls that failed only where its history has such a fault.
-use Rattle.std.proofs.Common.{◌≡◌, ◌==◌, ◌≤◌, ℕ, ◌+◌, List, [], ◌∷◌, ◌++◌, Option, None, Some, length, refl, subst, arith}
+use Rattle.std.proofs.Common.{◌≡◌, ◌==◌, ◌≤◌, ℕ, List, [], ◌∷◌, ◌++◌, Option, None, Some, length, subst, arith}
 use Rattle.rx_messages.specs.declared.results.ActionResult.{ActionResult}
 use Rattle.rx_world.specs.declared.attempts.Origin.{Origin}
 use Rattle.rx_world.specs.declared.attempts.Origin.TheVariants as origins
@@ -13,7 +13,6 @@ use Rattle.rx_world.specs.declared.versions.SemVer.{SemVer}
 use Rattle.rx_exec_messages.specs.declared.executions.ExecuteResponse.{ExecuteResponse}
 use Rattle.rx_results.specs.declared.slots.DigestMismatch.{DigestMismatch}
 use Rattle.rx_results.specs.Results.{fault_of, spoiled_of, wanted_of}
-use Rattle.rx_blobs.specs.declared.blob_fault.BlobFault.{BlobFault}
 use Rattle.rx_blobs.specs.declared.blob_fault.BlobFault.TheVariants as blobs
 use Rattle.std.specs.Prelude.{nat_lt}
 use Rattle.rx_remote.specs.declared.asks.Ask.{Ask}
@@ -26,7 +25,7 @@ use Rattle.rx_remote.specs.declared.phases.Phase.{Phase}
 use Rattle.rx_remote.specs.declared.tasks.Task.{Task}
 use Rattle.rx_remote.specs.Faults.{with_fault}
 use Rattle.rx_remote.specs.Fine.{IfEnded}
-use Rattle.rx_remote.specs.History.{after_blobs, after_cached, after_fault, after_next, after_range, after_response, blamed_on, done, excludes, failed, finished, first_ask, judged, most_waits, next_of, next_or_spent, unless_blamed}
+use Rattle.rx_remote.specs.History.{after_cached, after_fault, after_next, after_range, after_response, blamed_on, done, excludes, failed, finished, first_ask, judged, most_waits, next_of, unless_blamed}
 use Rattle.rx_remote.specs.Marks.{Turn, faults_of, found_as, found_of, marks_of, origin_of, phase_of}
 use Rattle.rx_remote.proofs.PlainEnds.{IsPlain, either-ends, fault-ends, first-ends, missing-ends}
 

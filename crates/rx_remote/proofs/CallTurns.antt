@@ -1,5 +1,5 @@
 -- A call that failed, as a turn.
-use Rattle.std.proofs.Common.{◌≡◌, ◌∙◌, List, [], ◌∷◌, sym, ap}
+use Rattle.std.proofs.Common.{◌∙◌, List, [], ◌∷◌, sym, ap}
 use Rattle.std.specs.Prelude.{Err}
 use Rattle.rx_base.specs.declared.digests.Digest.{Digest}
 use Rattle.rx_world.specs.declared.call_faults.CallFault.{CallFault}

@@ -1,14 +1,13 @@
 -- The count of a client rises with the list of faults.
-use Rattle.std.proofs.Common.{◌≡◌, ◌≤◌, ◌<◌, ℕ, ◌+◌, ◌-◌, ◌^◌, min, Bool, true, false, List, [], ◌∷◌, ◌++◌, length, refl, arith}
+use Rattle.std.proofs.Common.{◌≡◌, ◌≤◌, ℕ, ◌+◌, List, [], ◌∷◌, ◌++◌, length, refl, arith}
 use Rattle.rx_world.specs.Causes.{Rose}
-use Rattle.rx_blobs.specs.declared.blob_fault.BlobFault.{BlobFault}
 use Rattle.rx_blobs.specs.declared.blob_fault.BlobFault.TheVariants as blobs
 use Rattle.rx_remote.specs.declared.asks.Heard.{Heard}
 use Rattle.rx_remote.specs.declared.asks.Heard.TheVariants.{Begun, Blobs, Cached, Fault, Fetched, Next, Stopped, Told, Uploaded}
 use Rattle.rx_world.specs.declared.call_faults.CallFault.{CallFault}
 use Rattle.rx_world.specs.declared.call_faults.CallFault.TheVariants as calls
-use Rattle.rx_remote.specs.Faults.{faults_after, with_blobs, with_fault}
-use Rattle.rx_remote.specs.Turns.{IsBlobCount, IsCountedHeard, IsListedFault, RoseBy}
+use Rattle.rx_remote.specs.Faults.{faults_after, with_fault}
+use Rattle.rx_remote.specs.Turns.{IsCountedHeard, IsListedFault, RoseBy}
 
 longer : (faults : List CallFault) (fault : CallFault) → length (faults ++ fault ∷ []) ≡ length faults + 1
 longer [] fault = omega arith

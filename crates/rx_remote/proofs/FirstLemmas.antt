@@ -1,5 +1,5 @@
 -- Until the farm told of itself.
-use Rattle.std.proofs.Common.{◌≡◌, ◌≢◌, ◌⊎◌, ◌∙◌, ◌<◌, Bool, true, false, cond, List, [], ◌∷◌, Option, None, Some, refl, sym, ap, subst, inl, inr}
+use Rattle.std.proofs.Common.{◌≡◌, ◌≢◌, ◌⊎◌, ◌∙◌, ◌<◌, Bool, true, false, cond, List, [], ◌∷◌, Option, None, Some, refl, subst, inl, inr}
 use Rattle.rx_base.specs.Digests.{digest_of}
 use Rattle.rx_base.specs.declared.digests.Digest.{Digest}
 use Rattle.rx_world.specs.declared.attempts.End.{End as AnyEnd}
@@ -10,12 +10,10 @@ use Rattle.rx_world.specs.declared.remote_causes.RemoteCause.TheVariants as caus
 use Rattle.rx_world.specs.declared.world.World as world
 use Rattle.rx_exec_messages.specs.declared.answers.Capabilities.{Capabilities as FarmCapabilities}
 use Rattle.rx_exec_messages.specs.declared.callers.Caller as callers
-use Rattle.rx_exec_messages.specs.Dialects.{dialect_of}
 use Rattle.rx_remote.specs.declared.asks.Ask.{Ask}
-use Rattle.rx_remote.specs.declared.asks.Ask.TheVariants.{Capabilities, End, Execute, Fetch, GetResult, NextOperation, Upload, Wait}
+use Rattle.rx_remote.specs.declared.asks.Ask.TheVariants.{Capabilities, End, Upload}
 use Rattle.rx_remote.specs.declared.asks.Heard.{Heard}
 use Rattle.rx_remote.specs.declared.asks.Heard.TheVariants.{Begun, Blobs, Cached, Fault, Fetched, Next, Stopped, Told, Uploaded}
-use Rattle.rx_remote.specs.declared.begins.FirstTurn.{FirstTurn}
 use Rattle.rx_remote.specs.declared.marks.Marks.{Marks}
 use Rattle.rx_remote.specs.declared.phases.Phase.TheVariants as phases
 use Rattle.rx_remote.specs.declared.states.RemoteState.{RemoteState}

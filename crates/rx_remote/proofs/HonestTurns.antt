@@ -1,5 +1,5 @@
 -- An attempt goes on from turn to turn, and an honest farm stays honest.
-use Rattle.std.proofs.Common.{◌≡◌, ◌≢◌, ◌⊎◌, ◌∙◌, ℕ, List, [], ◌∷◌, refl, sym, ap, subst, inl, inr}
+use Rattle.std.proofs.Common.{◌≡◌, ◌≢◌, ◌∙◌, ℕ, List, [], ◌∷◌, refl, sym, ap, inl, inr}
 use Rattle.rx_base.specs.declared.digests.Digest.{Digest}
 use Rattle.rx_world.specs.declared.outcomes.Outcome.{Outcome}
 use Rattle.rx_exec_messages.specs.Calls.{IsNamedFor}

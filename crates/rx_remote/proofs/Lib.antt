@@ -9,6 +9,7 @@ mod HonestTurns
 mod LeftAsks
 mod LoopLemmas
 pub mod MeasureLemmas
+mod OnceLemmas
 mod PlainEnds
 mod ReadLemmas
 mod RightEnds

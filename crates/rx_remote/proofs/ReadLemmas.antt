@@ -1,6 +1,6 @@
 -- What an attempt read of its inputs, turn after turn, and the causes that are this machine's.
-use Rattle.std.proofs.Common.{◌≡◌, ◌≤◌, ◌⊎◌, ◌∙◌, ℕ, List, [], ◌∷◌, ◌++◌, Option, None, Some, refl, sym, ap, subst, inl, inr, arith}
-use Rattle.std.specs.Prelude.{All, Contains, IfSome}
+use Rattle.std.proofs.Common.{◌≡◌, ◌≤◌, ◌∙◌, ℕ, List, [], ◌∷◌, ◌++◌, Option, None, Some, sym, ap, subst, inl, inr, arith}
+use Rattle.std.specs.Prelude.{All, IfSome}
 use Rattle.std.proofs.lemmas.List.Elements.{All-append, All-contains, All-nil, Contains-append_right}
 use Rattle.rx_base.specs.Digests.{digest_of}
 use Rattle.rx_inputs.specs.Reads.{Differ}
@@ -28,7 +28,7 @@ use Rattle.rx_remote.specs.declared.tasks.Task.{Task}
 use Rattle.rx_remote.specs.Fine.{IfEnded, IsEndOf}
 use Rattle.rx_remote.specs.History.{next_of}
 use Rattle.rx_remote.specs.Marks.{Turn}
-use Rattle.rx_remote.specs.Reading.{HasRead, HeardGives, IsChangedOf, IsOwnCause, IsReadOf, IsUnchanged}
+use Rattle.rx_remote.specs.Reading.{HasRead, HeardGives, IsOwnCause, IsReadOf, IsUnchanged}
 use Rattle.rx_remote.proofs.StopEnds.{IsFarms, heard-ends}
 
 -- ---- what was read

@@ -1,8 +1,8 @@
 -- How a whole attempt ends.
-use Rattle.std.proofs.Common.{◌≡◌, ◌≢◌, ◌⊎◌, ◌∙◌, ◌++◌, ◌<◌, List, [], ◌∷◌, refl, sym, ap, subst, inl, inr}
+use Rattle.std.proofs.Common.{◌≡◌, ◌≢◌, ◌⊎◌, ◌∙◌, ◌<◌, List, ◌∷◌, refl, sym, ap, subst, inl, inr}
 use Rattle.rx_base.specs.SortedPaths.{HasSameMembers}
 use Rattle.rx_base.specs.declared.digests.Digest.{Digest}
-use Rattle.rx_action.specs.declared.action_keys.ActionKey.{ActionKey}
+use Rattle.rx_tree.specs.Blobs.{HasNoRepeats}
 use Rattle.rx_world.specs.declared.attempts.End.{End as AnyEnd}
 use Rattle.rx_world.specs.declared.attempts.End.TheVariants as ends
 use Rattle.rx_world.specs.declared.attempts.Origin.{Origin}
@@ -31,13 +31,14 @@ use Rattle.rx_remote.specs.History.{next_of}
 use Rattle.rx_remote.specs.Legal.{Fits}
 use Rattle.rx_remote.specs.Marks.{Turn, phase_of}
 use Rattle.rx_remote.specs.Measure.{turns_left}
-use Rattle.rx_remote.specs.Runs.{EndsBy, EndsEarly, EndsEarlyOr, EndsOr, EndsUnder, HasRun, HasTold, IsEnded, IsRightEnd, IsUnder, blobs_under, dialect_after, dialect_told, key_under, task_of}
+use Rattle.rx_remote.specs.Runs.{EndsEarly, EndsEarlyOr, EndsUnder, HasRun, HasTold, IsEnded, IsRightEnd, IsUnder, blobs_under, dialect_after, dialect_told, key_under, task_of}
 use Rattle.rx_remote.specs.States.{IsStep}
 use Rattle.rx_remote.specs.Turns.{IsLater, IsTurn}
 use Rattle.rx_remote.proofs.CleanEnds.{done-clean}
 use Rattle.rx_remote.proofs.FineEnds.{honest-fine}
 use Rattle.rx_remote.proofs.LeftAsks.{turn-later}
 use Rattle.rx_remote.proofs.MeasureLemmas.{few-faults}
+use Rattle.rx_remote.proofs.OnceLemmas.{some-once}
 use Rattle.rx_remote.proofs.RunLemmas.{next-is, running-ends, running-lowers, running-on}
 use Rattle.rx_remote.proofs.SoundEnds.{done-sound}
 use Rattle.rx_remote.specs.declared.phases.Phase.TheVariants as phases
@@ -123,21 +124,20 @@ memory-run w c work old new end e = record {
   sound = λ outcome origin is. absurd (cc (sym e ∙ is));
 }
 
-same-members : (digests : List Digest) → HasSameMembers digests digests
-same-members digests digest = (λ c. c, λ c. c)
-
 -- an attempt that ended early
 early-run : {C W : Type 0} (w : world.Ghosts W) (c : callers.Ghosts C W) (work : Work) (old new : C) (end : AnyEnd Outcome RemoteCause) →
     EndsEarly w c (task_of work) old new end → HasRun w c work old new end
 early-run w c work old new end h =
     let dialect = dialect_told h.history in
-    let stored = blobs_under work dialect in
+    let some = some-once (blobs_under work dialect) in
+    let stored = some.0 in
     let e = h.ended (key_under work dialect).digest stored in
     record {
       ended = inr (record {
         history = h.history;
         stored = stored;
-        of_action = same-members stored;
+        of_action = some.1;
+        once = some.2;
         legal = e.legal;
         leaves = e.leaves;
         exchanged = e.exchanged;
@@ -157,13 +157,14 @@ early-or w c work old new end (inr h) = early-run w c work old new end h
 
 -- an attempt that ended under the dialect that was told
 under-run : {C W : Type 0} (w : world.Ghosts W) (c : callers.Ghosts C W) (work : Work) (old new : C) (dialect : Dialect) (stored : List Digest)
-    (end : AnyEnd Outcome RemoteCause) → HasSameMembers (blobs_under work dialect) stored → (c.genuine old → dialect ≡ c.dialect old) →
+    (end : AnyEnd Outcome RemoteCause) → HasSameMembers (blobs_under work dialect) stored → HasNoRepeats stored → (c.genuine old → dialect ≡ c.dialect old) →
     EndsUnder w c dialect (key_under work dialect).digest stored (task_of work) old new end → HasRun w c work old new end
-under-run w c work old new dialect stored end members own h = record {
+under-run w c work old new dialect stored end members once own h = record {
   ended = inr (record {
     history = h.history;
     stored = stored;
     of_action = subst (λ (d : Dialect). HasSameMembers (blobs_under work d) stored) (sym h.dialect_is) members;
+    once = once;
     legal = h.ended.legal;
     leaves = h.ended.leaves;
     exchanged = subst (λ (d : Dialect). HasExchanged c old new (Grew (key_under work d).digest stored h.history)) (sym h.dialect_is) h.ended.exchanged;
@@ -176,12 +177,12 @@ under-run w c work old new dialect stored end members own h = record {
 }
 
 pub under-or : {C W : Type 0} (w : world.Ghosts W) (c : callers.Ghosts C W) (work : Work) (old new : C) (dialect : Dialect) (action : Digest) (stored : List Digest)
-    (end : AnyEnd Outcome RemoteCause) → action ≡ (key_under work dialect).digest → HasSameMembers (blobs_under work dialect) stored →
+    (end : AnyEnd Outcome RemoteCause) → action ≡ (key_under work dialect).digest → HasSameMembers (blobs_under work dialect) stored → HasNoRepeats stored →
     (c.genuine old → dialect ≡ c.dialect old) → (end ≡ ends.Failed causes.NoMemory) ⊎ EndsUnder w c dialect action stored (task_of work) old new end →
     HasRun w c work old new end
-under-or w c work old new dialect action stored end is members own (inl e) = memory-run w c work old new end e
-under-or w c work old new dialect action stored end is members own (inr h) =
-    under-run w c work old new dialect stored end members own (subst (λ (a : Digest). EndsUnder w c dialect a stored (task_of work) old new end) is h)
+under-or w c work old new dialect action stored end is members once own (inl e) = memory-run w c work old new end e
+under-or w c work old new dialect action stored end is members once own (inr h) =
+    under-run w c work old new dialect stored end members once own (subst (λ (a : Digest). EndsUnder w c dialect a stored (task_of work) old new end) is h)
 
 -- the dialect that was told is the farm's own
 pub told-own : {C W : Type 0} (w : world.Ghosts W) (c : callers.Ghosts C W) (task : Task) (old now : C) (told : FarmCapabilities) (going : Going) →

@@ -1,5 +1,5 @@
 -- An attempt with a farm's client, from turn to turn and to its end.
-use Rattle.std.proofs.Common.{◌≡◌, ◌≢◌, ◌∙◌, ◌<◌, List, [], ◌∷◌, ◌++◌, refl, sym, subst, inl, arith}
+use Rattle.std.proofs.Common.{◌≡◌, ◌≢◌, ◌∙◌, ◌<◌, List, [], ◌∷◌, refl, sym, subst, inl, arith}
 use Rattle.rx_base.specs.declared.digests.Digest.{Digest}
 use Rattle.rx_world.specs.declared.attempts.End.{End as AnyEnd}
 use Rattle.rx_world.specs.declared.outcomes.Outcome.{Outcome}

@@ -1,6 +1,5 @@
 -- What the stop of an attempt tells, from ask to ask and to the end.
 use Rattle.std.proofs.Common.{◌≡◌, ◌≢◌, ℕ, [], ◌∷◌, List, Option, None, Some, refl, subst, sym}
-use Rattle.rx_base.specs.declared.digests.Digest.{Digest}
 use Rattle.rx_world.specs.declared.attempts.End.{End as AnyEnd}
 use Rattle.rx_world.specs.declared.attempts.End.TheVariants as ends
 use Rattle.rx_world.specs.declared.decisions.Decision.{Decision}

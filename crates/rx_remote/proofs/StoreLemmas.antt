@@ -1,7 +1,6 @@
 -- Uploads and fetches as turns of an attempt.
-use Rattle.std.proofs.Common.{◌≡◌, ◌⊎◌, ◌∙◌, ◌<◌, ℕ, Bool, true, false, List, [], ◌∷◌, ◌++◌, Option, map, refl, sym, ap, subst, inl, inr, arith}
-use Rattle.std.specs.Prelude.{All, Contains, Err, None, Ok, Some}
-use Rattle.std.specs.List.{AllByRecursion}
+use Rattle.std.proofs.Common.{◌≡◌, ◌∙◌, ℕ, Bool, true, false, List, [], ◌∷◌, ◌++◌, Option, map, refl, sym, ap, subst, inl, inr, arith}
+use Rattle.std.specs.Prelude.{All, Contains, None, Ok, Some}
 use Rattle.std.proofs.lemmas.List.Elements.{All-append, All-cons, All-contains, All-contains_itself, All-from_recursion, All-map, All-nil, All-weaker, Contains-append_right}
 use Rattle.rx_base.specs.Digests.{digest_of}
 use Rattle.rx_base.specs.Results.{◌>>=◌}
@@ -24,12 +23,11 @@ use Rattle.rx_blobs.specs.declared.blob_fault.BlobFault.TheVariants as blobs
 use Rattle.rx_blobs.specs.declared.blobs.Blob.{Blob}
 use Rattle.rx_blobs.specs.declared.blobs.Blob.TheVariants.{File, Made}
 use Rattle.rx_blobs.specs.Faults.{IsBadBlob, IsFetchCause}
-use Rattle.rx_blobs.specs.Uploads.{AreMade, HasRead as HasReadBlobs, IsMade, IsReadEnd, IsReadFault, IsReadOf as IsReadOfBlobs, IsUploadCause, digests_of_blobs}
-use Rattle.rx_tree.specs.declared.blobs.Blob.{Blob as Directory}
-use Rattle.rx_remote.specs.declared.asks.Ask.{Ask}
+use Rattle.rx_blobs.specs.Uploads.{AreMade, HasRead as HasReadBlobs, IsMade, IsReadFault, IsReadOf as IsReadOfBlobs, IsUploadCause, digests_of_blobs}
 use Rattle.rx_remote.specs.declared.asks.Ask.TheVariants.{Fetch, Upload}
 use Rattle.rx_remote.specs.declared.asks.Heard.TheVariants.{Uploaded}
-use Rattle.rx_remote.specs.Actions.{AreNamed, Work, all_blobs, directory_blob, file_blob, made_blob}
+use Rattle.rx_remote.proofs.OnceLemmas.{part-member}
+use Rattle.rx_remote.specs.Actions.{AreNamed, AreOnceEach, Work, all_blobs, directory_blob, file_blob, made_blob}
 use Rattle.rx_remote.specs.Legal.{Fits}
 use Rattle.rx_remote.specs.Reading.{BlobsGive, HasRead, IsOwnCause, IsReadOf}
 use Rattle.rx_remote.specs.Runs.{blobs_under}
@@ -184,17 +182,18 @@ pub key-is : (command : Command) (root : Digest) (dialect : Dialect) (key : Acti
 unfolding action_of
 key-is command root dialect key e = key-by (misplaced command.working_directory command.outputs) (key_of command root dialect) key e
 
-pub ready-made : (work : Work) (dialect : Dialect) (key : ActionKey) (all : List Blob) → key ≡ key_of work.command work.root dialect → AreNamed work.directories →
-    all ≡ all_blobs key work → AreMade all
-ready-made work dialect key all is named e blob c =
-    are-made work dialect named blob (subst (λ (bs : List Blob). Contains bs blob) (e ∙ ap (λ (k : ActionKey). all_blobs k work) is) c)
+pub ready-made : (work : Work) (dialect : Dialect) (key : ActionKey) (first : List Blob) → key ≡ key_of work.command work.root dialect → AreNamed work.directories →
+    AreOnceEach (all_blobs key work) first → AreMade first
+ready-made work dialect key first is named o blob c =
+    are-made work dialect named blob
+    (subst (λ (k : ActionKey). Contains (all_blobs k work) blob) is (part-member first (all_blobs key work) blob o.part c))
 
-pub ready-within : (key : ActionKey) (work : Work) (all : List Blob) → all ≡ all_blobs key work → (file : InputFile) → Contains all (File file) → Contains work.files file
-ready-within key work all e file c = are-files key work file (subst (λ (bs : List Blob). Contains bs (File file)) e c)
+pub ready-within : (key : ActionKey) (work : Work) (first : List Blob) → AreOnceEach (all_blobs key work) first →
+    (file : InputFile) → Contains first (File file) → Contains work.files file
+ready-within key work first o file c = are-files key work file (part-member first (all_blobs key work) (File file) o.part c)
 
 -- its blobs have the digests of all of the action's
-pub ready-members : (work : Work) (dialect : Dialect) (key : ActionKey) (all : List Blob) → key ≡ key_of work.command work.root dialect → all ≡ all_blobs key work →
-    HasSameMembers (blobs_under work dialect) (digests_of_blobs all)
-ready-members work dialect key all is e =
-    subst (λ (bs : List Blob). HasSameMembers (blobs_under work dialect) (digests_of_blobs bs)) (sym (e ∙ ap (λ (k : ActionKey). all_blobs k work) is))
-    (λ digest. (λ c. c, λ c. c))
+pub ready-members : (work : Work) (dialect : Dialect) (key : ActionKey) (first : List Blob) → key ≡ key_of work.command work.root dialect →
+    AreOnceEach (all_blobs key work) first → HasSameMembers (blobs_under work dialect) (digests_of_blobs first)
+ready-members work dialect key first is o =
+    subst (λ (k : ActionKey). HasSameMembers (digests_of_blobs (all_blobs k work)) (digests_of_blobs first)) is o.members

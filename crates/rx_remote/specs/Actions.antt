@@ -1,12 +1,15 @@
 -- The blobs that a farm needs for an action.
 use Rattle.std.specs.Prelude.{◌≡◌, ◌++◌, ℕ, Bool, List, ◌∷◌, Contains, map}
 use Rattle.rx_base.specs.Digests.{digest_of}
+use Rattle.rx_base.specs.SortedPaths.{HasSameMembers}
 use Rattle.rx_base.specs.declared.digests.Digest.{Digest}
+use Rattle.rx_exec_messages.specs.Calls.{IsPartOf}
 use Rattle.rx_world.specs.declared.commands.Command.{Command}
 use Rattle.rx_world.specs.declared.input_files.InputFile.{InputFile}
 use Rattle.rx_blobs.specs.declared.blobs.Blob.{Blob}
 use Rattle.rx_blobs.specs.declared.blobs.Blob.TheVariants.{File, Made}
 use Rattle.rx_blobs.specs.Uploads.{AreMade, digests_of_blobs}
+use Rattle.rx_tree.specs.Blobs.{HasNoRepeats}
 use Rattle.rx_tree.specs.declared.blobs.Blob.{Blob as Directory}
 use Rattle.rx_action.specs.declared.action_keys.ActionKey.{ActionKey}
 use Rattle.rx_remote.specs.declared.jobs.Action.{Action}
@@ -33,6 +36,17 @@ abbrev pub all_blobs : ActionKey → Work → List Blob
 all_blobs key work =
     made_blob key.digest key.action_blob ∷ made_blob key.command_digest key.command_blob ∷
     map directory_blob work.directories ++ map file_blob work.files
+
+-- Some of the blobs, in their order: each digest once, and none is left out.
+pub record AreOnceEach (all first : List Blob) : Type 0 where
+  pub part : IsPartOf first all
+  pub members : HasSameMembers (digests_of_blobs all) (digests_of_blobs first)
+  pub once : HasNoRepeats (digests_of_blobs first)
+
+-- the same amid a walk over the blobs: these digests were seen
+pub record AreCollected (all first : List Blob) (seen : List Digest) : Type 0 where
+  pub once_each : AreOnceEach all first
+  pub seen_are : HasSameMembers seen (digests_of_blobs first)
 
 -- each Directory has the digest of its bytes
 abbrev pub AreNamed : List Directory → Type 0

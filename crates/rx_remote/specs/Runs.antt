@@ -1,5 +1,5 @@
 -- A whole remote attempt with a farm's client.
-use Rattle.std.specs.Prelude.{◌≡◌, ◌⊎◌, ◌≤◌, ◌<◌, ◌++◌, ℕ, Bool, length, List, [], ◌∷◌, Option, None, Some}
+use Rattle.std.specs.Prelude.{◌≡◌, ◌⊎◌, ◌≤◌, ◌<◌, length, List, [], ◌∷◌, Option, None, Some}
 use Rattle.rx_base.specs.SortedPaths.{AreSorted, HasSameMembers}
 use Rattle.rx_base.specs.declared.digests.Digest.{Digest}
 use Rattle.rx_world.specs.declared.attempts.End.{End}
@@ -21,9 +21,9 @@ use Rattle.rx_exec_messages.specs.declared.callers.Caller as callers
 use Rattle.rx_exec_messages.specs.Dialects.{dialect_of}
 use Rattle.rx_exec_messages.specs.Exchanged.{HasExchanged}
 use Rattle.rx_blobs.specs.Uploads.{digests_of_blobs}
+use Rattle.rx_tree.specs.Blobs.{HasNoRepeats}
 use Rattle.rx_action.specs.declared.action_keys.ActionKey.{ActionKey}
 use Rattle.rx_action.specs.ActionKeys.{key_of}
-use Rattle.rx_remote.specs.declared.asks.Ask.{Ask}
 use Rattle.rx_remote.specs.declared.asks.Ask.TheVariants.{Capabilities as AskOfFarm, End as Ends}
 use Rattle.rx_remote.specs.declared.asks.Heard.{Heard}
 use Rattle.rx_remote.specs.declared.asks.Heard.TheVariants.{Begun as HasBegunNow, Blobs, Cached, Fault, Fetched, Next, Stopped, Told, Uploaded}
@@ -96,11 +96,12 @@ pub record IsEnded {C W : Type 0} (w : world.Ghosts W) (c : callers.Ghosts C W) 
   pub counted : RoseBy (length (faults_of history)) (c.faults old) (c.faults now)
 
 -- The end is the one that a legal history leaves, by which the client's conversation grew, with the action under the dialect that this
--- history heard and the blobs of that action. The count rose by its faults at least, which are four at most.
+-- history heard and the blobs of that action, each digest once. The count rose by its faults at least, which are four at most.
 pub record EndsBy {C W : Type 0} (c : callers.Ghosts C W) (work : Work) (old new : C) (end : End Outcome RemoteCause) : Type 0 where
   pub history : List Turn
   pub stored : List Digest
   pub of_action : HasSameMembers (blobs_under work (dialect_told history)) stored
+  pub once : HasNoRepeats stored
   pub legal : IsLegal (task_of work) stored history
   pub leaves : next_of (task_of work) history ≡ Ends end
   pub exchanged : HasExchanged c old new (Grew (key_under work (dialect_told history)).digest stored history)

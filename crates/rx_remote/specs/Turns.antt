@@ -1,5 +1,5 @@
 -- One turn with a farm's client: what is asked of it, what is heard, and what holds between two turns.
-use Rattle.std.specs.Prelude.{◌≡◌, ◌≢◌, ◌≤◌, ◌+◌, ◌-◌, ◌^◌, ℕ, false, length, min, List, Option, None}
+use Rattle.std.specs.Prelude.{◌≡◌, ◌≢◌, ◌≤◌, ◌+◌, ◌-◌, ◌^◌, ℕ, false, length, min, List, None}
 use Rattle.rx_base.specs.declared.digests.Digest.{Digest}
 use Rattle.rx_world.specs.declared.call_faults.CallFault.{CallFault}
 use Rattle.rx_world.specs.declared.commands.Command.{Command}

@@ -1,10 +1,11 @@
 //! What a remote attempt is about, and the action that a farm is asked for it.
 
 ghost use Rattle.std.specs.Prelude.{◌≡◌, IfOk, map};
-ghost use Rattle.rx_remote.specs.Actions.{all_blobs, directory_blob, file_blob, made_blob};
+ghost use Rattle.rx_remote.specs.Actions.{AreOnceEach, all_blobs, directory_blob, file_blob, made_blob};
 ghost use Rattle.rx_remote.specs.Runs.{task_of, work_of};
 
 use crate::Task;
+use crate::once_each::once_each;
 use rx_action::ActionKey;
 use rx_base::{Bytes, Digest, NoMemory, TryClone};
 use rx_blobs::{Blob, Presence};
@@ -51,13 +52,15 @@ pub(crate) fn task_of(alloc: Global, job: &RemoteJob<'_>) -> Result<Task, NoMemo
     })
 }
 
-/// The blobs of a job's action: the Action, the Command, the Directories and the files.
+/// The blobs of a job's action, each digest once: the Action, the Command, the Directories and the
+/// files.
 pub(crate) fn blobs_of(
     alloc: Global,
     key: &ActionKey,
     job: &RemoteJob<'_>,
 ) -> Result<Vec<Blob>, NoMemory>
-    ensures { IfOk result (λ blobs. blobs.items ≡ all_blobs key.now (work_of job.now)) }
+    ensures { IfOk result (λ blobs.
+        AreOnceEach (all_blobs key.now (work_of job.now)) blobs.items) }
 {
     let mut blobs = Vec::new(alloc);
     blobs.push(made(alloc, key.digest, &key.action_blob)?)?;
@@ -66,7 +69,7 @@ pub(crate) fn blobs_of(
     blobs.append(&mut directories)?;
     let mut files = file_blobs(alloc, job.files)?;
     blobs.append(&mut files)?;
-    Ok(blobs)
+    once_each(alloc, blobs)
 }
 
 /// A blob of these bytes.

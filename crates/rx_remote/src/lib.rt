@@ -10,6 +10,7 @@ mod begins;
 mod calls;
 mod jobs;
 mod marks;
+mod once_each;
 mod phases;
 mod retries;
 mod runs;

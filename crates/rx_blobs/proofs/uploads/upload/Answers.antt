@@ -23,8 +23,8 @@ loop-keeper-preserved g c =
       fresh = λ f. nothing-both c.loop-keeper.left_out.items c.in-Ok.known (c.loop-keeper.invariant.fresh f) (c.in-Ok.ensures.fresh f);
     })
 
-pub upload_group-requires : goal.upload_group-requires
-upload_group-requires g c =
+pub upload_group-requires-clause-made : goal.upload_group-requires-clause-made
+upload_group-requires-clause-made g c =
     let group = c.split_at.result.0.now in
     let others = c.split_at.result.1.now in
     let whole = split-whole _ c.loop-keeper.rest.now group others c.split_at.ensures.front c.split_at.ensures.back in

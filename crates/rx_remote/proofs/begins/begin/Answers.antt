@@ -1,4 +1,4 @@
-use Rattle.std.proofs.Common.{◌≡◌, ◌<◌, ◌∙◌, refl, subst, sym}
+use Rattle.std.proofs.Common.{◌<◌, ◌∙◌, refl, subst, sym}
 use Rattle.rx_remote.specs.declared.phases.Phase.TheVariants as phases
 use Rattle.rx_remote.specs.declared.states.RemoteState.{RemoteState}
 use Rattle.rx_remote.specs.Measure.{turns_left}

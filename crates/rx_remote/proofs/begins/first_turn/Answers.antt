@@ -1,4 +1,4 @@
-use Rattle.std.proofs.Common.{◌≡◌, ◌≢◌, ◌∙◌, [], Option, inr, subst, sym}
+use Rattle.std.proofs.Common.{◌≢◌, ◌∙◌, [], Option, inr, subst, sym}
 use Rattle.rx_base.specs.Digests.{digest_of}
 use Rattle.rx_exec_messages.specs.declared.answers.Capabilities.{Capabilities as FarmCapabilities}
 use Rattle.rx_remote.specs.declared.asks.Ask.{Ask}

@@ -1,9 +1,10 @@
-use Rattle.std.proofs.Common.{◌≡◌, ◌∙◌, Ok, ap, subst}
+use Rattle.std.proofs.Common.{◌≡◌, Ok, ap, subst, sym}
 use Rattle.rx_action.specs.ActionKeys.{action_of}
 use Rattle.rx_action.specs.declared.action_keys.ActionKey.{ActionKey}
 use Rattle.rx_blobs.specs.Uploads.{digests_of_blobs}
 use Rattle.rx_exec_messages.specs.Dialects.{dialect_of}
 use Rattle.rx_world.specs.declared.versions.Dialect.{Dialect}
+use Rattle.rx_remote.specs.Actions.{AreOnceEach, all_blobs}
 use Rattle.rx_remote.specs.Runs.{task_of, work_of}
 use Rattle.rx_remote.proofs.ReadLemmas.{read-none}
 use Rattle.rx_remote.proofs.RunEnds.{told-own, told-under, under-or}
@@ -30,9 +31,10 @@ run_on-requires-clause-ready g c =
     let dialect = dialect_of told.low told.high in
     let keyed = key-is work.command work.root dialect c.in-Ok.key
     (subst (λ (d : Dialect). action_of work.command work.root d ≡ Ok c.in-Ok.key) c.dialect.ensures c.in-Ok.ensures.key) in
+    let once = subst (AreOnceEach (all_blobs c.in-Ok.key work)) (sym c.deref.ensures.value) c.in-Ok-blobs_of.ensures in
     record {
-      made = ready-made work dialect c.in-Ok.key c.deref.result.now keyed c.requires.named (c.deref.ensures.value ∙ c.in-Ok-blobs_of.ensures);
-      within = ready-within c.in-Ok.key work c.deref.result.now (c.deref.ensures.value ∙ c.in-Ok-blobs_of.ensures);
+      made = ready-made work dialect c.in-Ok.key c.deref.result.now keyed c.requires.named once;
+      within = ready-within c.in-Ok.key work c.deref.result.now once;
     }
 
 pub returns-clause-run : goal.returns-clause-run
@@ -43,8 +45,9 @@ returns-clause-run g c old h =
     let keyed = key-is work.command work.root dialect c.in-Ok.key
     (subst (λ (d : Dialect). action_of work.command work.root d ≡ Ok c.in-Ok.key) c.dialect.ensures c.in-Ok.ensures.key) in
     let stored = digests_of_blobs c.deref.result.now in
+    let once = subst (AreOnceEach (all_blobs c.in-Ok.key work)) (sym c.deref.ensures.value) c.in-Ok-blobs_of.ensures in
     under-or g.W.World g.C.Caller work old c.run_on.new.caller dialect c.in-Ok.key.digest stored c.run_on.result (ap (λ (k : ActionKey). k.digest) keyed)
-    (ready-members work dialect c.in-Ok.key c.deref.result.now keyed (c.deref.ensures.value ∙ c.in-Ok-blobs_of.ensures))
+    (ready-members work dialect c.in-Ok.key c.deref.result.now keyed once) once.once
     (told-own g.W.World g.C.Caller (task_of work) old c.args.caller.now told c.args.begun.going h)
     (c.run_on.ensures.ended dialect (task_of work) old
     (told-under g.W.World g.C.Caller c.in-Ok.key.digest stored (task_of work) old c.args.caller.now told c.args.begun.going h))

@@ -1,4 +1,4 @@
-use Rattle.std.proofs.Common.{◌≡◌, subst}
+use Rattle.std.proofs.Common.{subst}
 use Rattle.rx_remote.specs.declared.tasks.Task.{Task}
 use Rattle.rx_remote.specs.Runs.{EndsEarlyOr, HasTold, work_of}
 use Rattle.rx_remote.proofs.LoopLemmas.{any-then, own-unread}

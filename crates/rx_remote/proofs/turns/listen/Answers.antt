@@ -1,4 +1,4 @@
-use Rattle.std.proofs.Common.{[], None}
+use Rattle.std.proofs.Common.{None}
 use Rattle.rx_remote.specs.declared.asks.Heard.TheVariants.{Stopped}
 use Rattle.rx_remote.specs.Reading.{HeardGives, IsOwnCause}
 use Rattle.rx_remote.specs.Ends.{stop_heard}

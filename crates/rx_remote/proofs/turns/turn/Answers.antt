@@ -1,4 +1,4 @@
-use Rattle.std.proofs.Common.{◌≡◌, ◌≢◌, ◌∙◌, inl, inr, refl, subst, sym}
+use Rattle.std.proofs.Common.{◌≢◌, ◌∙◌, inr, subst, sym}
 use Rattle.rx_remote.specs.declared.asks.Ask.{Ask}
 use Rattle.rx_remote.specs.declared.phases.Phase.TheVariants as phases
 use Rattle.rx_remote.specs.Actions.{stored_of}
