@@ -1,8 +1,8 @@
-//! Calls of one message over links in memory.
+//! Calls over links in memory: of one message, and with streamed answers.
 
 use crate::cuts::write_answer;
 use rx_fakes::{Ahead, MemoryDial, Script};
-use rx_grpc::{Channel, TransferFault};
+use rx_grpc::{Channel, StreamItem, TransferFault};
 use rx_rows::{Answer, Row, RowFault};
 use std::alloc::{AllocError, Global};
 use std::collections::VecDeque;
@@ -69,6 +69,26 @@ fn write_fault(fault: TransferFault, answer: &mut Answer) -> Result<(), AllocErr
     }
 }
 
+/// Writes what a streamed answer shows next.
+fn write_item(item: StreamItem, answer: &mut Answer) -> Result<(), AllocError> {
+    match item {
+        StreamItem::Message(message) => {
+            answer.word("Message")?;
+            answer.bytes(message.as_slice())
+        }
+        StreamItem::Success { cut: true } => answer.word("Success cut"),
+        StreamItem::Success { cut: false } => answer.word("Success"),
+        StreamItem::Status(code) => {
+            answer.word("Status")?;
+            answer.number(code as u64)
+        }
+        StreamItem::Compressed => answer.word("Compressed"),
+        StreamItem::TooLarge => answer.word("TooLarge"),
+        StreamItem::NoStatus => answer.word("NoStatus"),
+        StreamItem::LinkEnd => answer.word("LinkEnd"),
+    }
+}
+
 impl Links {
     pub(crate) fn new(alloc: Global) -> Links {
         Links {
@@ -123,6 +143,36 @@ impl Links {
         };
         match channel.unary(&path, &message) {
             Ok(heard) => Ok(write_answer(Some(heard), answer)?),
+            Err(fault) => Ok(write_fault(fault, answer)?),
+        }
+    }
+
+    /// `begin PATH MESSAGE`.
+    pub(crate) fn begin(&mut self, row: &mut Row<'_>, answer: &mut Answer) -> Result<(), RowFault> {
+        let path = row.text(self.alloc)?;
+        let message = row.bytes(self.alloc)?;
+        if path.len() > u32::MAX as usize || message.len() > u32::MAX as usize {
+            return Err(RowFault::BadCall);
+        }
+        let Some(channel) = &mut self.channel else {
+            return Err(RowFault::BadCall);
+        };
+        match channel.begin(&path, &message) {
+            Ok(()) => Ok(answer.word("ok")?),
+            Err(fault) => Ok(write_fault(fault, answer)?),
+        }
+    }
+
+    /// `item`: the next item of the answer that is open, or `closed` where none is.
+    pub(crate) fn item(&mut self, answer: &mut Answer) -> Result<(), RowFault> {
+        let Some(channel) = &mut self.channel else {
+            return Err(RowFault::BadCall);
+        };
+        if !channel.is_answering() {
+            return Ok(answer.word("closed")?);
+        }
+        match channel.next() {
+            Ok(item) => Ok(write_item(item, answer)?),
             Err(fault) => Ok(write_fault(fault, answer)?),
         }
     }

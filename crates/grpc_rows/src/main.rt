@@ -106,6 +106,8 @@ impl Calls for Grpc {
             b"link" => self.links.link(row, answer),
             b"channel" => self.links.channel(row, answer),
             b"call" => self.links.call(row, answer),
+            b"begin" => self.links.begin(row, answer),
+            b"item" => self.links.item(answer),
             b"sent" => self.links.sent(true, answer),
             b"frames" => self.links.sent(false, answer),
             b"dials" => self.links.dials(answer),

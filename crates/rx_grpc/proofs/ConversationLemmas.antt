@@ -7,9 +7,10 @@ use Rattle.rx_h2conn.specs.Conn.{started}
 use Rattle.rx_world.specs.Links.{Wire, Goes, Meets}
 use Rattle.rx_grpc.specs.declared.call.Call.{Call}
 use Rattle.rx_grpc.specs.Heard.{Heard, nothing, heard}
+use Rattle.rx_grpc.specs.Uses.{front}
 use Rattle.rx_grpc.specs.Moves.{Moves, Exchange, carried, is_for, is_away}
 use Rattle.rx_grpc.specs.Conversation.{Conversation, Tells, CallHears, Drains}
-use Rattle.rx_grpc.proofs.UseLemmas.{heard_append}
+use Rattle.rx_grpc.proofs.UseLemmas.{front_heard, heard_append}
 use Rattle.rx_grpc.proofs.MoveLemmas.{moves_trans}
 use Rattle.rx_grpc.proofs.DrainLemmas.{any_append}
 
@@ -41,6 +42,8 @@ pub hears_exchange : (w n : Option Wire) (r m : List ℕ → List ℕ → Type 0
 unfolding talk_on
 hears_exchange w n r m c d room left call h x meets = record {
   talk = talk_on w n r m c d x.given x.fed [] h.talk x.moves x.carries meets;
+  given = h.given;
+  count = h.count;
   heard_is = h.heard_is ∙ ap (λ (y : List Event). heard nothing (filter (is_for call.id) y)) (sym (append-nil h.talk.handed));
   away_is = h.away_is ∙ ap (list_any is_away) (sym (append-nil h.talk.handed));
 }
@@ -63,6 +66,8 @@ pub hears_moved : (w : Option Wire) (r : List ℕ → List ℕ → Type 0) (c d 
 unfolding talk_moved
 hears_moved w r c d call h moves = record {
   talk = talk_moved w r c d [] h.talk moves;
+  given = h.given;
+  count = h.count;
   heard_is = h.heard_is ∙ ap (λ (y : List Event). heard nothing (filter (is_for call.id) y)) (sym (append-nil h.talk.handed));
   away_is = h.away_is ∙ ap (list_any is_away) (sym (append-nil h.talk.handed));
 }
@@ -73,11 +78,14 @@ hears_drained w r c d a b h is =
     let handed = h.talk.handed in
     record {
       talk = talk_moved w r c d is.out h.talk is.moves;
+      given = h.given;
+      count = h.count ∙ sym is.place;
       heard_is =
-          is.heard_is
+          ap (front h.given) is.heard_is
+          ∙ (sym (front_heard h.given a.answers (filter (is_for a.id) is.out))
           ∙ (ap (λ (x : Heard). heard x (filter (is_for a.id) is.out)) h.heard_is
           ∙ (sym (heard_append nothing (filter (is_for a.id) handed) (filter (is_for a.id) is.out))
           ∙ (ap (heard nothing) (sym (filter-append (is_for a.id) handed is.out))
-          ∙ ap (λ (i : ℕ). heard nothing (filter (is_for i) (handed ++ is.out))) (sym is.id))));
+          ∙ ap (λ (i : ℕ). heard nothing (filter (is_for i) (handed ++ is.out))) (sym is.id)))));
       away_is = is.away_is ∙ (ap (λ (x : Bool). x || list_any is_away is.out) h.away_is ∙ sym (any_append is_away handed is.out));
     }

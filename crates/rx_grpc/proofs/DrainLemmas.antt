@@ -28,7 +28,7 @@ any_append P [] ys = refl
 any_append P (x ∷ xs) ys = ap (λ (b : Bool). P x || b) (any_append P xs ys) ∙ sym (or_again (P x) (list_any P xs) (list_any P ys))
 
 pub drains_none : (old : Reading) (call : Call) → Drains old old call call
-drains_none old call = record { out = []; moves = moves_none old; id = refl; heard_is = refl; away_is = or_nothing call.away; fault = refl; held = λ i over h. h }
+drains_none old call = record { out = []; moves = moves_none old; id = refl; place = refl; heard_is = refl; away_is = or_nothing call.away; fault = refl; held = λ i over h. h }
 
 pub owe-events : (s : Session) (id credit : ℕ) → (owe s id credit).events ≡ s.events
 unfolding owe
@@ -50,13 +50,14 @@ pub drained_less : (now new : Reading) (e : Event) → first now.state.events �
 drained_less now new e some is = subst (λ (x : Reading). length x.state.events < length now.state.events) (sym is) (fewer now.state now.state.events e refl some)
 
 -- one event more
-pub drains_next : (old now new : Reading) (a b d : Call) (e : Event) → Drains old now a b → first now.state.events ≡ Some e → new ≡ after_event now → KeepsHeld now.state new.state → d.id ≡ b.id → d.answers ≡ heard b.answers (filter (is_for b.id) (e ∷ [])) → d.away ≡ (b.away || is_away e) → Drains old new a d
-drains_next old now new a b d e is some after_is held id heard_is away_is =
+pub drains_next : (old now new : Reading) (a b d : Call) (e : Event) → Drains old now a b → first now.state.events ≡ Some e → new ≡ after_event now → KeepsHeld now.state new.state → d.id ≡ b.id → d.place ≡ b.place → d.answers ≡ heard b.answers (filter (is_for b.id) (e ∷ [])) → d.away ≡ (b.away || is_away e) → Drains old new a d
+drains_next old now new a b d e is some after_is held id place heard_is away_is =
     let step : Moves now new [] [] (e ∷ []) = subst (λ (x : Option Event). Moves now new [] [] (as_list x)) some (moves_handed now new after_is) in
     record {
       out = is.out ++ e ∷ [];
       moves = moves_trans old now new [] [] [] [] is.out (e ∷ []) is.moves step;
       id = id ∙ is.id;
+      place = place ∙ is.place;
       heard_is =
           heard_is ∙ (ap (λ (i : ℕ). heard b.answers (filter (is_for i) (e ∷ []))) is.id
           ∙ (ap (λ (x : Heard). heard x (filter (is_for a.id) (e ∷ []))) is.heard_is

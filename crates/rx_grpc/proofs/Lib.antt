@@ -1,5 +1,6 @@
 pub mod ReadLemmas
 pub mod UseLemmas
+pub mod ItemLemmas
 pub mod FramedLemmas
 pub mod HearLemmas
 pub mod WireLemmas
@@ -9,5 +10,5 @@ pub mod ShownLemmas
 pub mod ConversationLemmas
 pub mod TurnLemmas
 pub mod TalkLemmas
+pub mod HandLemmas
 pub mod StreamLemmas
-pub mod ChannelLemmas

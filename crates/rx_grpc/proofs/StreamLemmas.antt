@@ -18,14 +18,14 @@ use Rattle.rx_h2conn.proofs.ConnLemmas.{opened-fault, reset-fault}
 use Rattle.rx_h2conn.proofs.HeardRunLemmas.{hears}
 use Rattle.rx_h2conn.proofs.ListLemmas.{or_false}
 use Rattle.rx_world.specs.Links.{Wire, IsNew, Meets}
-use Rattle.rx_grpc.specs.declared.call.Call.{Call}
+use Rattle.rx_grpc.specs.declared.came.Came.TheVariants.{Piece}
+use Rattle.rx_grpc.specs.declared.open_call.OpenCall.{OpenCall}
 use Rattle.rx_grpc.specs.declared.transfer_fault.TransferFault.{TransferFault}
-use Rattle.rx_grpc.specs.Answer.{unary}
-use Rattle.rx_grpc.specs.Heard.{nothing, heard}
+use Rattle.rx_grpc.specs.Heard.{Heard, nothing, heard}
 use Rattle.rx_grpc.specs.Moves.{Moves, is_away, is_for}
-use Rattle.rx_grpc.specs.Conversation.{IsWaiting, Tells}
-use Rattle.rx_grpc.specs.Shown.{IsKept, IsOpenAt}
-use Rattle.rx_grpc.specs.Transport.{TransportOf, IsStarted, IsReady, GivesUp, OpensStream}
+use Rattle.rx_grpc.specs.Conversation.{IsOpen, Tells}
+use Rattle.rx_grpc.specs.Shown.{IsKept, IsOpenAt, IsOver}
+use Rattle.rx_grpc.specs.Transport.{TransportOf, IsOpenOr, IsStarted, IsReady, GivesUp, OpensStream, opened_of}
 use Rattle.rx_grpc.proofs.MoveLemmas.{moves_none, moves_trans}
 use Rattle.rx_grpc.proofs.ConversationLemmas.{talk_moved, meets_rule}
 use Rattle.rx_grpc.proofs.TurnLemmas.{unless_none}
@@ -155,20 +155,27 @@ starts wire rule ended old new n k o = record {
   stays = ap (list_any is_away) (append-nil k.talk.handed) ∙ k.stays;
 }
 
--- and its call waits
-pub waits : (wire : Option Wire) (rule : List ℕ → List ℕ → Type 0) (ended : Bool) (conn : Reading) (call : Call) (id : ℕ) → IsStarted wire rule ended conn id → call.id ≡ id → call.answers ≡ nothing → call.away ≡ false → IsWaiting wire rule ended conn call false
-waits wire rule ended conn call id s same new going = record {
-  fault = s.fault;
-  empty = s.empty;
-  going = s.going;
-  held = subst (λ (i : ℕ). IsHeld conn.state i false) (sym same) s.held;
-  met = s.met;
-  none = ap (unary false) new;
+-- and its call is open
+pub waits : (wire : Option Wire) (rule : List ℕ → List ℕ → Type 0) (ended : Bool) (conn : Reading) (o : OpenCall) (id : ℕ) → IsStarted wire rule ended conn id → o.call.id ≡ id → o.call.answers ≡ nothing → o.call.place ≡ 0 → o.call.away ≡ false → o.request.done ≡ false → o.came ≡ Piece → IsOpen wire rule ended conn o
+waits wire rule ended conn o id s same new place going left came = record {
   hears = record {
     talk = s.talk;
+    given = [];
+    count = sym place;
     heard_is = new ∙ ap (heard nothing) (sym (ap (λ (i : ℕ). filter (is_for i) s.talk.handed) same ∙ s.silent));
     away_is = going ∙ sym s.stays;
   };
+  held = rw (same, left) s.held;
+  empty = s.empty;
+  met = s.met;
+  came = rw came (s.going, s.fault);
+}
+
+-- a stream that was opened can be given up
+pub ready_started : (wire : Option Wire) (rule : List ℕ → List ℕ → Type 0) (ended : Bool) (conn : Reading) (id : ℕ) → IsStarted wire rule ended conn id → IsReady wire rule ended conn (Some id)
+ready_started wire rule ended conn id s = record {
+  kept = record { fault = s.fault; empty = s.empty; going = s.going; met = s.met; talk = s.talk; stays = s.stays };
+  left = (s.held.opened, s.held.kept);
 }
 
 -- a new link
@@ -208,3 +215,16 @@ started_in wire rule ended t u id is s = subst (λ x. IsStarted (wire x.link) (r
 pub open_left : (o : Option ℕ) (id : ℕ) (s : Session) → IfSome o (λ i. i ≡ id) → IsOpenAt (Some id) s → IsOpenAt o s
 open_left None id s is h = tt
 open_left (Some i) id s is h = subst (λ (x : ℕ). IsOpenAt (Some x) s) (sym is) h
+
+-- so the connection can take another call, where it serves still
+pub ready_over : {A : Type 0} (look : Bool → Heard → Option A) (wire : Option Wire) (rule : List ℕ → List ℕ → Type 0) (ended : Bool) (conn : Reading) (id : ℕ) (alive kept : Bool) (x : A) (left : Option ℕ) → IsOver look wire rule ended conn id alive x → kept ≡ alive → kept ≡ true → IfSome left (λ i. i ≡ id) → IsReady wire rule ended conn left
+ready_over look wire rule ended conn id alive kept x left over same lives is = record { kept = over.kept (sym same ∙ lives); left = open_left left id conn.state is over.opened }
+
+pub left_at : (left : Option ℕ) (id first : ℕ) → IfSome left (λ i. i ≡ id) → id ≡ first → IfSome left (λ i. i ≡ first)
+left_at None id first is same = tt
+left_at (Some i) id first is same = is ∙ same
+
+-- no answer is open
+pub none_open : (wire : Option Wire) (rule : List ℕ → List ℕ → Type 0) (ended : Bool) (conn : Reading) (o : Option OpenCall) → opened_of o ≡ None → IsOpenOr wire rule ended conn o
+none_open wire rule ended conn None is = tt
+none_open wire rule ended conn (Some o) is = absurd cc

@@ -1,67 +1,120 @@
 -- Turns of a call, one after another.
-use Rattle.std.proofs.Common.{◌≡◌, ◌≤◌, ℕ, Bool, false, List, [], ◌++◌, refl, sym, ap, ◌∙◌, arith, length-append, Option, None, Some}
-use Rattle.rx_h2conn.specs.declared.fault.ConnFault.TheVariants.{NoMemory}
+use Rattle.std.proofs.Common.{◌≡◌, ◌⊎◌, ◌≤◌, ℕ, Bool, true, false, List, [], ◌++◌, refl, sym, ap, subst, ◌∙◌, arith, inl, inr, length-append, Option, None, Some, Result, Ok, Err, IfOk, IfErr}
 use Rattle.rx_h2conn.specs.Session.{Reading}
 use Rattle.rx_world.specs.Links.{Wire, SameRule}
-use Rattle.rx_grpc.specs.declared.call.Call.{Call}
-use Rattle.rx_grpc.specs.Answer.{unary}
-use Rattle.rx_grpc.specs.Heard.{heard, nothing}
-use Rattle.rx_grpc.specs.Uses.{events_at}
+use Rattle.rx_grpc.specs.declared.came.Came.{Came}
+use Rattle.rx_grpc.specs.declared.came.Came.TheVariants.{End, Piece, Broken}
+use Rattle.rx_grpc.specs.declared.open_call.OpenCall.{OpenCall}
+use Rattle.rx_grpc.specs.declared.transfer_fault.TransferFault.{TransferFault}
+use Rattle.rx_grpc.specs.declared.transfer_fault.TransferFault.TheVariants.{Link, Protocol, NoMemory}
+use Rattle.rx_grpc.specs.Came.{judged, is_end, is_piece}
+use Rattle.rx_grpc.specs.Heard.{Heard}
 use Rattle.rx_grpc.specs.Moves.{Carries}
-use Rattle.rx_grpc.specs.Conversation.{IsWaiting}
-use Rattle.rx_grpc.specs.Shown.{Fills, shown}
+use Rattle.rx_grpc.specs.Conversation.{IsOpen, alive_of}
+use Rattle.rx_grpc.specs.Faults.{FaultIs}
+use Rattle.rx_grpc.specs.Shown.{Breaks, Fills, IsOver}
 use Rattle.rx_grpc.proofs.WireLemmas.{goes_none, goes_trans}
-use Rattle.rx_grpc.proofs.ShownLemmas.{IsHeardAt, heard_lawful, lawful_all}
+use Rattle.rx_grpc.proofs.ShownLemmas.{fills_by}
+use Rattle.rx_grpc.proofs.ItemLemmas.{IsLook}
+use Rattle.rx_grpc.proofs.TurnLemmas.{IsLike, open_like, came_piece, open_at, open_breaks, open_over}
 
--- what is kept from turn to turn
-pub record IsTalking (w0 w : Option Wire) (r0 r : List ℕ → List ℕ → Type 0) (ended : Bool) (conn : Reading) (call : Call) (done : Bool) (id k0 k room : ℕ) : Type 0 where
-  pub waiting : IsWaiting w r ended conn call done
-  pub carries : Carries w0 w 268435456 room
-  pub same : call.id ≡ id
+pub carries_none : (w : Option Wire) (room : ℕ) → Carries w w room room
+carries_none w room = record { given = []; fed = []; carries = goes_none w; count = omega arith }
+
+pub carries_trans : (a b c : Option Wire) (room mid left : ℕ) → Carries a b room mid → Carries b c mid left → Carries a c room left
+carries_trans a b c room mid left x y = record {
+  given = x.given ++ y.given;
+  fed = x.fed ++ y.fed;
+  carries = goes_trans a b c x.given x.fed y.given y.fed x.carries y.carries;
+  count = let sum = length-append x.fed y.fed in omega (arith, sum, x.count, y.count);
+}
+
+-- what is kept from turn to turn: view shows nothing yet
+pub record IsTalking {A : Type 0} (view : Bool → Heard → Option A) (w0 w : Option Wire) (r0 r : List ℕ → List ℕ → Type 0) (ended : Bool) (conn : Reading) (first o : OpenCall) (k0 k : ℕ) : Type 0 where
+  pub waits : IsOpen w r ended conn o
+  pub piece : is_piece o.came ≡ true
+  pub none : view false o.call.answers ≡ None
+  pub carries : Carries w0 w first.room o.room
+  pub same : o.call.id ≡ first.call.id
+  pub place_is : o.call.place ≡ first.call.place
   pub rule : SameRule r0 r
   pub later : k0 ≤ k
 
-pub talking_starts : (w : Option Wire) (r : List ℕ → List ℕ → Type 0) (ended : Bool) (conn : Reading) (call : Call) (done : Bool) (k : ℕ) → IsWaiting w r ended conn call done → IsTalking w w r r ended conn call done call.id k k 268435456
-talking_starts w r ended conn call done k waiting = record {
-  waiting = waiting;
-  carries = record { given = []; fed = []; carries = goes_none w; count = refl };
+pub talking_starts : {A : Type 0} (view : Bool → Heard → Option A) (w : Option Wire) (r : List ℕ → List ℕ → Type 0) (ended : Bool) (conn : Reading) (o : OpenCall) (k : ℕ) → IsOpen w r ended conn o → is_piece o.came ≡ true → view false o.call.answers ≡ None → IsTalking view w w r r ended conn o o k k
+talking_starts view w r ended conn o k waits piece none = record {
+  waits = waits;
+  piece = piece;
+  none = none;
+  carries = carries_none w o.room;
   same = refl;
+  place_is = refl;
   rule = λ s t. ((λ x. x), (λ x. x));
   later = omega arith;
 }
 
-pub talking_goes_on : (w0 w n : Option Wire) (r0 r m : List ℕ → List ℕ → Type 0) (ended still : Bool) (conn next : Reading) (call now : Call) (done all : Bool) (id k0 k j room left : ℕ) → IsTalking w0 w r0 r ended conn call done id k0 k room → IsWaiting n m still next now all → Carries w n room left → now.id ≡ call.id → SameRule r m → k ≤ j → IsTalking w0 n r0 m still next now all id k0 j left
-talking_goes_on w0 w n r0 r m ended still conn next call now done all id k0 k j room left t waiting x same rule later = record {
-  waiting = waiting;
-  carries = record {
-    given = t.carries.given ++ x.given;
-    fed = t.carries.fed ++ x.fed;
-    carries = goes_trans w0 w n t.carries.given t.carries.fed x.given x.fed t.carries.carries x.carries;
-    count = let sum = length-append t.carries.fed x.fed in omega (arith, sum, t.carries.count, x.count);
-  };
+-- nothing was shown, and no rule was broken: more may come
+pub judged_on : {A : Type 0} (view : Bool → Heard → Option A) (h : Heard) (came : Came) (o : Option A) → (view true h ≡ None → ⊥) → o ≡ view (is_end came) h → judged o came ≡ None → (is_piece came ≡ true) × (view false h ≡ None)
+judged_on view h came (Some x) total is j = absurd cc
+judged_on view h End None total is j = absurd (total (sym is))
+judged_on view h Piece None total is j = (refl, sym is)
+judged_on view h (Broken code) None total is j = absurd cc
+
+pub judged_none : {A : Type 0} (o : Option A) (came : Came) → judged o came ≡ None → o ≡ None
+judged_none (Some x) came j = absurd cc
+judged_none None came j = refl
+
+pub judged_some : {A : Type 0} (o : Option A) (came : Came) (x : A) → judged o came ≡ Some (Ok x) → o ≡ Some x
+judged_some (Some y) came x j = cc
+judged_some None End x j = absurd cc
+judged_some None Piece x j = absurd cc
+judged_some None (Broken code) x j = absurd cc
+
+pub talking_goes_on : {A : Type 0} (view : Bool → Heard → Option A) (w0 w n : Option Wire) (r0 r m : List ℕ → List ℕ → Type 0) (ended still : Bool) (conn next : Reading) (first o now : OpenCall) (k0 k j : ℕ) → IsTalking view w0 w r0 r ended conn first o k0 k → IsOpen n m still next now → is_piece now.came ≡ true → view false now.call.answers ≡ None → Carries w n o.room now.room → now.call.id ≡ o.call.id → now.call.place ≡ o.call.place → SameRule r m → k ≤ j → IsTalking view w0 n r0 m still next first now k0 j
+talking_goes_on view w0 w n r0 r m ended still conn next first o now k0 k j t waits piece none x same place rule later = record {
+  waits = waits;
+  piece = piece;
+  none = none;
+  carries = carries_trans w0 w n first.room o.room now.room t.carries x;
   same = same ∙ t.same;
+  place_is = place ∙ t.place_is;
   rule = λ s y. ((λ p. (rule s y).0 ((t.rule s y).0 p)), (λ p. (t.rule s y).1 ((rule s y).1 p)));
   later = omega (arith, t.later, later);
 }
 
+-- the same with a reader that handed nothing out
+pub talking_judged : {A : Type 0} (look view : Bool → Heard → Option A) (place : ℕ) (w0 w n : Option Wire) (r0 r m : List ℕ → List ℕ → Type 0) (ended still : Bool) (conn next : Reading) (first o mid now : OpenCall) (shown : Option A) (k0 k j : ℕ) → IsLook look view place → IsTalking view w0 w r0 r ended conn first o k0 k → IsOpen n m still next mid → shown ≡ view (is_end mid.came) mid.call.answers → judged shown mid.came ≡ None → (shown ≡ None → IsLike mid now) → Carries w n o.room mid.room → mid.call.id ≡ o.call.id → mid.call.place ≡ o.call.place → SameRule r m → k ≤ j → IsTalking view w0 n r0 m still next first now k0 j
+talking_judged look view place w0 w n r0 r m ended still conn next first o mid now shown k0 k j l t waits is none alike x same place_is rule later =
+    let on = judged_on view mid.call.answers mid.came shown (l.total mid.call.answers) is none in
+    let like = alike (judged_none shown mid.came none) in
+    talking_goes_on view w0 w n r0 r m ended still conn next first o now k0 k j t (open_like n m still next mid now waits like) (ap is_piece like.came ∙ on.0) (ap (view false) like.answers ∙ on.1) (subst (λ (k : ℕ). Carries w n o.room k) (sym like.room) x) (like.id ∙ same) (like.place ∙ place_is) rule later
+
+-- an answer is shown
+pub judged_over : {A : Type 0} (look view : Bool → Heard → Option A) (place : ℕ) (w : Option Wire) (r : List ℕ → List ℕ → Type 0) (ended : Bool) (conn : Reading) (o : OpenCall) (shown : Option A) (done : Result A TransferFault) (id : ℕ) → IsLook look view place → IsOpen w r ended conn o → o.call.place ≡ place → o.call.id ≡ id → shown ≡ view (is_end o.came) o.call.answers → judged shown o.came ≡ Some done → IfOk done (IsOver look w r ended conn id (alive_of o))
+judged_over look view place w r ended conn o shown (Err fault) id l t at same is j = tt
+judged_over look view place w r ended conn o shown (Ok x) id l t at same is j =
+    let over = open_over look view w r ended conn o x (subst (λ (n : ℕ). IsLook look view n) (sym at) l) t (sym is ∙ judged_some shown o.came x j) in
+    subst (λ (i : ℕ). IsOver look w r ended conn i (alive_of o) x) same over
+
+-- or a rule was broken
+pub breaks_first : {A : Type 0} (look view : Bool → Heard → Option A) (w : Option Wire) (r : List ℕ → List ℕ → Type 0) (ended : Bool) (conn : Reading) (o : OpenCall) (shown : Option A) (code : ℕ) (came : Came) → IsLook look view o.call.place → IsOpen w r ended conn o → o.came ≡ came → shown ≡ view (is_end o.came) o.call.answers → judged shown came ≡ Some (Err (Protocol code)) → Breaks look w r conn o.call.id code
+breaks_first look view w r ended conn o (Some x) code came l t came_is is j = absurd cc
+breaks_first look view w r ended conn o None code End l t came_is is j = absurd cc
+breaks_first look view w r ended conn o None code Piece l t came_is is j = absurd cc
+breaks_first look view w r ended conn o None code (Broken n) l t came_is is j =
+    let code_is : n ≡ code = cc in
+    open_breaks look view w r ended conn o code l t (came_is ∙ ap (λ (k : ℕ). Broken k) code_is) (sym is)
+
+pub judged_breaks : {A : Type 0} (look view : Bool → Heard → Option A) (place room : ℕ) (w0 w : Option Wire) (r : List ℕ → List ℕ → Type 0) (ended : Bool) (conn : Reading) (o : OpenCall) (shown : Option A) (done : Result A TransferFault) (id : ℕ) → IsLook look view place → IsOpen w r ended conn o → o.call.place ≡ place → o.call.id ≡ id → shown ≡ view (is_end o.came) o.call.answers → judged shown o.came ≡ Some done → IfErr done (λ fault. FaultIs look room fault w0 w r conn id)
+judged_breaks look view place room w0 w r ended conn o shown (Ok x) id l t at same is j = tt
+judged_breaks look view place room w0 w r ended conn o shown (Err Link) id l t at same is j = tt
+judged_breaks look view place room w0 w r ended conn o shown (Err NoMemory) id l t at same is j = tt
+judged_breaks look view place room w0 w r ended conn o shown (Err (Protocol code)) id l t at same is j =
+    let breaks = breaks_first look view w r ended conn o shown code o.came (subst (λ (n : ℕ). IsLook look view n) (sym at) l) t refl is j in
+    inl (subst (λ (i : ℕ). Breaks look w r conn i code) same breaks)
+
 -- no room is left
-pub talking_fills : (w0 w : Option Wire) (r0 r : List ℕ → List ℕ → Type 0) (ended : Bool) (conn : Reading) (call : Call) (done : Bool) (id k0 k room : ℕ) → IsTalking w0 w r0 r ended conn call done id k0 k room → room ≡ 0 → Fills w0 w r conn id
-talking_fills w0 w r0 r ended conn call done id k0 k room t none =
-    let waiting = t.waiting in
-    let at : IsHeardAt w r conn call = record {
-      hears = waiting.hears;
-      opened = waiting.held.opened;
-      kept = waiting.held.kept;
-      empty = waiting.empty;
-      memory = λ bad. let no : None ≡ Some NoMemory = sym waiting.fault ∙ bad in cc;
-    } in
-    let heard_is = heard_lawful w r conn call at ∙ ap (λ (x : List ℕ). heard nothing (events_at call.id x)) (lawful_all w r conn call at waiting.fault) in
-    record {
-      given = t.carries.given;
-      fed = t.carries.fed;
-      carries = t.carries.carries;
-      count = omega (arith, t.carries.count, none);
-      talk = waiting.hears.talk;
-      fault = waiting.fault;
-      none = ap (λ (i : ℕ). shown false i waiting.hears.talk.received) (sym t.same) ∙ (ap (unary false) (sym heard_is) ∙ waiting.none);
-    }
+pub talking_fills : {A : Type 0} (look view : Bool → Heard → Option A) (place : ℕ) (w0 w : Option Wire) (r0 r : List ℕ → List ℕ → Type 0) (ended : Bool) (conn : Reading) (first o : OpenCall) (k0 k : ℕ) → IsLook look view place → first.call.place ≡ place → IsTalking view w0 w r0 r ended conn first o k0 k → o.room ≡ 0 → Fills look first.room w0 w r conn first.call.id
+talking_fills look view place w0 w r0 r ended conn first o k0 k l at t none =
+    let waits = t.waits in
+    let filled = fills_by look view w0 w r conn o.call first.room (subst (λ (n : ℕ). IsLook look view n) (sym (t.place_is ∙ at)) l) (open_at w r ended conn o waits) (came_piece o.came false ended conn t.piece waits.came).1 (subst (λ (n : ℕ). Carries w0 w first.room n) none t.carries) t.none in
+    subst (λ (i : ℕ). Fills look first.room w0 w r conn i) t.same filled

@@ -1,5 +1,5 @@
 -- One turn of a call.
-use Rattle.std.proofs.Common.{◌≡◌, ℕ, Bool, true, false, ◌&&◌, not, List, [], ◌∷◌, ◌++◌, refl, sym, ap, subst, ◌∙◌, arith, Option, None, Some, Ok, is_none, length-append}
+use Rattle.std.proofs.Common.{◌≡◌, ℕ, Bool, true, false, ◌&&◌, not, List, [], ◌∷◌, ◌++◌, filter, refl, sym, ap, subst, ◌∙◌, arith, Option, None, Some, Ok, is_none, length-append}
 use Rattle.rx_h2conn.specs.declared.fault.ConnFault.{ConnFault}
 use Rattle.rx_h2conn.specs.declared.fault.ConnFault.TheVariants.{NoMemory, Protocol}
 use Rattle.rx_h2conn.specs.Session.{Session, Reading}
@@ -9,18 +9,19 @@ use Rattle.rx_h2conn.specs.History.{Sends, unless}
 use Rattle.rx_h2conn.proofs.ConnLemmas.{sent-fault}
 use Rattle.rx_h2conn.proofs.ListLemmas.{and_true, not_true}
 use Rattle.rx_world.specs.Links.{Wire, Meets}
-use Rattle.rx_grpc.specs.declared.answer.Answer.{Answer}
-use Rattle.rx_grpc.specs.declared.call.Call.{Call}
+use Rattle.rx_grpc.specs.declared.open_call.OpenCall.{OpenCall}
 use Rattle.rx_grpc.specs.declared.came.Came.{Came}
 use Rattle.rx_grpc.specs.declared.came.Came.TheVariants.{End, Piece, Broken}
-use Rattle.rx_grpc.specs.Answer.{unary}
+use Rattle.rx_grpc.specs.Heard.{Heard, heard, nothing}
+use Rattle.rx_grpc.specs.Uses.{front}
 use Rattle.rx_grpc.specs.Came.{CameBy, is_end, is_piece}
-use Rattle.rx_grpc.specs.Moves.{Moves, Exchange, Carries}
-use Rattle.rx_grpc.specs.Conversation.{CallHears, IsWaiting, Drains}
-use Rattle.rx_grpc.specs.Shown.{Breaks, IsOver}
+use Rattle.rx_grpc.specs.Moves.{Moves, Exchange, Carries, is_for}
+use Rattle.rx_grpc.specs.Conversation.{IsOpen, Drains, alive_of}
+use Rattle.rx_grpc.specs.Shown.{Breaks, IsKept, IsOver}
 use Rattle.rx_grpc.proofs.WireLemmas.{goes_trans}
 use Rattle.rx_grpc.proofs.ConversationLemmas.{hears_exchange, hears_moved, hears_drained}
 use Rattle.rx_grpc.proofs.ShownLemmas.{IsHeardAt, shows_by, breaks_by}
+use Rattle.rx_grpc.proofs.ItemLemmas.{IsLook}
 
 -- a part of the request was taken
 pub unless_none : (o : Option ConnFault) (s x : Session) → o ≡ None → unless o s x ≡ x
@@ -74,93 +75,100 @@ came_broken End code before ended c e is = absurd cc
 came_broken Piece code before ended c e is = absurd cc
 came_broken (Broken n) code before ended c e is = let same : n ≡ code = cc in (is ∙ ap (λ (x : ℕ). Some (Protocol x)) same, refl)
 
-pub came_alive : (came : Came) (before ended : Bool) (c : Reading) (away : Bool) → before ≡ false → CameBy came before ended c → (is_piece came && not away) ≡ (is_none c.state.fault && (not ended && not away))
-came_alive End before ended c away going is = rw (is.0, is.1) refl
-came_alive Piece before ended c away going is = rw (is.0, is.1, going) refl
-came_alive (Broken code) before ended c away going is = rw is refl
+pub came_alive : (came : Came) (ended : Bool) (c : Reading) (away : Bool) → CameBy came false ended c → (is_piece came && not away) ≡ (is_none c.state.fault && (not ended && not away))
+came_alive End ended c away is = rw (is.0, is.1) refl
+came_alive Piece ended c away is = rw (is.0, is.1) refl
+came_alive (Broken code) ended c away is = rw is refl
 
--- the state after a turn
-pub record Turned (wire : Option Wire) (rule : List ℕ → List ℕ → Type 0) (came : Came) (before ended : Bool) (conn : Reading) (call : Call) (done : Bool) : Type 0 where
-  pub hears : CallHears wire rule conn call
-  pub held : IsHeld conn.state call.id done
-  pub empty : conn.state.events ≡ []
-  pub met : Meets wire rule
-  pub came_is : CameBy came before ended conn
-  pub going : before ≡ false
+pub came_same : (came : Came) (before ended : Bool) (c d : Reading) → before ≡ false → d.state.fault ≡ c.state.fault → CameBy came before ended c → CameBy came false ended d
+came_same End before ended c d going same is = (is.0, same ∙ is.1)
+came_same Piece before ended c d going same is = (is.0 ∙ going, same ∙ is.1)
+came_same (Broken code) before ended c d going same is = same ∙ is
 
-pub came_same : (came : Came) (before ended : Bool) (c d : Reading) → d.state.fault ≡ c.state.fault → CameBy came before ended c → CameBy came before ended d
-came_same End before ended c d same is = (is.0, same ∙ is.1)
-came_same Piece before ended c d same is = (is.0, same ∙ is.1)
-came_same (Broken code) before ended c d same is = same ∙ is
-
+-- a turn leaves a call open
 pub turned :
-    (w0 w1 w2 : Option Wire) (r0 r1 r2 : List ℕ → List ℕ → Type 0) (e0 e1 e2 : Bool) (c0 c1 c2 c3 c4 : Reading) (a b : Call) (before done : Bool) (room left : ℕ) (came : Came)
-    → IsWaiting w0 r0 e0 c0 a before → Moves c0 c1 [] [] [] → IsHeld c1.state a.id done
+    (w0 w1 w2 : Option Wire) (r0 r1 r2 : List ℕ → List ℕ → Type 0) (e0 e1 e2 : Bool) (c0 c1 c2 c3 c4 : Reading) (o n : OpenCall) (came : Came) (room left : ℕ)
+    → IsOpen w0 r0 e0 c0 o → is_piece o.came ≡ true → Moves c0 c1 [] [] [] → IsHeld c1.state o.call.id n.request.done
     → Exchange w0 w1 c1 c2 0 0 → (Meets w0 r0 → Meets w1 r1) → KeepsHeld c1.state c2.state → e1 ≡ e0
     → Exchange w1 w2 c2 c3 room left → Meets w2 r2 → KeepsHeld c2.state c3.state → CameBy came e1 e2 c3
-    → Drains c3 c4 a b → c4.state.events ≡ [] → Turned w2 r2 came e1 e2 c4 b done
-turned w0 w1 w2 r0 r1 r2 e0 e1 e2 c0 c1 c2 c3 c4 a b before done room left came t m h x m1 h1 same y m2 h2 is d empty =
-    let pushed = hears_moved w0 r0 c0 c1 a t.hears m in
-    let flushed = hears_exchange w0 w1 r0 r1 c1 c2 0 0 a pushed x (m1 t.met) in
-    let fed = hears_exchange w1 w2 r1 r2 c2 c3 room left a flushed y m2 in
-    let held = d.held a.id done (h2 a.id done (h1 a.id done h)) in
+    → Drains c3 c4 o.call n.call → c4.state.events ≡ [] → n.came ≡ came → IsOpen w2 r2 e2 c4 n
+turned w0 w1 w2 r0 r1 r2 e0 e1 e2 c0 c1 c2 c3 c4 o n came room left t piece m h x m1 h1 same y m2 h2 is d empty came_is =
+    let pushed = hears_moved w0 r0 c0 c1 o.call t.hears m in
+    let flushed = hears_exchange w0 w1 r0 r1 c1 c2 0 0 o.call pushed x (m1 t.met) in
+    let fed = hears_exchange w1 w2 r1 r2 c2 c3 room left o.call flushed y m2 in
+    let held = d.held o.call.id n.request.done (h2 o.call.id n.request.done (h1 o.call.id n.request.done h)) in
+    let going = same ∙ (came_piece o.came false e0 c0 piece t.came).0 in
     record {
-      hears = hears_drained w2 r2 c3 c4 a b fed d;
-      held = subst (λ (i : ℕ). IsHeld c4.state i done) (sym d.id) held;
+      hears = hears_drained w2 r2 c3 c4 o.call n.call fed d;
+      held = subst (λ (i : ℕ). IsHeld c4.state i n.request.done) (sym d.id) held;
       empty = empty;
       met = m2;
-      came_is = came_same came e1 e2 c3 c4 d.fault is;
-      going = same ∙ t.going;
+      came = subst (λ (k : Came). CameBy k false e2 c4) (sym came_is) (came_same came e1 e2 c3 c4 going d.fault is);
     }
 
-pub turned_at : (w : Option Wire) (r : List ℕ → List ℕ → Type 0) (came : Came) (before ended : Bool) (conn : Reading) (call : Call) (done : Bool) → Turned w r came before ended conn call done → IsHeardAt w r conn call
-turned_at w r came before ended conn call done t = record {
+pub open_at : (w : Option Wire) (r : List ℕ → List ℕ → Type 0) (ended : Bool) (conn : Reading) (o : OpenCall) → IsOpen w r ended conn o → IsHeardAt w r conn o.call
+open_at w r ended conn o t = record {
   hears = t.hears;
   opened = t.held.opened;
   kept = t.held.kept;
   empty = t.empty;
-  memory = came_no_want came before ended conn t.came_is;
+  memory = came_no_want o.came false ended conn t.came;
 }
 
--- the call is over
-pub turned_over : (w : Option Wire) (r : List ℕ → List ℕ → Type 0) (came : Came) (before ended : Bool) (conn : Reading) (call : Call) (done alive : Bool) (x : Answer) → Turned w r came before ended conn call done → unary (is_end came) call.answers ≡ Some x → alive ≡ (is_piece came && not call.away) → IsOver w r ended conn call.id (record { answer = x; alive = alive })
-unfolding turned_at shows_by
-turned_over w r came before ended conn call done alive x t shows alive_is = record {
-  shows = shows_by w r conn call ended (is_end came) x (turned_at w r came before ended conn call done t) (came_end came before ended conn t.came_is) shows;
-  kept = λ yes.
-      let both = and_true (is_piece came) (not call.away) (sym alive_is ∙ yes) in
-      let stands = came_piece came before ended conn both.0 t.came_is in
-      record {
-        fault = stands.1;
-        empty = t.empty;
-        going = stands.0 ∙ t.going;
-        met = t.met;
-        talk = t.hears.talk;
-        stays = sym t.hears.away_is ∙ not_true call.away both.1;
-      };
-  opened = (t.held.opened, t.held.kept);
-  alive = alive_is ∙ (came_alive came before ended conn call.away t.going t.came_is ∙ ap (λ (b : Bool). is_none conn.state.fault && (not ended && not b)) t.hears.away_is);
+-- a call that differs in nothing that counts
+pub record IsLike (o n : OpenCall) : Type 0 where
+  pub id : n.call.id ≡ o.call.id
+  pub answers : n.call.answers ≡ o.call.answers
+  pub place : n.call.place ≡ o.call.place
+  pub away : n.call.away ≡ o.call.away
+  pub done : n.request.done ≡ o.request.done
+  pub room : n.room ≡ o.room
+  pub came : n.came ≡ o.came
+
+pub open_like : (w : Option Wire) (r : List ℕ → List ℕ → Type 0) (ended : Bool) (conn : Reading) (o n : OpenCall) → IsOpen w r ended conn o → IsLike o n → IsOpen w r ended conn n
+open_like w r ended conn o n t like = record {
+  hears = record {
+    talk = t.hears.talk;
+    given = t.hears.given;
+    count = t.hears.count ∙ sym like.place;
+    heard_is = ap (front t.hears.given) like.answers ∙ (t.hears.heard_is ∙ ap (λ (i : ℕ). heard nothing (filter (is_for i) t.hears.talk.handed)) (sym like.id));
+    away_is = like.away ∙ t.hears.away_is;
+  };
+  held = rw (like.id, like.done) t.held;
+  empty = t.empty;
+  met = t.met;
+  came = rw like.came t.came;
 }
 
--- a rule was broken before an answer was shown
-pub turned_breaks : (w : Option Wire) (r : List ℕ → List ℕ → Type 0) (came : Came) (before ended : Bool) (conn : Reading) (call : Call) (done : Bool) (code : ℕ) → Turned w r came before ended conn call done → came ≡ Broken code → unary (is_end came) call.answers ≡ None → Breaks w r conn call.id code
-turned_breaks w r came before ended conn call done code t broken none =
-    let both = came_broken came code before ended conn broken t.came_is in
-    breaks_by w r conn call code (turned_at w r came before ended conn call done t) both.0 (ap (λ (x : Bool). unary x call.answers) (sym both.1) ∙ none)
-
--- the call goes on
-pub turned_on : (w : Option Wire) (r : List ℕ → List ℕ → Type 0) (came : Came) (before ended : Bool) (conn : Reading) (call next : Call) (done : Bool) → Turned w r came before ended conn call done → came ≡ Piece → unary (is_end came) call.answers ≡ None → next ≡ call → IsWaiting w r ended conn next done
-turned_on w r came before ended conn call next done t piece none same =
-    let stands = came_piece came before ended conn (ap is_piece piece) t.came_is in
-    rw same (record {
+-- an open call whose link and connection can take another one
+pub open_kept : (w : Option Wire) (r : List ℕ → List ℕ → Type 0) (ended : Bool) (conn : Reading) (o : OpenCall) → IsOpen w r ended conn o → alive_of o ≡ true → IsKept w r ended conn
+open_kept w r ended conn o t lives =
+    let both = and_true (is_piece o.came) (not o.call.away) lives in
+    let stands = came_piece o.came false ended conn both.0 t.came in
+    record {
       fault = stands.1;
       empty = t.empty;
-      going = stands.0 ∙ t.going;
-      held = t.held;
+      going = stands.0;
       met = t.met;
-      none = ap (λ (x : Came). unary (is_end x) call.answers) (sym piece) ∙ none;
-      hears = t.hears;
-    })
+      talk = t.hears.talk;
+      stays = sym t.hears.away_is ∙ not_true o.call.away both.1;
+    }
+
+-- an answer is shown
+pub open_over : {A : Type 0} (look view : Bool → Heard → Option A) (w : Option Wire) (r : List ℕ → List ℕ → Type 0) (ended : Bool) (conn : Reading) (o : OpenCall) (x : A) → IsLook look view o.call.place → IsOpen w r ended conn o → view (is_end o.came) o.call.answers ≡ Some x → IsOver look w r ended conn o.call.id (alive_of o) x
+unfolding open_at shows_by
+open_over look view w r ended conn o x l t shows = record {
+  shows = shows_by look view w r conn o.call ended (is_end o.came) x l (open_at w r ended conn o t) (came_end o.came false ended conn t.came) shows;
+  kept = open_kept w r ended conn o t;
+  opened = (t.held.opened, t.held.kept);
+  alive_is = came_alive o.came ended conn o.call.away t.came ∙ ap (λ (b : Bool). is_none conn.state.fault && (not ended && not b)) t.hears.away_is;
+}
+
+-- nothing is shown: a rule was broken before that
+pub open_breaks : {A : Type 0} (look view : Bool → Heard → Option A) (w : Option Wire) (r : List ℕ → List ℕ → Type 0) (ended : Bool) (conn : Reading) (o : OpenCall) (code : ℕ) → IsLook look view o.call.place → IsOpen w r ended conn o → o.came ≡ Broken code → view (is_end o.came) o.call.answers ≡ None → Breaks look w r conn o.call.id code
+open_breaks look view w r ended conn o code l t broken none =
+    let both = came_broken o.came code false ended conn broken t.came in
+    breaks_by look view w r conn o.call code l (open_at w r ended conn o t) both.0 (ap (λ (x : Bool). view x o.call.answers) (sym both.1) ∙ none)
 
 -- what went over the link in a turn
 pub turn_carries : (w0 w1 w2 : Option Wire) (c1 c2 c3 c4 : Reading) (room left : ℕ) → Exchange w0 w1 c1 c2 0 0 → Exchange w1 w2 c3 c4 room left → Carries w0 w2 room left

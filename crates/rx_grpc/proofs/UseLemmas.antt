@@ -100,13 +100,14 @@ heard_stopped h events not =
       | Some e ↦ λ is. heard_ended h e events is
     ] refl
 
-pub unary_stays : (h : Heard) (a b : List Event) → ShownStays h a b
+pub unary_stays : (h : Heard) (a b : List Event) → ShownStays unary h a b
 unary_stays h a b ended x e =
     let shown = unary_ended (heard h a).end (heard h a) x ended e in
     let same : heard h (a ++ b) ≡ heard h a = heard_append h a b ∙ heard_stopped (heard h a) b shown.1 in
     ap (unary ended) same ∙ shown.0
 
-pub front_shows : (h : Heard) (id : ℕ) (front more : List ℕ) → FrontShows h id front more
-front_shows h id front more ended x e =
+-- what is shown of some events is shown of the bytes that show these first
+pub front_shows : {A : Type 0} (look : Bool → Heard → Option A) (h : Heard) (id : ℕ) (front more : List ℕ) → ((a b : List Event) → ShownStays look h a b) → FrontShows look h id front more
+front_shows look h id front more stays ended x e =
     let (later, is) = part_later id no_bytes front more in
-    ap (λ (events : List Event). unary ended (heard h events)) is ∙ unary_stays h (events_at id front) later ended x e
+    ap (λ (events : List Event). look ended (heard h events)) is ∙ stays (events_at id front) later ended x e

@@ -1,7 +1,9 @@
 -- What came over a link at one time.
-use Rattle.std.specs.Prelude.{◌≡◌, Bool, true, false, None, Some}
+use Rattle.std.specs.Prelude.{◌≡◌, Bool, true, false, Option, None, Some, Result, Ok, Err}
 use Rattle.rx_h2conn.specs.declared.fault.ConnFault.TheVariants.{Protocol}
 use Rattle.rx_h2conn.specs.Session.{Reading}
+use Rattle.rx_grpc.specs.declared.transfer_fault.TransferFault.{TransferFault}
+use Rattle.rx_grpc.specs.declared.transfer_fault.TransferFault.TheVariants as Faults
 use Rattle.rx_grpc.specs.declared.came.Came.{Came}
 use Rattle.rx_grpc.specs.declared.came.Came.TheVariants.{End, Piece, Broken}
 
@@ -20,3 +22,10 @@ abbrev pub CameBy : Came → Bool → Bool → Reading → Type 0
 CameBy End before now conn = (now ≡ true) × (conn.state.fault ≡ None)
 CameBy Piece before now conn = (now ≡ before) × (conn.state.fault ≡ None)
 CameBy (Broken code) before now conn = conn.state.fault ≡ Some (Protocol code)
+
+-- what is shown is the answer, and else a broken rule is the fault
+abbrev pub judged : {A : Type 0} → Option A → Came → Option (Result A TransferFault)
+judged (Some answer) came = Some (Ok answer)
+judged None End = None
+judged None Piece = None
+judged None (Broken code) = Some (Err (Faults.Protocol code))

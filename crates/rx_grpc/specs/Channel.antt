@@ -8,8 +8,9 @@ use Rattle.rx_grpc.specs.declared.answer.Answer.{Answer}
 use Rattle.rx_grpc.specs.declared.transfer_fault.TransferFault.{TransferFault}
 use Rattle.rx_grpc.specs.declared.transfer_fault.TransferFault.TheVariants.{Link, Protocol, NoMemory}
 use Rattle.rx_grpc.specs.Faults.{IsOther, FaultIs}
+use Rattle.rx_grpc.specs.Answer.{unary}
 use Rattle.rx_grpc.specs.Shown.{IsOver}
-use Rattle.rx_grpc.specs.Transport.{TransportOf, takes}
+use Rattle.rx_grpc.specs.Transport.{TransportOf, IsStarted, takes}
 
 pub record ChannelOf (D L : Type 0) : Type 0 where
   pub dial : D
@@ -40,13 +41,28 @@ wire_before wire old now = kept_or old (λ t. wire t.link) (blank now)
 abbrev pub faults_before : {L : Type 0} → (L → ℕ) → Option (TransportOf L) → ℕ
 faults_before faults old = kept_or old (λ t. faults t.link) 0
 
+-- The call's stream was opened, and the link has carried nothing since.
+pub record Opens {L : Type 0} (wire : L → Option Wire) (rule : L → List ℕ → List ℕ → Type 0) (ended : L → Bool) (faults : L → ℕ) (old : Option (TransportOf L)) (t : TransportOf L) (id : ℕ) : Type 0 where
+  pub stream : id ≡ stream_for old
+  pub before : wire t.link ≡ wire_before wire old (wire t.link)
+  pub same_faults : faults t.link ≡ faults_before faults old
+  pub started : IsStarted (wire t.link) (rule t.link) (ended t.link) t.conn id
+  pub alive : t.alive ≡ false
+  pub closed : t.opened ≡ None
+
+abbrev pub OpensOn :
+    {L : Type 0} → (L → Option Wire) → (L → List ℕ → List ℕ → Type 0) → (L → Bool) → (L → ℕ)
+    → Option (TransportOf L) → Option (TransportOf L) → ℕ → Type 0
+OpensOn wire rule ended faults old None id = ⊥
+OpensOn wire rule ended faults old (Some t) id = Opens wire rule ended faults old t id
+
 -- The call's stream on the link of the call shows this answer.
 abbrev pub Answers :
     {L : Type 0} → (L → Option Wire) → (L → List ℕ → List ℕ → Type 0) → (L → Bool)
     → Option (TransportOf L) → Option (TransportOf L) → Answer → Type 0
 Answers wire rule ended old None answer = ⊥
 Answers wire rule ended old (Some t) answer =
-    IsOver (wire t.link) (rule t.link) (ended t.link) t.conn (stream_for old) (record { answer = answer; alive = t.alive })
+    IsOver unary (wire t.link) (rule t.link) (ended t.link) t.conn (stream_for old) t.alive answer
 
 -- The bytes of that link stand for the fault, if it is one of bytes.
 abbrev pub Fails :
@@ -54,7 +70,7 @@ abbrev pub Fails :
     → Option (TransportOf L) → Option (TransportOf L) → TransferFault → Type 0
 Fails wire rule old None fault = IsOther fault
 Fails wire rule old (Some t) fault =
-    FaultIs fault (wire_before wire old (wire t.link)) (wire t.link) (rule t.link) t.conn (stream_for old)
+    FaultIs unary 268435456 fault (wire_before wire old (wire t.link)) (wire t.link) (rule t.link) t.conn (stream_for old)
 
 -- the count of the dial rose, or that of the link
 abbrev pub RoseOn : {L : Type 0} → (L → ℕ) → ℕ → Option (TransportOf L) → Type 0

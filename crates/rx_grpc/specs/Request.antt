@@ -1,5 +1,5 @@
 -- A request of one message (PROTOCOL-HTTP2.md of gRPC, "Requests").
-use Rattle.std.specs.Prelude.{ℕ, List, [], ◌∷◌, codes}
+use Rattle.std.specs.Prelude.{ℕ, Bool, List, [], ◌∷◌, codes}
 use Rattle.rx_hpack.specs.Header.{Field}
 
 abbrev pub field : List ℕ → List ℕ → Field
@@ -20,3 +20,8 @@ request_fields path authority =
     ∷ field (codes "content-type") (codes "application/grpc")
     ∷ field (codes "build.bazel.remote.execution.v2.requestmetadata-bin") tool_details
     ∷ []
+
+-- what is left to send, and whether its end was sent
+pub record RequestOf : Type 0 where
+  pub left : List ℕ
+  pub done : Bool

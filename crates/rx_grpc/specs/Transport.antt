@@ -1,18 +1,33 @@
 -- A link with its connection, and a channel over a dial, as their users see them.
-use Rattle.std.specs.Prelude.{◌≡◌, ℕ, Bool, false, ◌&&◌, List, [], filter, Option, None, is_none}
+use Rattle.std.specs.Prelude.{◌≡◌, ℕ, Bool, false, ◌&&◌, List, [], filter, Option, None, Some, is_none}
 use Rattle.std.specs.List.{list_any}
 use Rattle.rx_h2conn.specs.Session.{Reading}
 use Rattle.rx_h2conn.specs.Streams.{IsHeld}
 use Rattle.rx_h2conn.specs.Open.{refusal, next_id}
 use Rattle.rx_world.specs.Links.{Wire, Meets}
+use Rattle.rx_grpc.specs.declared.open_call.OpenCall.{OpenCall}
 use Rattle.rx_grpc.specs.Moves.{Moves, is_away, is_for}
-use Rattle.rx_grpc.specs.Conversation.{Conversation}
+use Rattle.rx_grpc.specs.Conversation.{Conversation, IsOpen}
 use Rattle.rx_grpc.specs.Shown.{IsKept, IsOpenAt}
+
+-- A streamed answer that is open: its stream, how many of its messages were handed out, and how many bytes it may take yet.
+pub record Opened : Type 0 where
+  pub id : ℕ
+  pub place : ℕ
+  pub room : ℕ
+
+abbrev pub opened_by : OpenCall → Opened
+opened_by o = record { id = o.call.id; place = o.call.place; room = o.room }
+
+abbrev pub opened_of : Option OpenCall → Option Opened
+opened_of None = None
+opened_of (Some o) = Some (opened_by o)
 
 pub record TransportOf (L : Type 0) : Type 0 where
   pub link : L
   pub conn : Reading
   pub alive : Bool  -- another call can be made on it
+  pub opened : Option Opened
 
 -- a stream can be opened
 abbrev pub takes : {L : Type 0} → TransportOf L → Bool
@@ -22,6 +37,11 @@ takes t = t.alive && is_none (refusal t.conn.state)
 pub record IsReady (wire : Option Wire) (rule : List ℕ → List ℕ → Type 0) (ended : Bool) (conn : Reading) (unfinished : Option ℕ) : Type 0 where
   pub kept : IsKept wire rule ended conn
   pub left : IsOpenAt unfinished conn.state
+
+-- a streamed answer is open, or none
+abbrev pub IsOpenOr : Option Wire → (List ℕ → List ℕ → Type 0) → Bool → Reading → Option OpenCall → Type 0
+IsOpenOr wire rule ended conn None = Unit {0}
+IsOpenOr wire rule ended conn (Some o) = IsOpen wire rule ended conn o
 
 -- A stream was opened on a connection that broke no rule, and nothing was told of it.
 pub record IsStarted (wire : Option Wire) (rule : List ℕ → List ℕ → Type 0) (ended : Bool) (conn : Reading) (id : ℕ) : Type 0 where

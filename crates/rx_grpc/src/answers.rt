@@ -6,6 +6,7 @@ ghost use Rattle.rx_h2conn.specs.Event.{event_view};
 ghost use Rattle.rx_h2conn.specs.Session.{Event};
 ghost use Rattle.rx_grpc.specs.Answer.{after_answer, only, unary};
 ghost use Rattle.rx_grpc.specs.Heard.{nothing, step};
+ghost use Rattle.rx_grpc.specs.Item.{after_item, item, item_at_end, item_behind};
 ghost use Rattle.rx_grpc.specs.Seen.{HandsOut};
 ghost use Rattle.rx_grpc.specs.Uses.{FrontShows, IsOfEvents, ReadsBack, ShownStays, Use};
 
@@ -13,6 +14,7 @@ use crate::answer::Answer;
 use crate::end::End;
 use crate::head::Head;
 use crate::reader::Reader;
+use crate::stream_item::StreamItem;
 use percent_encoding::percent_decode;
 use rx_base::{Bytes, NoMemory};
 use rx_h2conn::ConnEvent;
@@ -51,10 +53,14 @@ impl Answers {
         ensures events { (uses : List Use) → IsOfEvents result uses }
 
         // An answer that was shown stays, whatever comes later.
-        ensures stays { (events later : List Event) → ShownStays result events later }
+        ensures stays { (events later : List Event) → ShownStays unary result events later }
 
         // So does one that a front of the received bytes shows at the call's stream.
-        ensures bytes { (id : ℕ) (front more : List ℕ) → FrontShows result id front more }
+        ensures bytes { (id : ℕ) (front more : List ℕ) → FrontShows unary result id front more }
+
+        // And so does each item of a streamed answer.
+        ensures items { (place id : ℕ) (front more : List ℕ)
+            → FrontShows (item_behind place) result id front more }
     {
         let reader = Reader {
             alloc,
@@ -138,6 +144,38 @@ impl Answers {
             Some(End::Compressed) => Some(Answer::Compressed),
             Some(End::TooLarge) => Some(Answer::TooLarge),
             Some(End::NoStatus) => Some(Answer::NoStatus),
+        }
+    }
+
+    /// What is behind the last message, once it is shown.
+    fn item_at_end(&self, ended: bool) -> Option<StreamItem>
+        ensures { result ≡ item_at_end self.now.end (not (length self.now.rest == 0)) ended }
+    {
+        match self.reader.end {
+            None => {
+                if ended {
+                    Some(StreamItem::LinkEnd)
+                } else {
+                    None
+                }
+            }
+            Some(End::Status(0)) => Some(StreamItem::Success { cut: self.is_cut() }),
+            Some(End::Status(code)) => Some(StreamItem::Status(code)),
+            Some(End::Compressed) => Some(StreamItem::Compressed),
+            Some(End::TooLarge) => Some(StreamItem::TooLarge),
+            Some(End::NoStatus) => Some(StreamItem::NoStatus),
+        }
+    }
+
+    /// What a streamed answer shows next; `ended` tells that nothing more comes. A message is handed out, and everything
+    /// else stays.
+    pub fn item(&mut self, ended: bool) -> Option<StreamItem>
+        ensures item { result ≡ item ended self.old }
+        ensures after { self.new ≡ after_item result self.old }
+    {
+        match self.next_message() {
+            Some(message) => Some(StreamItem::Message(message)),
+            None => self.item_at_end(ended),
         }
     }
 }

@@ -1,12 +1,14 @@
 //! What a call has heard: the events of its stream, and whether the server takes no more streams.
 
-ghost use Rattle.std.specs.Prelude.{◌≡◌, ◌||◌, ◌∷◌, [], false, filter, IfSome, OnOk};
+ghost use Rattle.std.specs.Prelude.{◌≡◌, ◌<◌, ◌||◌, ◌∷◌, [], false, filter, IfSome, OnOk};
 ghost use Rattle.rx_h2conn.specs.Event.{event_view};
 ghost use Rattle.rx_grpc.specs.Heard.{heard, nothing};
+ghost use Rattle.rx_grpc.specs.Item.{after_item, item, place_after};
 ghost use Rattle.rx_grpc.specs.Moves.{is_away, is_for};
 ghost use Rattle.rx_grpc.specs.Conversation.{Drains};
 
 use crate::answers::Answers;
+use crate::stream_item::StreamItem;
 use rx_base::NoMemory;
 use rx_h2conn::{Conn, ConnEvent};
 use std::alloc::Global;
@@ -17,6 +19,8 @@ pub struct Call {
     /// The number of its stream.
     pub id: u32,
     pub answers: Answers,
+    /// How many messages were handed out.
+    pub place: usize,
     /// Whether a GOAWAY came.
     pub away: bool,
     /// Whether the server has ended its side of the stream.
@@ -72,11 +76,13 @@ impl Call {
     pub fn new(alloc: Global, id: u32) -> Call
         ensures id { result.id ≡ id }
         ensures answers { result.answers ≡ nothing }
+        ensures place { result.place ≡ 0 }
         ensures away { result.away ≡ false }
     {
         Call {
             id,
             answers: Answers::new(alloc),
+            place: 0,
             away: false,
             server_ended: false,
             server_reset: false,
@@ -87,6 +93,7 @@ impl Call {
     fn mark(&mut self, event: &ConnEvent)
         ensures id { self.new.id ≡ self.old.id }
         ensures answers { self.new.answers ≡ self.old.answers }
+        ensures place { self.new.place ≡ self.old.place }
         ensures away { self.new.away ≡ self.old.away }
     {
         match event {
@@ -125,5 +132,21 @@ impl Call {
             hear(&mut self.answers, self.id, event)?;
         }
         Ok(())
+    }
+
+    /// Hands out what a streamed answer shows next; `ended` tells that nothing more comes.
+    pub fn next_item(&mut self, ended: bool) -> Option<StreamItem>
+        requires { self.old.place < 53687091 }
+        ensures item { result ≡ item ended self.old.answers }
+        ensures answers { self.new.answers ≡ after_item result self.old.answers }
+        ensures place { self.new.place ≡ place_after result self.old.place }
+        ensures id { self.new.id ≡ self.old.id }
+        ensures away { self.new.away ≡ self.old.away }
+    {
+        let item = self.answers.item(ended)?;
+        if item.is_message() {
+            self.place += 1;
+        }
+        Some(item)
     }
 }

@@ -1,7 +1,9 @@
 //! What came over a link at one time.
 
 ghost use Rattle.std.specs.Prelude.{◌≡◌};
-ghost use Rattle.rx_grpc.specs.Came.{is_end, is_piece};
+ghost use Rattle.rx_grpc.specs.Came.{is_end, is_piece, judged};
+
+use crate::transfer_fault::TransferFault;
 
 /// What came over a link at one time.
 #[derive(Clone, Copy)]
@@ -35,5 +37,19 @@ impl Came {
             Came::Piece => true,
             Came::Broken(_) => false,
         }
+    }
+}
+
+/// What is shown is the answer, and else a broken rule is the fault. `None` where more may come.
+pub fn judge<T: Drop>(shown: Option<T>, came: Came) -> Option<Result<T, TransferFault>>
+    ensures { result ≡ judged shown came }
+{
+    match shown {
+        Some(answer) => Some(Ok(answer)),
+        None => match came {
+            Came::End => None,
+            Came::Piece => None,
+            Came::Broken(code) => Some(Err(TransferFault::Protocol(code))),
+        },
     }
 }

@@ -1,12 +1,16 @@
 //! A channel to one server: its calls share a link while that serves, and a new one is made where it doesn't.
 
-ghost use Rattle.std.specs.Prelude.{◌≡◌, ◌<◌, ◌^◌, false, length, None, IfErr, IfOk, MatchOption};
+ghost use Rattle.std.specs.Prelude.{◌≡◌, ◌<◌, ◌^◌, false, true, length, None, IfErr, IfOk, MatchOption, OnErr, OnOk};
 ghost use Rattle.std.specs.List.{All};
 ghost use Rattle.rx_hpack.specs.Encoder.{IsWritable};
-ghost use Rattle.rx_grpc.specs.Channel.{Answers, Fails, HasCauseOn, IsLinkOf, IsRuled, Stops, is_kept};
+ghost use Rattle.rx_grpc.specs.Channel.{Answers, Fails, HasCauseOn, IsLinkOf, IsRuled, OpensOn, Stops, is_kept};
+ghost use Rattle.rx_grpc.specs.Faults.{IsOther};
+ghost use Rattle.rx_grpc.specs.Streamed.{Begins, NextCause, NextFailsOn, NextsOn, is_answering};
+ghost use Rattle.rx_grpc.specs.declared.transfer_fault.TransferFault.TheVariants.{NoMemory as starved};
 
 use crate::answer::Answer;
 use crate::headers::{framed_message, request_headers};
+use crate::stream_item::StreamItem;
 use crate::transfer_fault::TransferFault;
 use crate::transport::Transport;
 use rx_hpack::Header;
@@ -72,7 +76,18 @@ impl<D: Dial + Drop> Channel<D> {
         }
     }
 
+    /// Whether a streamed answer is open.
+    pub fn is_answering(&self) -> bool
+        ensures { result ≡ is_answering self.now.transport }
+    {
+        match &self.transport {
+            Some(transport) => transport.is_answering(),
+            None => false,
+        }
+    }
+
     /// A call of one message that is answered by one: the message is sent to the method that the path names, as `/SERVICE/METHOD`.
+    /// A streamed answer that is open is given up.
     ///
     /// Errors: `Link` where the dial or the link failed; `Protocol` where the server broke a rule before an answer was shown, or
     /// where 268,435,456 bytes showed none; `NoMemory`.
@@ -90,45 +105,101 @@ impl<D: Dial + Drop> Channel<D> {
     {
         let headers = request_headers(self.alloc, path, &self.authority)?;
         let body = framed_message(self.alloc, message)?;
-        if let Some(answer) = self.call_kept(&headers, &body)? {
-            return Ok(answer);
-        }
-        self.call_anew(&headers, &body)
+        let id = self.open_stream(&headers)?;
+        let Some(transport) = &mut self.transport else {
+            unreachable!()
+        };
+        transport.unary(self.alloc, id, body)
     }
 
-    /// Makes a call on the link that is kept. `None` where none is, or where it takes no call.
-    fn call_kept(
-        &mut self,
-        headers: &[Header],
-        body: &[u8],
-    ) -> Result<Option<Answer>, TransferFault>
-        requires { All IsWritable headers.now }
-        ensures answers { IfOk result (λ answer. MatchOption answer
-            ((is_kept self.old.transport ≡ false) × (is_kept self.new.transport ≡ false))
-            (Answers D.L.wire D.L.rule D.L.ended self.old.transport self.new.transport)) }
-        ensures fails { IfErr result (Fails D.L.wire D.L.rule self.old.transport
-            self.new.transport) }
+    /// A call of one message that is answered by any number of messages. It opens the stream, and `next` does the rest.
+    ///
+    /// Errors: `Link` where the dial failed; `NoMemory`.
+    pub fn begin(&mut self, path: &[u8], message: &[u8]) -> Result<(), TransferFault>
+        requires path { length path.now < 2 ^ 32 }
+        requires message { length message.now < 2 ^ 32 }
+        ensures begins { OnOk result (Begins D.L.wire self.old.transport self.new.transport) }
+        ensures other { IfErr result IsOther }
         ensures stops { IfErr result (Stops self.new.transport) }
-        ensures dial { self.new.dial ≡ self.old.dial }
         ensures ruled { IsRuled (D.rule self.new.dial) D.L.rule self.new.transport }
         ensures cause { HasCauseOn (D.faults self.old.dial) (D.faults self.new.dial) D.L.faults
             self.old.transport self.new.transport result }
     {
+        let headers = request_headers(self.alloc, path, &self.authority)?;
+        let body = framed_message(self.alloc, message)?;
+        let id = self.open_stream(&headers)?;
+        let Some(transport) = &mut self.transport else {
+            unreachable!()
+        };
+        transport.begin(self.alloc, id, body);
+        Ok(())
+    }
+
+    /// The next message of the answer that was begun last, or how it ended. Behind a message the answer is open still.
+    ///
+    /// Errors: `Link` where the link failed; `Protocol` where the server broke a rule before an item was shown, or where the call
+    /// has taken 268,435,456 bytes or 53,687,091 messages in all; `NoMemory`.
+    pub fn next(&mut self) -> Result<StreamItem, TransferFault>
+        requires { is_answering self.old.transport ≡ true }
+        ensures shows { IfOk result (NextsOn D.L.wire D.L.rule D.L.ended self.old.transport
+            self.new.transport) }
+        ensures fails { IfErr result (NextFailsOn D.L.wire D.L.rule self.old.transport
+            self.new.transport) }
+        ensures stops { IfErr result (Stops self.new.transport) }
+        ensures closed { OnErr result (is_answering self.new.transport ≡ false) }
+        ensures dial { self.new.dial ≡ self.old.dial }
+        ensures ruled { IsRuled (D.rule self.new.dial) D.L.rule self.new.transport }
+        ensures cause { NextCause D.L.faults self.old.transport self.new.transport result }
+    {
+        let Some(transport) = &mut self.transport else {
+            unreachable!()
+        };
+        transport.next()
+    }
+
+    /// Opens the stream of a call, on the link that is kept or on a new one.
+    fn open_stream(&mut self, headers: &[Header]) -> Result<u32, TransferFault>
+        requires { All IsWritable headers.now }
+        ensures opens { IfOk result (OpensOn D.L.wire D.L.rule D.L.ended D.L.faults
+            self.old.transport self.new.transport) }
+        ensures other { IfErr result IsOther }
+        ensures fails { IfErr result (Fails D.L.wire D.L.rule self.old.transport
+            self.new.transport) }
+        ensures stops { IfErr result (Stops self.new.transport) }
+        ensures ruled { IsRuled (D.rule self.new.dial) D.L.rule self.new.transport }
+        ensures cause { HasCauseOn (D.faults self.old.dial) (D.faults self.new.dial) D.L.faults
+            self.old.transport self.new.transport result }
+    {
+        if let Some(id) = self.open_kept(headers)? {
+            return Ok(id);
+        }
+        self.open_anew(headers)
+    }
+
+    /// Opens a stream on the link that is kept. `None` where none is, or where it takes no call.
+    fn open_kept(&mut self, headers: &[Header]) -> Result<Option<u32>, TransferFault>
+        requires { All IsWritable headers.now }
+        ensures opens { IfOk result (λ id. MatchOption id
+            ((is_kept self.old.transport ≡ false) × (is_kept self.new.transport ≡ false))
+            (OpensOn D.L.wire D.L.rule D.L.ended D.L.faults self.old.transport
+            self.new.transport)) }
+        ensures memory { IfErr result (λ fault. fault ≡ starved) }
+        ensures dial { self.new.dial ≡ self.old.dial }
+        ensures ruled { IsRuled (D.rule self.new.dial) D.L.rule self.new.transport }
+    {
         match &mut self.transport {
             None => Ok(None),
-            Some(transport) => match transport.open_stream(headers)? {
-                None => Ok(None),
-                Some(id) => Ok(Some(transport.talk(self.alloc, id, body)?)),
-            },
+            Some(transport) => transport.open_stream(headers),
         }
     }
 
-    /// Makes a link, and a call on it.
-    fn call_anew(&mut self, headers: &[Header], body: &[u8]) -> Result<Answer, TransferFault>
+    /// Makes a link, and opens a stream on it.
+    fn open_anew(&mut self, headers: &[Header]) -> Result<u32, TransferFault>
         requires writable { All IsWritable headers.now }
         requires unkept { is_kept self.old.transport ≡ false }
-        ensures answers { IfOk result (Answers D.L.wire D.L.rule D.L.ended None
+        ensures opens { IfOk result (OpensOn D.L.wire D.L.rule D.L.ended D.L.faults None
             self.new.transport) }
+        ensures other { IfErr result IsOther }
         ensures fails { IfErr result (Fails D.L.wire D.L.rule None self.new.transport) }
         ensures stops { IfErr result (Stops self.new.transport) }
         ensures ruled { IsRuled (D.rule self.new.dial) D.L.rule self.new.transport }
@@ -140,8 +211,7 @@ impl<D: Dial + Drop> Channel<D> {
         let Some(id) = transport.open_stream(headers)? else {
             return Err(TransferFault::NoMemory);
         };
-        let done = transport.talk(self.alloc, id, body);
         self.transport = Some(transport);
-        done
+        Ok(id)
     }
 }

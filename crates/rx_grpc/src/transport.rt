@@ -1,23 +1,25 @@
 //! A link with its connection, for one call after the other.
 
-ghost use Rattle.std.specs.Prelude.{◌≡◌, true, false, MatchOption, IfErr, IfOk, OnErr};
+ghost use Rattle.std.specs.Prelude.{◌≡◌, true, false, None, Some, is_some, MatchOption, IfErr, IfOk, OnErr};
 ghost use Rattle.std.specs.List.{All};
 ghost use Rattle.rx_h2conn.specs.Conn.{started};
 ghost use Rattle.rx_h2conn.specs.Open.{next_id};
 ghost use Rattle.rx_hpack.specs.Encoder.{IsWritable};
 ghost use Rattle.rx_world.specs.Causes.{HasCauseOf};
 ghost use Rattle.rx_world.specs.Links.{IsNew, Meets, SameRule};
+ghost use Rattle.rx_grpc.specs.Answer.{unary};
 ghost use Rattle.rx_grpc.specs.Faults.{FaultIs};
 ghost use Rattle.rx_grpc.specs.Shown.{IsOver};
+ghost use Rattle.rx_grpc.specs.Streamed.{NextFails, Nexts};
 ghost use Rattle.rx_grpc.specs.Transport.{IsStarted, takes};
 ghost use Rattle.rx_grpc.specs.declared.transfer_fault.TransferFault.TheVariants.{Link as lost, NoMemory as starved};
 
 use crate::answer::Answer;
-use crate::call::Call;
-use crate::request::Request;
+use crate::open_call::OpenCall;
 use crate::stream::next_stream;
+use crate::stream_item::StreamItem;
+use crate::talk::{answer_of, item_of};
 use crate::transfer_fault::TransferFault;
-use crate::turn::talk;
 use rx_base::NoMemory;
 use rx_h2conn::Conn;
 use rx_hpack::Header;
@@ -33,19 +35,27 @@ pub struct Transport<L: Link + Drop> {
     alive: bool,
     /// The stream of the last call, where one side of it is open.
     unfinished: Option<u32>,
+    /// The call whose streamed answer is open.
+    opened: Option<OpenCall>,
 }
 
 impl<L: Link + Drop> Model for Transport<L> {
-    ghost use Rattle.rx_grpc.specs.Transport.{IsReady, TransportOf};
+    ghost use Rattle.rx_grpc.specs.Transport.{IsOpenOr, IsReady, TransportOf, opened_of};
 
     ghost Value = { TransportOf L };
 
     ghost use Rattle.std.specs.Prelude.{◌≡◌, true};
 
-    ghost view = { λ t. record { link = t.link; conn = t.conn; alive = t.alive } };
+    ghost view = { λ t. record {
+      link = t.link;
+      conn = t.conn;
+      alive = t.alive;
+      opened = opened_of t.opened;
+    } };
 
-    ghost invariant = { λ t. t.alive ≡ true
-        → IsReady (L.wire t.link) (L.rule t.link) (L.ended t.link) t.conn t.unfinished };
+    ghost invariant = { λ t. (t.alive ≡ true
+        → IsReady (L.wire t.link) (L.rule t.link) (L.ended t.link) t.conn t.unfinished)
+        × IsOpenOr (L.wire t.link) (L.rule t.link) (L.ended t.link) t.conn t.opened };
 }
 
 impl<L: Link + Drop> Transport<L> {
@@ -56,12 +66,14 @@ impl<L: Link + Drop> Transport<L> {
         ensures link { IfOk result (λ transport. transport.link ≡ link) }
         ensures conn { IfOk result (λ transport. transport.conn ≡ started) }
         ensures alive { IfOk result (λ transport. transport.alive ≡ true) }
+        ensures opened { IfOk result (λ transport. transport.opened ≡ None) }
     {
         Ok(Transport {
             link,
             conn: Conn::new(alloc)?,
             alive: true,
             unfinished: None,
+            opened: None,
         })
     }
 
@@ -72,12 +84,20 @@ impl<L: Link + Drop> Transport<L> {
         &self.link
     }
 
-    /// Opens the stream of the next call. `None` where no call can be made any more.
+    /// Whether a streamed answer is open.
+    pub fn is_answering(&self) -> bool
+        ensures { result ≡ is_some self.now.opened }
+    {
+        self.opened.is_some()
+    }
+
+    /// Opens the stream of the next call. `None` where no call can be made any more. An answer that was open is given up.
     pub fn open_stream(&mut self, headers: &[Header]) -> Result<Option<u32>, TransferFault>
         requires { All IsWritable headers.now }
         ensures memory { IfErr result (λ fault. fault ≡ starved) }
         ensures link { self.new.link ≡ self.old.link }
         ensures alive { self.new.alive ≡ false }
+        ensures closed { self.new.opened ≡ None }
         ensures taken { IfOk result (λ id. MatchOption id (takes self.old ≡ false)
             (λ id. takes self.old ≡ true)) }
         ensures next { IfOk result (λ id. MatchOption id (Unit {0})
@@ -86,6 +106,7 @@ impl<L: Link + Drop> Transport<L> {
             (IsStarted (L.wire self.new.link) (L.rule self.new.link) (L.ended self.new.link)
             self.new.conn)) }
     {
+        self.opened = None;
         if !self.alive {
             return Ok(None);
         }
@@ -94,27 +115,62 @@ impl<L: Link + Drop> Transport<L> {
     }
 
     /// Sends the body of a request on its stream, and waits for the answer.
-    pub fn talk(&mut self, alloc: Global, id: u32, body: &[u8]) -> Result<Answer, TransferFault>
+    pub fn unary(&mut self, alloc: Global, id: u32, body: Vec<u8>) -> Result<Answer, TransferFault>
         requires alive { self.old.alive ≡ false }
+        requires closed { self.old.opened ≡ None }
         requires started { IsStarted (L.wire self.old.link) (L.rule self.old.link)
             (L.ended self.old.link) self.old.conn id }
-        ensures over { IfOk result (λ answer. IsOver (L.wire self.new.link) (L.rule self.new.link)
-            (L.ended self.new.link) self.new.conn id
-            (record { answer = answer; alive = self.new.alive })) }
-        ensures fault { IfErr result (λ fault. FaultIs fault (L.wire self.old.link)
-            (L.wire self.new.link) (L.rule self.new.link) self.new.conn id) }
+        ensures over { IfOk result (IsOver unary (L.wire self.new.link) (L.rule self.new.link)
+            (L.ended self.new.link) self.new.conn id self.new.alive) }
+        ensures fault { IfErr result (λ fault. FaultIs unary 268435456 fault
+            (L.wire self.old.link) (L.wire self.new.link) (L.rule self.new.link)
+            self.new.conn id) }
         ensures failed { OnErr result (self.new.alive ≡ false) }
+        ensures closed { self.new.opened ≡ None }
         ensures rule { SameRule (L.rule self.old.link) (L.rule self.new.link) }
         ensures cause { HasCauseOf lost (L.faults self.old.link) (L.faults self.new.link) result }
     {
-        let mut call = Call::new(alloc, id);
-        let mut request = Request {
-            left: body,
-            done: false,
+        let mut opened = OpenCall::new(alloc, id, body);
+        let answer = answer_of(&mut self.link, &mut self.conn, &mut opened)?;
+        self.alive = opened.is_alive();
+        self.unfinished = opened.stream_left();
+        Ok(answer)
+    }
+
+    /// Opens the streamed answer of a request whose stream was opened.
+    pub fn begin(&mut self, alloc: Global, id: u32, body: Vec<u8>)
+        requires started { IsStarted (L.wire self.old.link) (L.rule self.old.link)
+            (L.ended self.old.link) self.old.conn id }
+        ensures link { self.new.link ≡ self.old.link }
+        ensures opened { self.new.opened
+            ≡ Some (record { id = id; place = 0; room = 268435456 }) }
+    {
+        self.opened = Some(OpenCall::new(alloc, id, body));
+        self.unfinished = Some(id);
+        self.alive = true;
+    }
+
+    /// Hands out the next item of the streamed answer that is open.
+    pub fn next(&mut self) -> Result<StreamItem, TransferFault>
+        requires { is_some self.old.opened ≡ true }
+        ensures next { IfOk result (Nexts L.wire L.rule L.ended self.old.opened self.old
+            self.new) }
+        ensures fails { IfErr result (NextFails L.wire L.rule self.old.opened self.old self.new) }
+        ensures failed { OnErr result (self.new.alive ≡ false) }
+        ensures closed { OnErr result (self.new.opened ≡ None) }
+        ensures rule { SameRule (L.rule self.old.link) (L.rule self.new.link) }
+        ensures cause { HasCauseOf lost (L.faults self.old.link) (L.faults self.new.link) result }
+    {
+        self.alive = false;
+        let Some(mut opened) = self.opened.take() else {
+            unreachable!()
         };
-        let over = talk(&mut self.link, &mut self.conn, &mut call, &mut request)?;
-        self.alive = over.alive;
-        self.unfinished = call.stream_left(request.done);
-        Ok(over.answer)
+        let item = item_of(&mut self.link, &mut self.conn, &mut opened)?;
+        self.alive = opened.is_alive();
+        self.unfinished = opened.stream_left();
+        if item.is_message() {
+            self.opened = Some(opened);
+        }
+        Ok(item)
     }
 }

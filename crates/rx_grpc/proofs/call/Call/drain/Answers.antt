@@ -10,4 +10,4 @@ loop-event-smaller c = drained_less c.loop-event.conn c.next_event.new.self (eve
 
 pub loop-event-preserved : goal.loop-event-preserved
 loop-event-preserved c =
-    drains_next c.args.conn.now c.loop-event.conn c.next_event.new.self c.args.self.now c.loop-event.self _ (event_view c.in-Some.event) c.loop-event.invariant c.in-Some.ensures.event c.in-Some.ensures.after c.in-Some.ensures.held c.mark.ensures.id (c.in_ok-hear.ensures ∙ (ap (λ (x : Heard). heard x (filter (is_for c.mark.new.self.id) (event_view c.in-Some.event ∷ []))) c.mark.ensures.answers ∙ ap (λ (i : ℕ). heard c.loop-event.self.answers (filter (is_for i) (event_view c.in-Some.event ∷ []))) c.mark.ensures.id)) (c.mark.ensures.away ∙ c.is_away_by-self.ensures)
+    drains_next c.args.conn.now c.loop-event.conn c.next_event.new.self c.args.self.now c.loop-event.self _ (event_view c.in-Some.event) c.loop-event.invariant c.in-Some.ensures.event c.in-Some.ensures.after c.in-Some.ensures.held c.mark.ensures.id c.mark.ensures.place (c.in_ok-hear.ensures ∙ (ap (λ (x : Heard). heard x (filter (is_for c.mark.new.self.id) (event_view c.in-Some.event ∷ []))) c.mark.ensures.answers ∙ ap (λ (i : ℕ). heard c.loop-event.self.answers (filter (is_for i) (event_view c.in-Some.event ∷ []))) c.mark.ensures.id)) (c.mark.ensures.away ∙ c.is_away_by-self.ensures)
