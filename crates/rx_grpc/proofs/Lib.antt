@@ -11,4 +11,5 @@ pub mod ConversationLemmas
 pub mod TurnLemmas
 pub mod TalkLemmas
 pub mod HandLemmas
+pub mod GiveLemmas
 pub mod StreamLemmas

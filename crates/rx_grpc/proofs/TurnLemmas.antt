@@ -1,5 +1,5 @@
 -- One turn of a call.
-use Rattle.std.proofs.Common.{◌≡◌, ℕ, Bool, true, false, ◌&&◌, not, List, [], ◌∷◌, ◌++◌, filter, refl, sym, ap, subst, ◌∙◌, arith, Option, None, Some, Ok, is_none, length-append}
+use Rattle.std.proofs.Common.{◌≡◌, ℕ, Bool, true, false, ◌&&◌, not, List, [], ◌∷◌, ◌++◌, filter, refl, sym, ap, subst, ◌∙◌, arith, Option, None, Some, Ok, is_none}
 use Rattle.rx_h2conn.specs.declared.fault.ConnFault.{ConnFault}
 use Rattle.rx_h2conn.specs.declared.fault.ConnFault.TheVariants.{NoMemory, Protocol}
 use Rattle.rx_h2conn.specs.Session.{Session, Reading}
@@ -9,16 +9,16 @@ use Rattle.rx_h2conn.specs.History.{Sends, unless}
 use Rattle.rx_h2conn.proofs.ConnLemmas.{sent-fault}
 use Rattle.rx_h2conn.proofs.ListLemmas.{and_true, not_true}
 use Rattle.rx_world.specs.Links.{Wire, Meets}
+use Rattle.rx_grpc.specs.declared.call.Call.{Call}
 use Rattle.rx_grpc.specs.declared.open_call.OpenCall.{OpenCall}
 use Rattle.rx_grpc.specs.declared.came.Came.{Came}
 use Rattle.rx_grpc.specs.declared.came.Came.TheVariants.{End, Piece, Broken}
 use Rattle.rx_grpc.specs.Heard.{Heard, heard, nothing}
 use Rattle.rx_grpc.specs.Uses.{front}
 use Rattle.rx_grpc.specs.Came.{CameBy, is_end, is_piece}
-use Rattle.rx_grpc.specs.Moves.{Moves, Exchange, Carries, is_for}
-use Rattle.rx_grpc.specs.Conversation.{IsOpen, Drains, alive_of}
+use Rattle.rx_grpc.specs.Moves.{Moves, Exchange, Carries, IsDrained, is_for}
+use Rattle.rx_grpc.specs.Conversation.{CallHears, IsOpen, Drains, alive_of}
 use Rattle.rx_grpc.specs.Shown.{Breaks, IsKept, IsOver}
-use Rattle.rx_grpc.proofs.WireLemmas.{goes_trans}
 use Rattle.rx_grpc.proofs.ConversationLemmas.{hears_exchange, hears_moved, hears_drained}
 use Rattle.rx_grpc.proofs.ShownLemmas.{IsHeardAt, shows_by, breaks_by}
 use Rattle.rx_grpc.proofs.ItemLemmas.{IsLook}
@@ -70,6 +70,11 @@ came_piece End before ended c e is = absurd cc
 came_piece Piece before ended c e is = is
 came_piece (Broken code) before ended c e is = absurd cc
 
+pub piece_came : (came : Came) (ended : Bool) (c : Reading) → is_piece came ≡ true → ended ≡ false → c.state.fault ≡ None → CameBy came false ended c
+piece_came End ended c e is none = absurd cc
+piece_came Piece ended c e is none = (is, none)
+piece_came (Broken code) ended c e is none = absurd cc
+
 pub came_broken : (came : Came) (code : ℕ) (before ended : Bool) (c : Reading) → came ≡ Broken code → CameBy came before ended c → (c.state.fault ≡ Some (Protocol code)) × (is_end came ≡ false)
 came_broken End code before ended c e is = absurd cc
 came_broken Piece code before ended c e is = absurd cc
@@ -85,25 +90,39 @@ came_same End before ended c d going same is = (is.0, same ∙ is.1)
 came_same Piece before ended c d going same is = (is.0 ∙ going, same ∙ is.1)
 came_same (Broken code) before ended c d going same is = same ∙ is
 
--- a turn leaves a call open
-pub turned :
-    (w0 w1 w2 : Option Wire) (r0 r1 r2 : List ℕ → List ℕ → Type 0) (e0 e1 e2 : Bool) (c0 c1 c2 c3 c4 : Reading) (o n : OpenCall) (came : Came) (room left : ℕ)
-    → IsOpen w0 r0 e0 c0 o → is_piece o.came ≡ true → Moves c0 c1 [] [] [] → IsHeld c1.state o.call.id n.request.done
-    → Exchange w0 w1 c1 c2 0 0 → (Meets w0 r0 → Meets w1 r1) → KeepsHeld c1.state c2.state → e1 ≡ e0
-    → Exchange w1 w2 c2 c3 room left → Meets w2 r2 → KeepsHeld c2.state c3.state → CameBy came e1 e2 c3
-    → Drains c3 c4 o.call n.call → c4.state.events ≡ [] → n.came ≡ came → IsOpen w2 r2 e2 c4 n
-turned w0 w1 w2 r0 r1 r2 e0 e1 e2 c0 c1 c2 c3 c4 o n came room left t piece m h x m1 h1 same y m2 h2 is d empty came_is =
+-- a call is open after a part of its request was given
+pub given_open :
+    (w0 w1 : Option Wire) (r0 r1 : List ℕ → List ℕ → Type 0) (e0 e1 : Bool) (c0 c1 c2 : Reading) (o n : OpenCall)
+    → IsOpen w0 r0 e0 c0 o → is_piece o.came ≡ true → Moves c0 c1 [] [] [] → IsHeld c1.state o.call.id n.request.done → c1.state.events ≡ c0.state.events → c1.state.fault ≡ None
+    → Exchange w0 w1 c1 c2 0 0 → (Meets w0 r0 → Meets w1 r1) → KeepsHeld c1.state c2.state → e1 ≡ e0 → c2.state.fault ≡ c1.state.fault → IsDrained c2.state
+    → n.call ≡ o.call → n.came ≡ o.came → IsOpen w1 r1 e1 c2 n
+given_open w0 w1 r0 r1 e0 e1 c0 c1 c2 o n t piece m h events fault x m1 h1 same kept drained call came =
     let pushed = hears_moved w0 r0 c0 c1 o.call t.hears m in
     let flushed = hears_exchange w0 w1 r0 r1 c1 c2 0 0 o.call pushed x (m1 t.met) in
-    let fed = hears_exchange w1 w2 r1 r2 c2 c3 room left o.call flushed y m2 in
-    let held = d.held o.call.id n.request.done (h2 o.call.id n.request.done (h1 o.call.id n.request.done h)) in
-    let going = same ∙ (came_piece o.came false e0 c0 piece t.came).0 in
+    let stands = came_piece o.came false e0 c0 piece t.came in
+    record {
+      hears = subst (λ (k : Call). CallHears w1 r1 c2 k) (sym call) flushed;
+      held = subst (λ (k : Call). IsHeld c2.state k.id n.request.done) (sym call) (h1 o.call.id n.request.done h);
+      empty = drained.events;
+      met = m1 t.met;
+      came = subst (λ (k : Came). CameBy k false e1 c2) (sym came) (piece_came o.came e1 c2 piece (same ∙ stands.0) (kept ∙ fault));
+    }
+
+-- and after a piece was heard
+pub heard_open :
+    (w1 w2 : Option Wire) (r1 r2 : List ℕ → List ℕ → Type 0) (e1 e2 : Bool) (c2 c3 c4 : Reading) (o n : OpenCall) (came : Came) (room left : ℕ)
+    → IsOpen w1 r1 e1 c2 o → is_piece o.came ≡ true
+    → Exchange w1 w2 c2 c3 room left → Meets w2 r2 → KeepsHeld c2.state c3.state → CameBy came e1 e2 c3
+    → Drains c3 c4 o.call n.call → c4.state.events ≡ [] → n.request ≡ o.request → n.came ≡ came → IsOpen w2 r2 e2 c4 n
+heard_open w1 w2 r1 r2 e1 e2 c2 c3 c4 o n came room left t piece y m2 h2 is d empty request came_is =
+    let fed = hears_exchange w1 w2 r1 r2 c2 c3 room left o.call t.hears y m2 in
+    let held = d.held o.call.id o.request.done (h2 o.call.id o.request.done t.held) in
     record {
       hears = hears_drained w2 r2 c3 c4 o.call n.call fed d;
-      held = subst (λ (i : ℕ). IsHeld c4.state i n.request.done) (sym d.id) held;
+      held = rw (d.id, request) held;
       empty = empty;
       met = m2;
-      came = subst (λ (k : Came). CameBy k false e2 c4) (sym came_is) (came_same came e1 e2 c3 c4 going d.fault is);
+      came = subst (λ (k : Came). CameBy k false e2 c4) (sym came_is) (came_same came e1 e2 c3 c4 (came_piece o.came false e1 c2 piece t.came).0 d.fault is);
     }
 
 pub open_at : (w : Option Wire) (r : List ℕ → List ℕ → Type 0) (ended : Bool) (conn : Reading) (o : OpenCall) → IsOpen w r ended conn o → IsHeardAt w r conn o.call
@@ -170,11 +189,9 @@ open_breaks look view w r ended conn o code l t broken none =
     let both = came_broken o.came code false ended conn broken t.came in
     breaks_by look view w r conn o.call code l (open_at w r ended conn o t) both.0 (ap (λ (x : Bool). view x o.call.answers) (sym both.1) ∙ none)
 
--- what went over the link in a turn
-pub turn_carries : (w0 w1 w2 : Option Wire) (c1 c2 c3 c4 : Reading) (room left : ℕ) → Exchange w0 w1 c1 c2 0 0 → Exchange w1 w2 c3 c4 room left → Carries w0 w2 room left
-turn_carries w0 w1 w2 c1 c2 c3 c4 room left x y = record {
-  given = x.given ++ y.given;
-  fed = x.fed ++ y.fed;
-  carries = goes_trans w0 w1 w2 x.given x.fed y.given y.fed x.carries y.carries;
-  count = let sum = length-append x.fed y.fed in omega (arith, sum, x.count, y.count);
-}
+-- what went over the link
+pub exchange_carries : (w0 w1 : Option Wire) (c d : Reading) (room left : ℕ) → Exchange w0 w1 c d room left → Carries w0 w1 room left
+exchange_carries w0 w1 c d room left x = record { given = x.given; fed = x.fed; carries = x.carries; count = x.count }
+
+pub flush_carries : (w0 w1 : Option Wire) (c d : Reading) (room : ℕ) → Exchange w0 w1 c d 0 0 → Carries w0 w1 room room
+flush_carries w0 w1 c d room x = record { given = x.given; fed = x.fed; carries = x.carries; count = omega (arith, x.count) }

@@ -56,3 +56,12 @@ pub record Drains (old new : Reading) (before now : Call) : Type 0 where
 -- its link and its connection can take another call
 abbrev pub alive_of : OpenCall → Bool
 alive_of o = is_piece o.came && not o.call.away
+
+-- a part of the request was given, and nothing else changed
+pub record Gives (old new : OpenCall) : Type 0 where
+  pub id : new.call.id ≡ old.call.id
+  pub answers : new.call.answers ≡ old.call.answers
+  pub place : new.call.place ≡ old.call.place
+  pub away : new.call.away ≡ old.call.away
+  pub room : new.room ≡ old.room
+  pub came : new.came ≡ old.came

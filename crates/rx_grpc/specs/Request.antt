@@ -1,5 +1,5 @@
 -- A request of one message (PROTOCOL-HTTP2.md of gRPC, "Requests").
-use Rattle.std.specs.Prelude.{ℕ, Bool, List, [], ◌∷◌, codes}
+use Rattle.std.specs.Prelude.{ℕ, ◌+◌, Bool, ◌&&◌, not, List, [], ◌∷◌, length, if◌then◌else◌, ◌==◌, codes}
 use Rattle.rx_hpack.specs.Header.{Field}
 
 abbrev pub field : List ℕ → List ℕ → Field
@@ -21,7 +21,15 @@ request_fields path authority =
     ∷ field (codes "build.bazel.remote.execution.v2.requestmetadata-bin") tool_details
     ∷ []
 
--- what is left to send, and whether its end was sent
+-- what is left to send of the message that is sent now, whether the request ends with it, and whether that end was sent
 pub record RequestOf : Type 0 where
   pub left : List ℕ
+  pub last : Bool
   pub done : Bool
+
+abbrev pub is_idle : RequestOf → Bool
+is_idle r = (length r.left == 0) && not r.last
+
+-- how much can still be taken of the messages that are left: each of them, and the end where it isn't known yet
+abbrev pub to_come : List (List ℕ) → RequestOf → ℕ
+to_come messages r = length messages + (if r.last then 0 else 1)

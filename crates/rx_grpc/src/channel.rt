@@ -9,7 +9,9 @@ ghost use Rattle.rx_grpc.specs.Streamed.{Begins, NextCause, NextFailsOn, NextsOn
 ghost use Rattle.rx_grpc.specs.declared.transfer_fault.TransferFault.TheVariants.{NoMemory as starved};
 
 use crate::answer::Answer;
+use crate::body::{Body, NoBody};
 use crate::headers::{framed_message, request_headers};
+use crate::request::Request;
 use crate::stream_item::StreamItem;
 use crate::transfer_fault::TransferFault;
 use crate::transport::Transport;
@@ -102,6 +104,7 @@ impl<D: Dial + Drop> Channel<D> {
         ensures ruled { IsRuled (D.rule self.new.dial) D.L.rule self.new.transport }
         ensures cause { HasCauseOn (D.faults self.old.dial) (D.faults self.new.dial) D.L.faults
             self.old.transport self.new.transport result }
+        ensures closed { OnOk result (is_answering self.new.transport ≡ false) }
     {
         let headers = request_headers(self.alloc, path, &self.authority)?;
         let body = framed_message(self.alloc, message)?;
@@ -109,7 +112,36 @@ impl<D: Dial + Drop> Channel<D> {
         let Some(transport) = &mut self.transport else {
             unreachable!()
         };
-        transport.unary(self.alloc, id, body)
+        transport.call(self.alloc, id, Request::new(body, true), &mut NoBody {})
+    }
+
+    /// A call of any number of messages that is answered by one: the messages of the body, each sent as soon as the windows let it
+    /// through, and the stream's end with the last of them. A server that answers before that ends the sending. A streamed answer
+    /// that is open is given up.
+    ///
+    /// Errors: as of `unary`.
+    pub fn upload<B: Body>(&mut self, path: &[u8], body: &mut B) -> Result<Answer, TransferFault>
+        requires { length path.now < 2 ^ 32 }
+        ensures answers { IfOk result (Answers D.L.wire D.L.rule D.L.ended self.old.transport
+            self.new.transport) }
+        ensures fails { IfErr result (Fails D.L.wire D.L.rule self.old.transport
+            self.new.transport) }
+        ensures stops { IfErr result (Stops self.new.transport) }
+        ensures ruled { IsRuled (D.rule self.new.dial) D.L.rule self.new.transport }
+        ensures cause { HasCauseOn (D.faults self.old.dial) (D.faults self.new.dial) D.L.faults
+            self.old.transport self.new.transport result }
+        ensures closed { OnOk result (is_answering self.new.transport ≡ false) }
+    {
+        let headers = request_headers(self.alloc, path, &self.authority)?;
+        let mut request = Request::new(Vec::new(self.alloc), body.is_done());
+        if request.is_idle() {
+            request.refill(self.alloc, body)?;
+        }
+        let id = self.open_stream(&headers)?;
+        let Some(transport) = &mut self.transport else {
+            unreachable!()
+        };
+        transport.call(self.alloc, id, request, body)
     }
 
     /// A call of one message that is answered by any number of messages. It opens the stream, and `next` does the rest.
@@ -131,7 +163,7 @@ impl<D: Dial + Drop> Channel<D> {
         let Some(transport) = &mut self.transport else {
             unreachable!()
         };
-        transport.begin(self.alloc, id, body);
+        transport.begin(self.alloc, id, Request::new(body, true));
         Ok(())
     }
 
@@ -154,7 +186,7 @@ impl<D: Dial + Drop> Channel<D> {
         let Some(transport) = &mut self.transport else {
             unreachable!()
         };
-        transport.next()
+        transport.next(self.alloc)
     }
 
     /// Opens the stream of a call, on the link that is kept or on a new one.

@@ -1,9 +1,10 @@
-//! gRPC over HTTP/2: calls of one message over links that are kept, and what a call hears of its answer. It has no socket: bytes
+//! gRPC over HTTP/2: calls over links that are kept, and what a call hears of its answer. It has no socket: bytes
 //! go over links of `rx_world`.
 #![tactic(auto)]
 
 mod answer;
 mod answers;
+mod body;
 mod call;
 mod came;
 mod channel;
@@ -25,6 +26,7 @@ mod turn;
 
 pub use answer::Answer;
 pub use answers::Answers;
+pub use body::Body;
 pub use channel::Channel;
 pub use end::End;
 pub use stream_item::StreamItem;

@@ -25,20 +25,19 @@ pub struct OpenCall {
 }
 
 impl OpenCall {
-    /// A call that has heard nothing, and of whose request nothing was sent.
-    pub fn new(alloc: Global, id: u32, body: Vec<u8>) -> OpenCall
+    /// A call that has heard nothing.
+    pub fn new(alloc: Global, id: u32, request: Request) -> OpenCall
         ensures id { result.call.id ≡ id }
         ensures answers { result.call.answers ≡ nothing }
         ensures place { result.call.place ≡ 0 }
         ensures away { result.call.away ≡ false }
-        ensures left { result.request.left ≡ body.items }
-        ensures done { result.request.done ≡ false }
+        ensures request { result.request ≡ request }
         ensures room { result.room ≡ 268435456 }
         ensures came { result.came ≡ Piece }
     {
         OpenCall {
             call: Call::new(alloc, id),
-            request: Request::new(body),
+            request,
             room: MOST_BYTES,
             came: Came::Piece,
         }

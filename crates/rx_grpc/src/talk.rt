@@ -15,6 +15,7 @@ ghost use Rattle.rx_grpc.specs.Transport.{opened_by};
 ghost use Rattle.rx_grpc.specs.declared.transfer_fault.TransferFault.TheVariants.{Link as lost};
 
 use crate::answer::Answer;
+use crate::body::{Body, NoBody};
 use crate::came::judge;
 use crate::open_call::OpenCall;
 use crate::stream_item::StreamItem;
@@ -22,6 +23,7 @@ use crate::transfer_fault::TransferFault;
 use crate::turn::turn;
 use rx_h2conn::Conn;
 use rx_world::Link;
+use std::alloc::Global;
 
 /// ENHANCE_YOUR_CALM (RFC 9113 7).
 const CALM: u32 = 11;
@@ -30,10 +32,12 @@ const CALM: u32 = 11;
 const MOST_MESSAGES: usize = 53_687_091;
 
 /// Takes turns until the bytes show the answer of a call of one message, or as many have come as it may take.
-pub fn answer_of<L: Link>(
+pub fn answer_of<L: Link, B: Body>(
+    alloc: Global,
     link: &mut L,
     conn: &mut Conn,
     opened: &mut OpenCall,
+    body: &mut B,
 ) -> Result<Answer, TransferFault>
     requires opened { IsOpen (L.wire link.old) (L.rule link.old) (L.ended link.old) conn.old
         opened.old }
@@ -49,7 +53,7 @@ pub fn answer_of<L: Link>(
     ensures cause { HasCauseOf lost (L.faults link.old) (L.faults link.new) result }
 {
     while opened.room > 0 {
-        turn(link, conn, opened)?;
+        turn(alloc, link, conn, opened, body)?;
         let shown = opened.call.answers.unary(opened.came.is_end());
         if let Some(done) = judge(shown, opened.came) {
             return done;
@@ -60,6 +64,7 @@ pub fn answer_of<L: Link>(
 
 /// Takes turns until the bytes show the next item, or as many have come as the call may take.
 fn item_behind_turns<L: Link>(
+    alloc: Global,
     link: &mut L,
     conn: &mut Conn,
     opened: &mut OpenCall,
@@ -78,7 +83,7 @@ fn item_behind_turns<L: Link>(
     ensures cause { HasCauseOf lost (L.faults link.old) (L.faults link.new) result }
 {
     while opened.room > 0 {
-        turn(link, conn, opened)?;
+        turn(alloc, link, conn, opened, &mut NoBody {})?;
         let shown = opened.call.next_item(opened.came.is_end());
         if let Some(done) = judge(shown, opened.came) {
             return done;
@@ -89,6 +94,7 @@ fn item_behind_turns<L: Link>(
 
 /// Hands out the next item: one that was heard already, or else what turns show.
 pub fn item_of<L: Link>(
+    alloc: Global,
     link: &mut L,
     conn: &mut Conn,
     opened: &mut OpenCall,
@@ -108,5 +114,5 @@ pub fn item_of<L: Link>(
     if let Some(done) = judge(shown, opened.came) {
         return done;
     }
-    item_behind_turns(link, conn, opened)
+    item_behind_turns(alloc, link, conn, opened)
 }

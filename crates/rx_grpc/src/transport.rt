@@ -15,7 +15,9 @@ ghost use Rattle.rx_grpc.specs.Transport.{IsStarted, takes};
 ghost use Rattle.rx_grpc.specs.declared.transfer_fault.TransferFault.TheVariants.{Link as lost, NoMemory as starved};
 
 use crate::answer::Answer;
+use crate::body::Body;
 use crate::open_call::OpenCall;
+use crate::request::Request;
 use crate::stream::next_stream;
 use crate::stream_item::StreamItem;
 use crate::talk::{answer_of, item_of};
@@ -114,8 +116,15 @@ impl<L: Link + Drop> Transport<L> {
         next_stream(&mut self.conn, self.unfinished, headers)
     }
 
-    /// Sends the body of a request on its stream, and waits for the answer.
-    pub fn unary(&mut self, alloc: Global, id: u32, body: Vec<u8>) -> Result<Answer, TransferFault>
+    /// Sends a request on its stream, with the messages of its body behind it, and waits for the answer.
+    pub fn call<B: Body>(
+        &mut self,
+        alloc: Global,
+        id: u32,
+        request: Request,
+        body: &mut B,
+    ) -> Result<Answer, TransferFault>
+        requires unsent { request.done ≡ false }
         requires alive { self.old.alive ≡ false }
         requires closed { self.old.opened ≡ None }
         requires started { IsStarted (L.wire self.old.link) (L.rule self.old.link)
@@ -130,28 +139,29 @@ impl<L: Link + Drop> Transport<L> {
         ensures rule { SameRule (L.rule self.old.link) (L.rule self.new.link) }
         ensures cause { HasCauseOf lost (L.faults self.old.link) (L.faults self.new.link) result }
     {
-        let mut opened = OpenCall::new(alloc, id, body);
-        let answer = answer_of(&mut self.link, &mut self.conn, &mut opened)?;
+        let mut opened = OpenCall::new(alloc, id, request);
+        let answer = answer_of(alloc, &mut self.link, &mut self.conn, &mut opened, body)?;
         self.alive = opened.is_alive();
         self.unfinished = opened.stream_left();
         Ok(answer)
     }
 
     /// Opens the streamed answer of a request whose stream was opened.
-    pub fn begin(&mut self, alloc: Global, id: u32, body: Vec<u8>)
+    pub fn begin(&mut self, alloc: Global, id: u32, request: Request)
+        requires unsent { request.done ≡ false }
         requires started { IsStarted (L.wire self.old.link) (L.rule self.old.link)
             (L.ended self.old.link) self.old.conn id }
         ensures link { self.new.link ≡ self.old.link }
         ensures opened { self.new.opened
             ≡ Some (record { id = id; place = 0; room = 268435456 }) }
     {
-        self.opened = Some(OpenCall::new(alloc, id, body));
+        self.opened = Some(OpenCall::new(alloc, id, request));
         self.unfinished = Some(id);
         self.alive = true;
     }
 
     /// Hands out the next item of the streamed answer that is open.
-    pub fn next(&mut self) -> Result<StreamItem, TransferFault>
+    pub fn next(&mut self, alloc: Global) -> Result<StreamItem, TransferFault>
         requires { is_some self.old.opened ≡ true }
         ensures next { IfOk result (Nexts L.wire L.rule L.ended self.old.opened self.old
             self.new) }
@@ -165,7 +175,7 @@ impl<L: Link + Drop> Transport<L> {
         let Some(mut opened) = self.opened.take() else {
             unreachable!()
         };
-        let item = item_of(&mut self.link, &mut self.conn, &mut opened)?;
+        let item = item_of(alloc, &mut self.link, &mut self.conn, &mut opened)?;
         self.alive = opened.is_alive();
         self.unfinished = opened.stream_left();
         if item.is_message() {

@@ -1,10 +1,5 @@
-use Rattle.std.proofs.Common.{refl}
-use Rattle.rx_grpc.proofs.TurnLemmas.{turned, turn_carries}
+use Rattle.rx_grpc.proofs.TalkLemmas.{carries_trans}
 use Rattle.rx_grpc.proofs.turn.turn.Goals as goal
 
-pub returns-clause-opened : goal.returns-clause-opened
-returns-clause-opened g c =
-    turned (g.L.Link.wire c.args.link.now) (g.L.Link.wire c.flush.new.link) (g.L.Link.wire c.take_in.new.link) (g.L.Link.rule c.args.link.now) (g.L.Link.rule c.flush.new.link) (g.L.Link.rule c.take_in.new.link) (g.L.Link.ended c.args.link.now) (g.L.Link.ended c.flush.new.link) (g.L.Link.ended c.take_in.new.link) c.args.conn.now c.push.new.conn c.flush.new.conn c.take_in.new.conn c.drain.new.conn c.args.opened.now _ c.in_ok-came.came _ _ c.requires.opened c.requires.piece c.in_ok-push.ensures.moves c.in_ok-push.ensures.held c.in_ok-flush.ensures.exchange c.in_ok-flush.ensures.meets c.in_ok-flush.ensures.held c.in_ok-flush.ensures.ended c.in_ok-came.ensures.exchange c.in_ok-came.ensures.meets c.in_ok-came.ensures.held c.in_ok-came.ensures.came c.in_ok-drain.ensures.drained c.in_ok-drain.ensures.none refl
-
 pub returns-clause-carries : goal.returns-clause-carries
-returns-clause-carries g c = turn_carries _ _ _ _ _ _ _ _ _ c.in_ok-flush.ensures.exchange c.in_ok-came.ensures.exchange
+returns-clause-carries g c = carries_trans _ _ _ _ _ _ c.in_ok-give_body.ensures.carries c.in_ok-hear.ensures.carries

@@ -1,12 +1,12 @@
 use Rattle.std.proofs.Common.{ap, ◌∙◌}
 use Rattle.rx_grpc.specs.Answer.{unary}
 use Rattle.rx_grpc.proofs.StreamLemmas.{left_at, none_open, ready_over, started_in, waits}
-use Rattle.rx_grpc.proofs.transport.Transport.unary.Goals as goal
+use Rattle.rx_grpc.proofs.transport.Transport.call.Goals as goal
 
 pub answer_of-requires-clause-opened : goal.answer_of-requires-clause-opened
 answer_of-requires-clause-opened g c =
     let started = started_in g.L.Link.wire g.L.Link.rule g.L.Link.ended _ c.args.self.now c.args.id c.self.view_is c.requires.started in
-    waits _ (g.L.Link.rule c.self.inside.link) _ _ c.new-opened.result c.args.id started c.new-opened.ensures.id c.new-opened.ensures.answers c.new-opened.ensures.place c.new-opened.ensures.away c.new-opened.ensures.done c.new-opened.ensures.came
+    waits _ (g.L.Link.rule c.self.inside.link) _ _ c.new-opened.result c.args.id started c.new-opened.ensures.id c.new-opened.ensures.answers c.new-opened.ensures.place c.new-opened.ensures.away (ap (λ r. r.done) c.new-opened.ensures.request ∙ c.requires.unsent) c.new-opened.ensures.came
 
 pub invariant_of-self-2 : goal.invariant_of-self-2
 invariant_of-self-2 g c = (
