@@ -1,6 +1,7 @@
-//! Calls over links in memory: of one message, and with streamed answers.
+//! Calls over links in memory: of one message, with streamed answers, and of several messages.
 
 use crate::cuts::write_answer;
+use crate::messages::Messages;
 use rx_fakes::{Ahead, MemoryDial, Script};
 use rx_grpc::{Channel, StreamItem, TransferFault};
 use rx_rows::{Answer, Row, RowFault};
@@ -142,6 +143,26 @@ impl Links {
             return Err(RowFault::BadCall);
         };
         match channel.unary(&path, &message) {
+            Ok(heard) => Ok(write_answer(Some(heard), answer)?),
+            Err(fault) => Ok(write_fault(fault, answer)?),
+        }
+    }
+
+    /// `upload PATH MESSAGE ..`.
+    pub(crate) fn upload(
+        &mut self,
+        row: &mut Row<'_>,
+        answer: &mut Answer,
+    ) -> Result<(), RowFault> {
+        let path = row.text(self.alloc)?;
+        let mut messages = Messages::read(self.alloc, row)?;
+        if path.len() > u32::MAX as usize {
+            return Err(RowFault::BadCall);
+        }
+        let Some(channel) = &mut self.channel else {
+            return Err(RowFault::BadCall);
+        };
+        match channel.upload(&path, &mut messages) {
             Ok(heard) => Ok(write_answer(Some(heard), answer)?),
             Err(fault) => Ok(write_fault(fault, answer)?),
         }

@@ -5,6 +5,7 @@ mod cuts;
 mod events;
 mod headers;
 mod links;
+mod messages;
 
 use crate::events::{bytes_event, list_event, number_32, read_last};
 use crate::headers::read_headers;
@@ -106,6 +107,7 @@ impl Calls for Grpc {
             b"link" => self.links.link(row, answer),
             b"channel" => self.links.channel(row, answer),
             b"call" => self.links.call(row, answer),
+            b"upload" => self.links.upload(row, answer),
             b"begin" => self.links.begin(row, answer),
             b"item" => self.links.item(answer),
             b"sent" => self.links.sent(true, answer),

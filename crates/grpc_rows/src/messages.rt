@@ -1,0 +1,64 @@
+//! Messages of a row, as the body of a call.
+
+use rx_base::{Bytes, NoMemory};
+use rx_grpc::Body;
+use rx_rows::{Row, RowFault};
+use std::alloc::Global;
+use std::collections::VecDeque;
+use std::marker::Model;
+
+/// Messages that are sent one after the other.
+#[derive(Drop)]
+pub(crate) struct Messages {
+    left: VecDeque<Bytes>,
+}
+
+impl Model for Messages {
+    ghost use Rattle.std.specs.Prelude.{List, ℕ};
+
+    ghost Value = { List (List ℕ) };
+
+    ghost use Rattle.std.specs.Prelude.{◌<◌, ◌^◌, length};
+    ghost use Rattle.std.specs.List.{All};
+
+    ghost view = { λ m. m.left.items };
+
+    ghost invariant = { λ m. All (λ message. length message < 2 ^ 32) m.left.items };
+}
+
+impl Messages {
+    /// The messages of the words that are left.
+    pub(crate) fn read(alloc: Global, row: &mut Row<'_>) -> Result<Messages, RowFault> {
+        let mut messages = Messages {
+            left: VecDeque::new(alloc),
+        };
+        for _ in 0..u32::MAX {
+            if row.is_done() {
+                break;
+            }
+            messages.add(Bytes::from_vec(row.bytes(alloc)?))?;
+        }
+        Ok(messages)
+    }
+
+    /// Adds a message.
+    fn add(&mut self, message: Bytes) -> Result<(), RowFault> {
+        if message.len() > u32::MAX as usize {
+            return Err(RowFault::BadCall);
+        }
+        self.left.push_back(message)?;
+        Ok(())
+    }
+}
+
+impl Body for Messages {
+    ghost messages = { λ m. m };
+
+    fn is_done(&self) -> bool {
+        self.left.is_empty()
+    }
+
+    fn next_message(&mut self) -> Result<Option<Bytes>, NoMemory> {
+        Ok(self.left.pop_front())
+    }
+}
