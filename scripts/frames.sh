@@ -71,11 +71,23 @@ reply_in_words() {
                 show(at + value, within[name], before name " ")
                 continue
             }
+            if (name == "faults") {
+                show_faults(at + value, before)
+                continue
+            }
             if (tag % 8 == 2) value = text(at + value)
             # the reasons of a reply are those of its kind, which comes first
             if (before name == "kind" && value in reasons) name_values("reason", 1, reasons[value])
             if ((before name, value) in words) value = words[before name, value]
             print before name ": " value
+        }
+    }
+    # packed numbers: a kind of fault times 256, and a code
+    function show_faults(end, before,    fault, kind) {
+        while (at < end) {
+            fault = varint()
+            kind = int(fault / 256)
+            print before "fault: " ((("fault", kind) in words) ? words["fault", kind] : kind) " " (fault % 256)
         }
     }
     function name_values(name, first, list,    values, i, n) {
@@ -92,7 +104,8 @@ reply_in_words() {
         reasons[2] = "word path"
         reasons[6] = "ScanFiles FileBytes ScanBytes ListFiles ListBytes"
         name_values("ends attempt", 1, "local remote")
-        within["ends"] = "attempt cause value path first second"
+        name_values("fault", 1, "status link http2 compressed too-large no-status bad-message cut blob-refused")
+        within["ends"] = "attempt cause value path first second faults bytes"
         within["first"] = within["second"] = "kind size mark_above mark_below digest executable"
         at = 5
         # a Done leaves its kind out, as every number that is 0
