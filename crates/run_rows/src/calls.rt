@@ -8,7 +8,7 @@ use crate::replies::show_number;
 use crate::requests::request_frame;
 use crate::runs::{Finished, run, serve};
 use rx_base::RelPath;
-use rx_engine::root_in;
+use rx_engine::options_in;
 use rx_row_values::read_path;
 use rx_rows::{Answer, Calls, Row, RowFault};
 use std::alloc::Global;
@@ -192,13 +192,19 @@ impl<'a, R: Wait> RunCalls<'a, R> {
         Ok(())
     }
 
-    /// `root WORDS`: the root in the words of a command line.
-    fn call_root(&self, row: &mut Row<'_>, answer: &mut Answer) -> Result<(), RowFault> {
+    /// `options WORDS`: what the words of a command line ask for.
+    fn call_options(&self, row: &mut Row<'_>, answer: &mut Answer) -> Result<(), RowFault> {
         let words = words_in(self.alloc, row)?;
-        match root_in(&words) {
-            Some(root) => answer.text(root.as_bytes())?,
+        let Some(options) = options_in(&words) else {
+            answer.word("none")?;
+            return Ok(());
+        };
+        answer.text(options.root.as_bytes())?;
+        match options.remote {
+            Some(remote) => answer.text(remote.as_bytes())?,
             None => answer.word("none")?,
         }
+        answer.text(options.instance.as_bytes())?;
         Ok(())
     }
 
@@ -232,7 +238,7 @@ impl<'a, R: Wait> Calls for RunCalls<'a, R> {
             | b"reads"
             | b"ends"
             | b"calls" => { show_after(self.alloc, self.last_run()?, word, row, answer) }
-            b"root" => self.call_root(row, answer),
+            b"options" => self.call_options(row, answer),
             _ => {
                 self.call_plans(word, row)?;
                 answer.word("ok")?;

@@ -11,6 +11,7 @@ mod LegalLemmas
 mod LostRuns
 mod Mirrors
 mod Moves
+mod PortLemmas
 mod Quiet
 mod ReadyLemmas
 mod ReplyMoves

@@ -1,6 +1,8 @@
+pub mod Addresses
 pub mod Answered
 pub mod Answers
 pub mod Attempts
+pub mod Cuts
 pub mod Fronts
 pub mod Gathers
 pub mod Honest

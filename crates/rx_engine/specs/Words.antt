@@ -1,17 +1,77 @@
--- The words of the command line: `exec --root PATH`.
-use Rattle.std.specs.Prelude.{ℕ, List, [], ◌∷◌, Option, None, Some, String, codes, if◌then◌else◌, nat_eq, not, string_bytes}
-use Rattle.std.specs.List.{starts_with}
+-- The words of the command line: `exec`, and options in any order, each once at most.
+use Rattle.std.specs.Prelude.{ℕ, List, [], ◌∷◌, Bool, Option, None, Some, option_map, String, codes, if◌then◌else◌, length, nat_lt, string_bytes}
+use Rattle.std.specs.Option.{option_and_then, unwrap_or}
 use Rattle.std.specs.Str.{bytes_eq}
+use Rattle.rx_engine.specs.Addresses.{is_address}
+use Rattle.rx_engine.specs.Cuts.{after, before, begins, has}
 
--- the root in three texts
-abbrev pub root_of_three : List ℕ → List ℕ → List ℕ → Option (List ℕ)
-root_of_three command option path =
-    if not (bytes_eq command (codes "exec")) then None
-    else if not (bytes_eq option (codes "--root")) then None
-    else if not (starts_with nat_eq path (codes "/")) then None
-    else Some path
+-- what the words ask for
+pub record Options : Type 0 where
+  pub root : List ℕ
+  pub remote : Option (List ℕ)
+  pub instance : List ℕ
 
--- the root in the words, where they are these three
+-- the values that options have so far, and the name whose value is the next word
+pub record Given : Type 0 where
+  pub root : Option (List ℕ)
+  pub remote : Option (List ℕ)
+  pub instance : Option (List ℕ)
+  pub waiting : Option (List ℕ)
+
+abbrev pub nothing_given : Given
+nothing_given = record { root = None; remote = None; instance = None; waiting = None }
+
+-- an option that has no value yet gets one that fits
+abbrev pub once : Option (List ℕ) → Bool → List ℕ → Option (List ℕ)
+once None fits value = if fits then Some value else None
+once (Some given) fits value = None
+
+-- an option and its value: --root PATH, --remote HOST:PORT or --instance NAME
+unfoldable pub with_option : Given → List ℕ → List ℕ → Option Given
+with_option given name value =
+    if bytes_eq name (codes "--root") then
+    option_map (λ root. record { root = Some root; remote = given.remote; instance = given.instance; waiting = None })
+    (once given.root (begins value (codes "/")) value)
+    else if bytes_eq name (codes "--remote") then
+    option_map (λ remote. record { root = given.root; remote = Some remote; instance = given.instance; waiting = None })
+    (once given.remote (is_address value) value)
+    else if bytes_eq name (codes "--instance") then
+    option_map (λ instance. record { root = given.root; remote = given.remote; instance = Some instance; waiting = None })
+    (once given.instance (nat_lt 0 (length value)) value)
+    else None
+
+abbrev pub equals_sign : ℕ
+equals_sign = 61
+
+-- a word behind a name is its value, unless it begins with a dash; else it is NAME=VALUE, or a name
+abbrev pub with_word_by : Option (List ℕ) → Given → List ℕ → Option Given
+with_word_by (Some name) given word = if begins word (codes "-") then None else with_option given name word
+with_word_by None given word =
+    if has equals_sign word then with_option given (before equals_sign word) (after equals_sign word)
+    else Some (record { root = given.root; remote = given.remote; instance = given.instance; waiting = Some word })
+
+unfoldable pub with_word : Given → List ℕ → Option Given
+with_word given word = with_word_by given.waiting given word
+
+-- the words one after the other
+abbrev pub with_words : {A : Type 0} → Given → List (String A) → Option Given
+with_words given [] = Some given
+with_words given (word ∷ words) = option_and_then (λ more. with_words more words) (with_word given (string_bytes word))
+
+-- a root is wanted, and no name may lack its value; the instance is empty by default
+abbrev pub options_by : Option (List ℕ) → Option (List ℕ) → Given → Option Options
+options_by None (Some root) given = Some (record { root = root; remote = given.remote; instance = unwrap_or given.instance [] })
+options_by waiting root given = None
+
+abbrev pub options_of : Given → Option Options
+options_of given = options_by given.waiting given.root given
+
+-- what the words ask for, where they are in the grammar
+unfoldable pub options_in : {A : Type 0} → List (String A) → Option Options
+options_in [] = None
+options_in (command ∷ words) =
+    if bytes_eq (string_bytes command) (codes "exec") then option_and_then options_of (with_words nothing_given words) else None
+
+-- the root that they ask for
 abbrev pub root_in : {A : Type 0} → List (String A) → Option (List ℕ)
-root_in (command ∷ option ∷ path ∷ []) = root_of_three (string_bytes command) (string_bytes option) (string_bytes path)
-root_in words = None
+root_in words = option_map (λ options. options.root) (options_in words)

@@ -1,25 +1,154 @@
 //! The words of the program's command line.
 
 ghost use Rattle.std.specs.Prelude.{◌≡◌, option_copied};
-ghost use Rattle.rx_engine.specs.Words.{root_in};
+ghost use Rattle.rx_engine.specs.Cuts.{begins};
+ghost use Rattle.rx_engine.specs.Words.{nothing_given, once, options_in, root_in, with_option, with_word, with_words};
 
-/// The root in the words `exec --root PATH`, where PATH begins with a slash.
+use crate::addresses::is_address;
+use std::marker::Model;
+
+/// The options of `reproxy exec`.
+#[derive(Debug, Drop)]
+pub struct Options<'a> {
+    /// The directory of the source tree and of the outputs, which begins with a slash.
+    pub root: &'a str,
+    /// Where the farm listens, as `HOST:PORT`.
+    pub remote: Option<&'a str>,
+    /// The farm's instance; empty, unless one is named.
+    pub instance: &'a str,
+}
+
+impl<'a> Model for Options<'a> {
+    ghost use Rattle.std.specs.Prelude.{option_copied};
+    ghost use Rattle.rx_engine.specs.Words.{Options};
+
+    ghost Value = { Options };
+
+    ghost view = { λ o. record {
+      root = o.root.now;
+      remote = option_copied o.remote;
+      instance = o.instance.now;
+    } };
+}
+
+/// What the words so far gave.
+#[derive(Debug, Drop)]
+struct Given<'a> {
+    root: Option<&'a str>,
+    remote: Option<&'a str>,
+    instance: Option<&'a str>,
+    /// The name of an option whose value is the next word.
+    waiting: Option<&'a str>,
+}
+
+impl<'a> Model for Given<'a> {
+    ghost use Rattle.std.specs.Prelude.{option_copied};
+    ghost use Rattle.rx_engine.specs.Words.{Given};
+
+    ghost Value = { Given };
+
+    ghost view = { λ g. record {
+      root = option_copied g.root;
+      remote = option_copied g.remote;
+      instance = option_copied g.instance;
+      waiting = option_copied g.waiting;
+    } };
+}
+
+fn begins(text: &str, front: &[u8]) -> bool
+    ensures { result ≡ begins text.now front.now }
+{
+    text.as_bytes().starts_with(front)
+}
+
+/// The value of an option that has none yet, where it fits.
+fn once<'a>(given: Option<&'a str>, fits: bool, value: &'a str) -> Option<&'a str>
+    ensures { option_copied result ≡ once (option_copied given.entry) fits value.now }
+{
+    match given {
+        None if fits => Some(value),
+        _ => None,
+    }
+}
+
+/// What was given, with one more option.
+#[tactic(auto, unfolding(crate::specs::Words::with_option))]
+fn with_option<'a>(given: Given<'a>, name: &str, value: &'a str) -> Option<Given<'a>>
+    ensures { result ≡ with_option given.entry name.now value.now }
+{
+    let mut given = given;
+    given.waiting = None;
+    match name {
+        "--root" => given.root = Some(once(given.root, begins(value, b"/"), value)?),
+        "--remote" => given.remote = Some(once(given.remote, is_address(value), value)?),
+        "--instance" => given.instance = Some(once(given.instance, !value.is_empty(), value)?),
+        _ => return None,
+    }
+    Some(given)
+}
+
+/// What was given, with one more word.
+#[tactic(auto, unfolding(crate::specs::Words::with_word))]
+fn with_word<'a>(given: Given<'a>, word: &'a str) -> Option<Given<'a>>
+    ensures { result ≡ with_word given.entry word.now }
+{
+    if let Some(name) = given.waiting {
+        if begins(word, b"-") {
+            return None;
+        }
+        return with_option(given, name, word);
+    }
+    match word.split_once('=') {
+        Some((name, value)) => with_option(given, name, value),
+        None => Some(Given {
+            waiting: Some(word),
+            ..given
+        }),
+    }
+}
+
+/// What the words behind the command give.
+fn given_in(words: &[String]) -> Option<Given<'_>>
+    ensures { result ≡ with_words nothing_given words.now }
+{
+    let mut given = Given {
+        root: None,
+        remote: None,
+        instance: None,
+        waiting: None,
+    };
+    let mut rest = words;
+    while let Some((word, others)) = rest.split_first() {
+        given = with_word(given, word.as_str())?;
+        rest = others;
+    }
+    Some(given)
+}
+
+/// What the words of a command line ask for: `exec --root PATH [--remote HOST:PORT] [--instance
+/// NAME]`, the options in any order, each as two words or as `--name=value`.
+#[tactic(auto, unfolding(crate::specs::Words::options_in))]
+pub fn options_in(words: &[String]) -> Option<Options<'_>>
+    ensures { result ≡ options_in words.now }
+{
+    let (command, rest) = words.split_first()?;
+    if command.as_str() != "exec" {
+        return None;
+    }
+    let given = given_in(rest)?;
+    if given.waiting.is_some() {
+        return None;
+    }
+    Some(Options {
+        root: given.root?,
+        remote: given.remote,
+        instance: given.instance.unwrap_or(""),
+    })
+}
+
+/// The root in the words of a command line.
 pub fn root_in(words: &[String]) -> Option<&str>
     ensures { option_copied result ≡ root_in words.now }
 {
-    match words {
-        [command, option, path] => {
-            if command.as_str() != "exec" {
-                return None;
-            }
-            if option.as_str() != "--root" {
-                return None;
-            }
-            if !path.as_str().as_bytes().starts_with(b"/") {
-                return None;
-            }
-            Some(path.as_str())
-        }
-        _ => None,
-    }
+    Some(options_in(words)?.root)
 }
