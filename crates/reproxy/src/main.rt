@@ -1,7 +1,8 @@
 //! The proxy program: it reads its words, makes the parts of the outside and serves.
 #![tactic(auto)]
 
-mod host;
+mod desk;
+mod farm;
 mod remote_words;
 mod serve;
 #[cfg(test)]

@@ -5,14 +5,13 @@ ghost use Rattle.rx_engine.specs.Meanings.{meanings};
 ghost use Rattle.rx_engine.specs.Words.{root_in};
 ghost use Rattle.reproxy.specs.Serves.{ServesDesk};
 
-use crate::host::{
-    HostBench, HostBenches, HostFront, HostPlace, HostSink, HostSource, HostSources, HostWorld,
-    NoFarm,
-};
+use crate::desk::HostFront;
+use crate::farm::{HostFarm, farm_for};
 use rx_board::JOURNAL_LIMIT;
-use rx_engine::{Parts, Ran, root_in, run_proxy};
+use rx_engine::{Options, Parts, Ran, options_in, run_proxy};
 use rx_exec_messages::Caller;
-use rx_world::{Bench, BenchMaker, Sink, Source, Sources, World};
+use rx_host::{HostBench, HostBenches, HostPlace, HostSink, HostSource, HostSources, HostWorld};
+use rx_world::{Bench, BenchMaker, Place, Sink, Source, Sources, World};
 use std::alloc::AllocError;
 use std::io::{Print, Read};
 use std::process;
@@ -30,6 +29,14 @@ pub(crate) type HostRan<I, O> = Ran<
     HostFront<HostRuntime, I, O>,
     HostPlace<HostRuntime>,
 >;
+
+/// The directory of the place.
+fn place_root<'a>(options: &Option<Options<'a>>) -> &'a str {
+    match options {
+        Some(options) => options.root,
+        None => NO_ROOT,
+    }
+}
 
 /// Serves what the words ask for, by one desk over these streams. The lock of the digests may wait,
 /// which `wait` allows.
@@ -51,29 +58,27 @@ pub(crate) fn serve<I: Read + Send + Drop, O: Print + Send + Drop>(
         ⟦<HostSources<HostRuntime> as Sources<HostWorld>>⟧
         ⟦<HostBenches<HostRuntime> as BenchMaker<HostWorld>>⟧
         ⟦<HostBench<HostRuntime> as Bench<HostWorld>>⟧
-        ⟦<HostSources<HostRuntime> as Sources<HostWorld>>⟧ ⟦<NoFarm as Caller<HostWorld>>⟧)
-        (λ desk. desk.input.input ≡ input) root JOURNAL_LIMIT ran.place.faults.count
+        ⟦<HostSources<HostRuntime> as Sources<HostWorld>>⟧ ⟦<HostFarm as Caller<HostWorld>>⟧)
+        (λ desk. desk.input.input ≡ input) root JOURNAL_LIMIT
+        (⟦<HostPlace<HostRuntime> as Place>⟧.faults ran.place)
         ran.front.desk ran.status ran.journal.items ran.desks.items ran.transcripts.items)) }
 {
     let alloc = rt.alloc();
     let process = process::id(rt.process());
-    let root = root_in(words);
-    let desk = match root {
-        Some(root) => Some(Parts {
+    let options = options_in(words);
+    let desk = match &options {
+        Some(options) => Some(Parts {
             input: HostSource::new(input),
             output: HostSink::new(output),
-            tree: HostSources::new(rt, String::from_str(alloc, root)?),
-            tree_local: HostSources::new(rt, String::from_str(alloc, root)?),
+            tree: HostSources::new(rt, String::from_str(alloc, options.root)?),
+            tree_local: HostSources::new(rt, String::from_str(alloc, options.root)?),
             benches: HostBenches::new(rt, String::from_str(alloc, SCRATCH)?, process),
-            tree_remote: HostSources::new(rt, String::from_str(alloc, root)?),
-            farm: NoFarm::new(),
+            tree_remote: HostSources::new(rt, String::from_str(alloc, options.root)?),
+            farm: farm_for(rt, options)?,
         }),
         None => None,
     };
-    let place = HostPlace::new(
-        rt,
-        String::from_str(alloc, root.unwrap_or(NO_ROOT))?,
-        process,
-    );
+    let root = place_root(&options);
+    let place = HostPlace::new(rt, String::from_str(alloc, root)?, process);
     Ok(run_proxy::<HostWorld, _, _>(wait, alloc, words, HostFront { desk }, place))
 }

@@ -4,10 +4,15 @@ ghost use Rattle.std.specs.Prelude.{◌≡◌};
 ghost use Rattle.reproxy.specs.Words.{is_help};
 
 /// What `--help` prints.
-pub(crate) const USAGE: &str = "usage: reproxy exec --root PATH
+pub(crate) const USAGE: &str =
+    "usage: reproxy exec --root PATH [--remote HOST:PORT] [--instance NAME]
 Serves one request: its frame comes from standard input, the reply goes to standard output.
-PATH begins with a slash. Its files are the source tree and the place for outputs.
-No farm can be reached yet: a remote attempt fails, and standard error tells why.
+  --root PATH         the source tree, and the place for outputs; PATH begins with a slash
+  --remote HOST:PORT  the farm; default: none, and each remote attempt fails
+  --instance NAME     the farm's instance; default: the one without a name
+The options come in any order, each once at most, as two words or as --name=VALUE. A VALUE that
+begins with a dash needs the second form.
+No farm can be asked yet: a remote attempt fails, and standard error tells why.
 ";
 
 /// Whether the words are `--help` alone.

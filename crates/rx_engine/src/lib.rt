@@ -21,4 +21,4 @@ pub use desk::{Desk, Front, Parts};
 pub use proxy::{Ran, run_proxy};
 pub use sessions::{Shared, serve_session};
 pub use transcripts::{Ending, Transcript};
-pub use words::{Options, options_in, root_in};
+pub use words::{Options, options_in};

@@ -147,7 +147,7 @@ pub fn options_in(words: &[String]) -> Option<Options<'_>>
 }
 
 /// The root in the words of a command line.
-pub fn root_in(words: &[String]) -> Option<&str>
+pub(crate) fn root_in(words: &[String]) -> Option<&str>
     ensures { option_copied result ≡ root_in words.now }
 {
     Some(options_in(words)?.root)

@@ -1,6 +1,6 @@
 //! The files at or below a path of the host, in the order of their paths' bytes.
 
-use super::files::HostSources;
+use crate::files::HostSources;
 use rx_base::{Items, PathFault, RelPath};
 use rx_world::{Found, Look};
 use std::alloc::{AllocError, Global};
@@ -16,7 +16,7 @@ type Waiting = BTreeMap<String, Look>;
 
 impl<R: Files + AllocGlobal + Clone + Drop> HostSources<R> {
     /// The files at or below a path: at most one more than `most`.
-    pub(super) fn list_at(&self, under: &RelPath, most: usize) -> io::Result<Items<Found>> {
+    pub(crate) fn list_at(&self, under: &RelPath, most: usize) -> io::Result<Items<Found>> {
         let alloc = self.tree.runtime().alloc();
         let mut found = Vec::new(alloc);
         let mut waiting = self.begin(alloc, under)?;

@@ -7,7 +7,7 @@ use rx_world::World;
 /// The world that the host's files and programs are a part of. Neither its stamps nor its tools are
 /// claimed to be honest, so its content and its tool say nothing.
 #[derive(Debug, Drop)]
-pub(crate) struct HostWorld;
+pub struct HostWorld;
 
 impl World for HostWorld {
     ghost content = { λ path stamp. [] };

@@ -3,12 +3,9 @@
 ghost use Rattle.std.specs.Prelude.{Some};
 ghost use Rattle.std.specs.Option.{option_to_list};
 
-use super::benches::HostBenches;
-use super::files::HostSources;
-use super::no_farm::NoFarm;
-use super::streams::{HostSink, HostSource};
-use super::world::HostWorld;
+use crate::farm::HostFarm;
 use rx_engine::{Front, Parts};
+use rx_host::{HostBenches, HostSink, HostSource, HostSources, HostWorld};
 use rx_world::Failed;
 use std::fs::Files;
 use std::io::{Print, Read};
@@ -22,7 +19,7 @@ pub(crate) type HostDesk<R, I, O> = Parts<
     HostSources<R>,
     HostBenches<R>,
     HostSources<R>,
-    NoFarm,
+    HostFarm,
 >;
 
 /// Gives its desk, if it has one, and then no more. It never fails.

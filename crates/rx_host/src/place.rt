@@ -2,9 +2,9 @@
 
 ghost use Rattle.std.specs.Prelude.{◌≡◌, None};
 
-use super::below::Below;
-use super::faults::Faults;
-use super::names::FreshNames;
+use crate::below::Below;
+use crate::faults::Faults;
+use crate::names::FreshNames;
 use rx_base::RelPath;
 use rx_world::{Failed, Place};
 use std::fs::Files;
@@ -17,7 +17,7 @@ const WRITE_TRIES: u32 = 4096;
 /// The files below a root directory. A new file is written beside its target, with mode 0755 or
 /// 0644, and renamed, so that its path has the old file or the new one at any time.
 #[derive(Drop)]
-pub(crate) struct HostPlace<R> {
+pub struct HostPlace<R> {
     tree: Below<R>,
     names: FreshNames,
     faults: Faults,
@@ -25,8 +25,8 @@ pub(crate) struct HostPlace<R> {
 
 impl<R: Files + AllocGlobal> HostPlace<R> {
     /// The files below this directory, for the process with this number.
-    pub(crate) fn new(rt: R, root: String, process: u32) -> HostPlace<R>
-        ensures { result.faults.count ≡ 0 }
+    pub fn new(rt: R, root: String, process: u32) -> HostPlace<R>
+        ensures { ⟦<HostPlace<R> as Place>⟧.faults result ≡ 0 }
     {
         HostPlace {
             tree: Below::new(rt, root),

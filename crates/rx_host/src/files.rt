@@ -3,10 +3,10 @@
 ghost use Rattle.std.specs.Prelude.{◌≡◌, [], None, IfOk};
 ghost use Rattle.rx_world.specs.Sources.{HasBytes};
 
-use super::below::Below;
-use super::faults::Faults;
-use super::looks::{content_mark, look_with, time_mark};
-use super::world::HostWorld;
+use crate::below::Below;
+use crate::faults::Faults;
+use crate::looks::{content_mark, look_with, time_mark};
+use crate::world::HostWorld;
 use rx_base::{Bytes, Items, RelPath};
 use rx_world::{Failed, Found, Look, Refused, Sources};
 use std::fs::{Files, Metadata};
@@ -15,14 +15,14 @@ use std::io;
 /// The files below a root directory. A link is Other and is never followed. Nothing stands below
 /// what is no directory.
 #[derive(Drop)]
-pub(crate) struct HostSources<R> {
-    pub(super) tree: Below<R>,
+pub struct HostSources<R> {
+    pub(crate) tree: Below<R>,
     faults: Faults,
 }
 
 impl<R: Files + AllocGlobal + Clone + Drop> HostSources<R> {
     /// The files below this directory.
-    pub(crate) fn new(rt: R, root: String) -> HostSources<R> {
+    pub fn new(rt: R, root: String) -> HostSources<R> {
         HostSources {
             tree: Below::new(rt, root),
             faults: Faults::new(),
@@ -36,7 +36,7 @@ impl<R: Files + AllocGlobal + Clone + Drop> HostSources<R> {
     }
 
     /// The look of a path that the system tells this of. The content is read only for its mark.
-    pub(super) fn look_of(&self, path: &RelPath, metadata: Option<&Metadata>) -> io::Result<Look> {
+    pub(crate) fn look_of(&self, path: &RelPath, metadata: Option<&Metadata>) -> io::Result<Look> {
         match time_mark_of(metadata) {
             Some(mark) => Ok(look_with(metadata, mark)),
             None => Ok(self.read_at(path)?.0),

@@ -1,27 +1,34 @@
-//! A farm's client without a connection.
+//! A farm's client that asks nothing.
 
 ghost use Rattle.std.specs.Prelude.{◌≡◌, ◌≤◌, [], None};
 ghost use Rattle.rx_world.specs.declared.call_faults.CallFault.TheVariants.{Link as link};
 ghost use Rattle.rx_world.specs.declared.versions.Dialect.TheVariants.{New as new_dialect};
 ghost use Rattle.rx_world.specs.Causes.{Rose};
 
-use super::faults::Faults;
-use super::world::HostWorld;
+use crate::dial::HostDial;
+use crate::faults::Faults;
+use crate::world::HostWorld;
 use rx_base::{Bytes, Digest, Items};
 use rx_exec_messages::{Caller, Capabilities, NamedBlob, Operation};
 use rx_messages::ActionResult;
-use rx_world::CallFault;
+use rx_world::{CallFault, Dial};
+use std::io::Eprint;
+use std::net::{Net, TcpStream};
+use std::time::Clock;
 
-/// A client that has no farm to ask. Each call is a counted fault of the connection, so a remote
-/// attempt ends with four of them, and nothing of it leaves the machine.
-#[derive(Debug, Drop)]
-pub(crate) struct NoFarm {
+/// A client that connects, as told, and asks nothing over the connection: each call is a counted
+/// fault of it. So a remote attempt ends with four of them, and nothing of it leaves the machine.
+#[derive(Drop)]
+pub struct NoFarm<R> {
+    dial: HostDial<R>,
     faults: Faults,
 }
 
-impl NoFarm {
-    pub(crate) fn new() -> NoFarm {
+impl<R: Net<Stream = TcpStream> + Clock + Eprint> NoFarm<R> {
+    /// No fault yet.
+    pub fn new(dial: HostDial<R>) -> NoFarm<R> {
         NoFarm {
+            dial,
             faults: Faults::new(),
         }
     }
@@ -32,12 +39,13 @@ impl NoFarm {
         ensures later { self.old.faults.count ≤ self.new.faults.count }
         ensures rose { Rose self.old.faults.count self.new.faults.count }
     {
+        let _ = self.dial.dial();
         self.faults.raise();
         CallFault::Link
     }
 }
 
-impl Caller<HostWorld> for NoFarm {
+impl<R: Net<Stream = TcpStream> + Clock + Eprint> Caller<HostWorld> for NoFarm<R> {
     ghost conversation = { λ c. None };
 
     ghost vouches = { λ c digest command outcome. ⊥ };

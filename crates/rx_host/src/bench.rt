@@ -2,10 +2,10 @@
 
 ghost use Rattle.std.specs.Prelude.{◌≡◌, None, IfOk, IfSome};
 
-use super::below::Below;
-use super::faults::Faults;
-use super::looks::is_executable;
-use super::world::HostWorld;
+use crate::below::Below;
+use crate::faults::Faults;
+use crate::looks::is_executable;
+use crate::world::HostWorld;
 use rx_base::{Bytes, RelPath, TryClone};
 use rx_world::{Bench, Command, Exit, Failed, FileOut, Refused};
 use std::fs::Files;
@@ -15,14 +15,14 @@ use std::{io, process};
 
 /// A staged directory. A command runs in it as this user, and nothing holds it in there.
 #[derive(Drop)]
-pub(crate) struct HostBench<R> {
+pub struct HostBench<R> {
     tree: Below<R>,
-    pub(super) faults: Faults,
+    pub(crate) faults: Faults,
 }
 
 impl<R: Files + Processes + AllocGlobal> HostBench<R> {
     /// The bench of an empty directory.
-    pub(super) fn new(rt: R, root: String) -> HostBench<R>
+    pub(crate) fn new(rt: R, root: String) -> HostBench<R>
         ensures { result.faults.count ≡ 0 }
     {
         HostBench {
@@ -32,7 +32,7 @@ impl<R: Files + Processes + AllocGlobal> HostBench<R> {
     }
 
     /// The staged directory.
-    pub(super) fn root(&self) -> &str {
+    pub(crate) fn root(&self) -> &str {
         self.tree.root()
     }
 

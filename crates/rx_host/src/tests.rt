@@ -1,7 +1,7 @@
 //! The adapters on real files and programs, below directories of their own.
 
-use super::looks::content_mark;
-use super::{HostBenches, HostPlace, HostSink, HostSource, HostSources};
+use crate::looks::content_mark;
+use crate::{HostBenches, HostPlace, HostSink, HostSource, HostSources};
 use rx_base::{Items, RelPath, Text};
 use rx_world::{
     Bench, BenchMaker, Command, Failed, Found, Look, Pair, Place, Refused, Sink, Source, Sources,

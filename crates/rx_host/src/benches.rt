@@ -2,10 +2,10 @@
 
 ghost use Rattle.std.specs.Prelude.{◌≡◌, None, IfOk};
 
-use super::bench::HostBench;
-use super::faults::Faults;
-use super::names::FreshNames;
-use super::world::HostWorld;
+use crate::bench::HostBench;
+use crate::faults::Faults;
+use crate::names::FreshNames;
+use crate::world::HostWorld;
 use rx_world::{BenchMaker, Failed};
 use std::fs::{DirBuilder, Files};
 use std::io::{Error, ErrorKind};
@@ -21,7 +21,7 @@ const STAGED_MODE: u32 = 0o700;
 
 /// Makes staged directories, and removes each with all below it once its bench comes back.
 #[derive(Drop)]
-pub(crate) struct HostBenches<R> {
+pub struct HostBenches<R> {
     rt: R,
     scratch: String,
     names: FreshNames,
@@ -30,7 +30,7 @@ pub(crate) struct HostBenches<R> {
 
 impl<R: Files + Processes + AllocGlobal + Clone + Drop> HostBenches<R> {
     /// A maker of directories below this one, for the process with this number.
-    pub(crate) fn new(rt: R, scratch: String, process: u32) -> HostBenches<R> {
+    pub fn new(rt: R, scratch: String, process: u32) -> HostBenches<R> {
         HostBenches {
             rt,
             scratch,

@@ -4,7 +4,7 @@
 
 ghost use Rattle.std.specs.Prelude.{◌≡◌, None, IfSome};
 ghost use Rattle.rx_world.specs.declared.looks.Look.TheVariants.{Absent};
-ghost use Rattle.reproxy.specs.Looks.{look_of, owner_executes};
+ghost use Rattle.rx_host.specs.Looks.{look_of, owner_executes};
 
 use rx_base::digest_of;
 use rx_world::{Look, Stamp};

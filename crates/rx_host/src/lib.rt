@@ -1,0 +1,36 @@
+//! The outside as the machine has it: files, child programs, the standard streams and connections.
+//! Each adapter counts its faults and tells nothing of contents, but for the input, which tells what
+//! its reader tells. So what the machine does is trusted, and no contract speaks of it.
+#![tactic(auto)]
+
+mod below;
+mod bench;
+mod benches;
+mod dial;
+mod faults;
+mod files;
+mod link;
+#[cfg(test)]
+mod link_tests;
+mod listing;
+mod looks;
+mod names;
+mod no_farm;
+mod pieces;
+mod place;
+mod seeds;
+mod streams;
+#[cfg(test)]
+mod tests;
+mod world;
+
+pub use bench::HostBench;
+pub use benches::HostBenches;
+pub use dial::HostDial;
+pub use files::HostSources;
+pub use link::HostLink;
+pub use no_farm::NoFarm;
+pub use place::HostPlace;
+pub use seeds::draw_seed;
+pub use streams::{HostSink, HostSource};
+pub use world::HostWorld;

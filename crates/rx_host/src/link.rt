@@ -1,0 +1,67 @@
+//! A connection to a farm over TCP. Nothing is told of its bytes.
+
+ghost use Rattle.std.specs.Prelude.{◌≡◌, IfOk, None, false};
+
+use crate::faults::Faults;
+use crate::pieces::{read_some, write_some};
+use rx_world::{Failed, Link};
+use std::io;
+use std::net::TcpStream;
+use std::time::Duration;
+
+/// How long a call waits for the farm's next bytes, or for the farm to take some. Then it is a fault
+/// of the link, so that a farm that died without a word doesn't hold up a build.
+pub(crate) const SILENCE_SECONDS: u64 = 600;
+
+/// One connection over TCP. What is sent leaves at once (no algorithm of Nagle, RFC 9293 3.7.4).
+#[derive(Debug, Drop)]
+pub struct HostLink {
+    pub(crate) stream: TcpStream,
+    pub(crate) ended: bool,
+    pub(crate) faults: Faults,
+}
+
+impl HostLink {
+    /// The link over a connection that nothing was sent or received on.
+    pub(crate) fn new(stream: TcpStream) -> io::Result<HostLink>
+        ensures ended { IfOk result (λ link. link.ended ≡ false) }
+        ensures faults { IfOk result (λ link. link.faults.count ≡ 0) }
+    {
+        let limit = Some(Duration::from_secs(SILENCE_SECONDS));
+        stream.set_nodelay(true)?;
+        stream.set_read_timeout(limit)?;
+        stream.set_write_timeout(limit)?;
+        Ok(HostLink {
+            stream,
+            ended: false,
+            faults: Faults::new(),
+        })
+    }
+}
+
+impl Link for HostLink {
+    ghost wire = { λ l. None };
+
+    ghost ended = { λ l. l.ended };
+
+    ghost rule = { λ l sent received. Unit {0} };
+
+    ghost faults = { λ l. l.faults.count };
+
+    fn send(&mut self, piece: &[u8]) -> Result<usize, Failed> {
+        match write_some(&mut self.stream, piece) {
+            Ok(count) => Ok(count),
+            Err(error) => Err(self.faults.failed(error)),
+        }
+    }
+
+    fn receive(&mut self, into: &mut [u8]) -> Result<usize, Failed> {
+        match read_some(&mut self.stream, into) {
+            Ok(count) => {
+                self.ended = self.ended || count == 0 && !into.is_empty();
+                Ok(count)
+            }
+            Err(error) => Err(self.faults.failed(error)),
+        }
+    }
+}
