@@ -13,3 +13,7 @@ pub mod TalkLemmas
 pub mod HandLemmas
 pub mod GiveLemmas
 pub mod StreamLemmas
+pub mod EachLemmas
+pub mod CallerLemmas
+pub mod BatchLemmas
+pub mod RefusedLemmas

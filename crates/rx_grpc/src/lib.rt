@@ -1,20 +1,31 @@
 //! gRPC over HTTP/2: calls over links that are kept, and what a call hears of its answer. It has no socket: bytes
 //! go over links of `rx_world`.
+//! gRPC over HTTP/2: calls of one message over links that are kept, what a call hears of its answer, and a farm's client over such
+//! calls. It has no socket: bytes go over links of `rx_world`.
 #![tactic(auto)]
 
 mod answer;
 mod answers;
 mod body;
+mod asks;
+mod batches;
+mod blob_items;
 mod call;
+mod caller;
 mod came;
 mod channel;
 mod end;
 mod framing;
 mod head;
 mod headers;
+mod hearings;
+mod method;
 mod open_call;
+mod operations;
 mod reader;
+mod replies;
 mod request;
+mod resources;
 mod stream;
 mod stream_item;
 mod talk;
@@ -27,6 +38,7 @@ mod turn;
 pub use answer::Answer;
 pub use answers::Answers;
 pub use body::Body;
+pub use caller::GrpcCaller;
 pub use channel::Channel;
 pub use end::End;
 pub use stream_item::StreamItem;

@@ -1,0 +1,10 @@
+use Rattle.rx_exec_messages.specs.Calls.{digests_of}
+use Rattle.rx_grpc.specs.Results.{updated_by}
+use Rattle.rx_grpc.proofs.RefusedLemmas.{refused-by, updated-refused}
+use Rattle.rx_grpc.proofs.caller.GrpcCaller.hear_update.Goals as goal
+
+pub returns-clause-refused : goal.returns-clause-refused
+returns-clause-refused g c =
+    let h = c.ask_update-answer.ensures in
+    let digests = digests_of c.args.blobs.now in
+    rw c.counted.ensures.same (refused-by (λ x. x) digests c.ask_update-answer.result (updated_by digests h.heard) h.is_such (updated-refused digests h.heard))

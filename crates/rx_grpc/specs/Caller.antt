@@ -1,0 +1,20 @@
+-- A farm's client over a channel, and what its calls of one message heard.
+use Rattle.std.specs.Prelude.{ℕ, IfErr, IfOk}
+use Rattle.rx_world.specs.declared.links.Link as links
+use Rattle.rx_grpc.specs.declared.caller.Begun.{Begun}
+use Rattle.rx_grpc.specs.Channel.{Answers, ChannelOf, Fails, HasCauseOn, Stops}
+use Rattle.rx_grpc.specs.Replies.{Heard}
+
+pub record CallerOf (D L : Type 0) : Type 0 where
+  pub channel : ChannelOf D L
+  pub begun : Begun
+  pub faults : ℕ
+
+-- The channel answered so, as the bytes of its link show, and the result is such.
+pub record Hears {D L : Type 0} (dial_faults : D → ℕ) (link : links.Ghosts L) (old new : ChannelOf D L) (IsSuch : Heard → Type 0) : Type 0 where
+  pub heard : Heard
+  pub shown : IfOk heard (Answers link.wire link.rule link.ended old.transport new.transport)
+  pub fails : IfErr heard (Fails link.wire link.rule old.transport new.transport)
+  pub stops : IfErr heard (Stops new.transport)
+  pub cause : HasCauseOn (dial_faults old.dial) (dial_faults new.dial) link.faults old.transport new.transport heard
+  pub is_such : IsSuch heard

@@ -1,0 +1,113 @@
+//! A farm's client over a channel: what it keeps, and its count of faults. Its calls stand in files of their own.
+
+ghost use Rattle.std.specs.Prelude.{◌≡◌, ◌≢◌, ◌<◌, ◌^◌, ◌≤◌, length, None, string_bytes, IfErr};
+ghost use Rattle.rx_world.specs.declared.call_faults.CallFault.TheVariants.{NoMemory as starved};
+ghost use Rattle.rx_world.specs.Causes.{Rose};
+ghost use Rattle.rx_exec_messages.specs.Calls.{HasCallCause};
+ghost use Rattle.rx_grpc.specs.declared.caller.Begun.TheVariants.{Executed as executed};
+
+use crate::channel::Channel;
+use rand_chacha::ChaCha20Rng;
+use rand_core::SeedableRng;
+use rx_base::{Digest, Text, digest_of};
+use rx_world::{CallFault, Dial};
+use std::alloc::Global;
+use std::marker::Model;
+
+/// What was begun last.
+#[derive(Debug, Drop)]
+pub enum Begun {
+    /// An execution of this action.
+    Executed(Digest),
+    /// A wait for the execution of this name.
+    Waited(Text),
+}
+
+/// A farm's client over gRPC.
+#[derive(Drop)]
+pub struct GrpcCaller<D: Dial + Drop> {
+    pub(crate) alloc: Global,
+    pub(crate) channel: Channel<D>,
+    /// The instance of the farm; empty where it has but one.
+    pub(crate) instance: Text,
+    /// Draws the names of uploads.
+    pub(crate) names: ChaCha20Rng,
+    pub(crate) begun: Begun,
+    /// How often a call failed; it stops at the end of 64 bits.
+    pub(crate) faults: u64,
+}
+
+impl<D: Dial + Drop> Model for GrpcCaller<D> {
+    ghost use Rattle.rx_grpc.specs.Caller.{CallerOf};
+
+    ghost Value = { CallerOf D D.L };
+
+    ghost view = { λ c. record { channel = c.channel; begun = c.begun; faults = c.faults } };
+}
+
+impl<D: Dial + Drop> GrpcCaller<D> {
+    /// A client that has called nothing, of the farm that the dial makes links to. `authority` is the farm's name as HTTP/2
+    /// has it (`HOST:PORT`), and `instance` that of its instance. The names of uploads are drawn from `seed`, so two
+    /// clients of one farm need two seeds.
+    pub fn new(
+        alloc: Global,
+        dial: D,
+        authority: Vec<u8>,
+        instance: Text,
+        seed: [u8; 32],
+    ) -> GrpcCaller<D>
+        requires { length authority.items < 2 ^ 32 }
+        ensures dial { result.channel.dial ≡ dial }
+        ensures transport { result.channel.transport ≡ None }
+        ensures faults { result.faults ≡ 0 }
+    {
+        GrpcCaller {
+            alloc,
+            channel: Channel::new(alloc, dial, authority),
+            instance,
+            names: ChaCha20Rng::from_seed(seed),
+            begun: Begun::Executed(digest_of(&[])),
+            faults: 0,
+        }
+    }
+
+    /// How often a call failed.
+    pub fn faults(&self) -> u64
+        ensures { result ≡ self.now.faults }
+    {
+        self.faults
+    }
+
+    /// The channel.
+    pub fn channel(&self) -> &Channel<D>
+        ensures { result.now ≡ self.now.channel }
+    {
+        &self.channel
+    }
+
+    /// Counts the fault of an answer, unless it is want of memory.
+    pub(crate) fn counted<T: Drop>(&mut self, answer: Result<T, CallFault>) -> Result<T, CallFault>
+        ensures same { result ≡ answer }
+        ensures cause { HasCallCause self.old.faults self.new.faults result }
+        ensures rest { self.new ≡ record self.old { faults = self.new.faults } }
+    {
+        match answer {
+            Ok(given) => Ok(given),
+            Err(fault) => {
+                self.count(fault);
+                Err(fault)
+            }
+        }
+    }
+
+    /// Counts a fault, unless it is want of memory.
+    fn count(&mut self, fault: CallFault)
+        ensures later { self.old.faults ≤ self.new.faults }
+        ensures rose { fault ≢ starved → Rose self.old.faults self.new.faults }
+        ensures rest { self.new ≡ record self.old { faults = self.new.faults } }
+    {
+        if fault != CallFault::NoMemory {
+            self.faults = self.faults.saturating_add(1);
+        }
+    }
+}
