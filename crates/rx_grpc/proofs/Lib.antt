@@ -15,5 +15,6 @@ pub mod GiveLemmas
 pub mod StreamLemmas
 pub mod EachLemmas
 pub mod CallerLemmas
+pub mod StreamedLemmas
 pub mod BatchLemmas
 pub mod RefusedLemmas

@@ -53,7 +53,7 @@ then-ok : {A B E : Type 0} (P : B → Type 0) (r : Result A E) (f : A → Result
 then-ok P (Ok x) f p = p x
 then-ok P (Err e) f p = tt
 
-then-err : {A B E : Type 0} (P : E → Type 0) (r : Result A E) (f : A → Result B E) → IfErr r P → ((x : A) → IfErr (f x) P) → IfErr (r >>= f) P
+pub then-err : {A B E : Type 0} (P : E → Type 0) (r : Result A E) (f : A → Result B E) → IfErr r P → ((x : A) → IfErr (f x) P) → IfErr (r >>= f) P
 then-err P (Ok x) f q p = p x
 then-err P (Err e) f q p = q
 
@@ -111,7 +111,7 @@ texts_of-long asked items = long-by (not (list_all (has asked) (keys_of items)))
 
 -- ---- the faults that come before
 
-read-refused : {M : Type 0} (asked : List Digest) (r : Result M MessageFault) → IfErr (read r) (RefusesOneOf asked)
+pub read-refused : {M : Type 0} (asked : List Digest) (r : Result M MessageFault) → IfErr (read r) (RefusesOneOf asked)
 read-refused asked (Ok x) = tt
 read-refused asked (Err (Refusals.Wire fault)) = tt
 read-refused asked (Err Refusals.NotCanonical) = tt

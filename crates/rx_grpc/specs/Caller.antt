@@ -1,5 +1,5 @@
 -- A farm's client over a channel, and what its calls of one message heard.
-use Rattle.std.specs.Prelude.{ℕ, IfErr, IfOk}
+use Rattle.std.specs.Prelude.{ℕ, Bool, List, Option, IfErr, IfOk}
 use Rattle.rx_world.specs.declared.links.Link as links
 use Rattle.rx_grpc.specs.declared.caller.Begun.{Begun}
 use Rattle.rx_grpc.specs.Channel.{Answers, ChannelOf, Fails, HasCauseOn, Stops}
@@ -8,6 +8,8 @@ use Rattle.rx_grpc.specs.Replies.{Heard}
 pub record CallerOf (D L : Type 0) : Type 0 where
   pub channel : ChannelOf D L
   pub begun : Begun
+  pub first : Option (List ℕ)  -- the first message of an execution that goes on, until it is read
+  pub streaming : Bool  -- an execution goes on
   pub faults : ℕ
 
 -- The channel answered so, as the bytes of its link show, and the result is such.

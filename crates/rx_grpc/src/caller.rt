@@ -9,7 +9,7 @@ ghost use Rattle.rx_grpc.specs.declared.caller.Begun.TheVariants.{Executed as ex
 use crate::channel::Channel;
 use rand_chacha::ChaCha20Rng;
 use rand_core::SeedableRng;
-use rx_base::{Digest, Text, digest_of};
+use rx_base::{Bytes, Digest, Text, digest_of};
 use rx_world::{CallFault, Dial};
 use std::alloc::Global;
 use std::marker::Model;
@@ -33,6 +33,10 @@ pub struct GrpcCaller<D: Dial + Drop> {
     /// Draws the names of uploads.
     pub(crate) names: ChaCha20Rng,
     pub(crate) begun: Begun,
+    /// The first message of the execution that goes on, until it is read.
+    pub(crate) first: Option<Bytes>,
+    /// Whether an execution goes on.
+    pub(crate) streaming: bool,
     /// How often a call failed; it stops at the end of 64 bits.
     pub(crate) faults: u64,
 }
@@ -42,7 +46,12 @@ impl<D: Dial + Drop> Model for GrpcCaller<D> {
 
     ghost Value = { CallerOf D D.L };
 
-    ghost view = { λ c. record { channel = c.channel; begun = c.begun; faults = c.faults } };
+    ghost use Rattle.std.specs.Prelude.{◌≡◌, true};
+    ghost use Rattle.rx_grpc.specs.Streamed.{is_answering};
+
+    ghost view = { λ c. record { channel = c.channel; begun = c.begun; first = c.first; streaming = c.streaming; faults = c.faults } };
+
+    ghost invariant = { λ c. c.streaming ≡ true → is_answering c.channel.transport ≡ true };
 }
 
 impl<D: Dial + Drop> GrpcCaller<D> {
@@ -67,6 +76,8 @@ impl<D: Dial + Drop> GrpcCaller<D> {
             instance,
             names: ChaCha20Rng::from_seed(seed),
             begun: Begun::Executed(digest_of(&[])),
+            first: None,
+            streaming: false,
             faults: 0,
         }
     }
@@ -76,6 +87,13 @@ impl<D: Dial + Drop> GrpcCaller<D> {
         ensures { result ≡ self.now.faults }
     {
         self.faults
+    }
+
+    /// Whether an execution that was begun or waited for goes on.
+    pub fn is_streaming(&self) -> bool
+        ensures { result ≡ self.now.streaming }
+    {
+        self.streaming
     }
 
     /// The channel.

@@ -23,6 +23,7 @@ impl<D: Dial + Drop> GrpcCaller<D> {
         ensures begun { self.new.begun ≡ self.old.begun }
         ensures cause { HasCallCause self.old.faults self.new.faults result }
     {
+        self.streaming = false;
         let answer = ask_capabilities(self.alloc, &mut self.channel, &self.instance);
         self.counted(answer)
     }
@@ -34,6 +35,7 @@ impl<D: Dial + Drop> GrpcCaller<D> {
         ensures begun { self.new.begun ≡ self.old.begun }
         ensures cause { HasCallCause self.old.faults self.new.faults result }
     {
+        self.streaming = false;
         let answer = ask_result(self.alloc, &mut self.channel, &self.instance, action);
         self.counted(answer)
     }
@@ -46,6 +48,7 @@ impl<D: Dial + Drop> GrpcCaller<D> {
         ensures begun { self.new.begun ≡ self.old.begun }
         ensures cause { HasCallCause self.old.faults self.new.faults result }
     {
+        self.streaming = false;
         let answer = ask_missing(self.alloc, &mut self.channel, &self.instance, digests);
         self.counted(answer)
     }
@@ -58,6 +61,7 @@ impl<D: Dial + Drop> GrpcCaller<D> {
         ensures begun { self.new.begun ≡ self.old.begun }
         ensures cause { HasCallCause self.old.faults self.new.faults result }
     {
+        self.streaming = false;
         let answer = ask_update(self.alloc, &mut self.channel, &self.instance, blobs);
         self.counted(answer)
     }
@@ -71,6 +75,7 @@ impl<D: Dial + Drop> GrpcCaller<D> {
         ensures begun { self.new.begun ≡ self.old.begun }
         ensures cause { HasCallCause self.old.faults self.new.faults result }
     {
+        self.streaming = false;
         let answer = ask_read(self.alloc, &mut self.channel, &self.instance, digests);
         self.counted(answer)
     }

@@ -1,15 +1,14 @@
-//! gRPC over HTTP/2: calls over links that are kept, and what a call hears of its answer. It has no socket: bytes
-//! go over links of `rx_world`.
-//! gRPC over HTTP/2: calls of one message over links that are kept, what a call hears of its answer, and a farm's client over such
-//! calls. It has no socket: bytes go over links of `rx_world`.
+//! gRPC over HTTP/2: calls over links that are kept, what a call hears of its answer, and a farm's client over such calls. It has
+//! no socket: bytes go over links of `rx_world`.
 #![tactic(auto)]
 
 mod answer;
 mod answers;
-mod body;
 mod asks;
 mod batches;
 mod blob_items;
+mod blob_streams;
+mod body;
 mod call;
 mod caller;
 mod came;
@@ -27,13 +26,16 @@ mod replies;
 mod request;
 mod resources;
 mod stream;
+mod stream_hearings;
 mod stream_item;
+mod streamed_calls;
 mod talk;
 mod texts;
 mod transfer;
 mod transfer_fault;
 mod transport;
 mod turn;
+mod uploads;
 
 pub use answer::Answer;
 pub use answers::Answers;

@@ -1,0 +1,149 @@
+//! The calls of a farm's client that are answered by streams, each with what it heard, as the bytes of its link show it, and what
+//! is made of it. Each fault but want of memory is counted.
+
+ghost use Rattle.std.specs.Prelude.{◌≡◌, ◌∷◌, [], length, true, None, IfErr, IfOk, OnOk};
+ghost use Rattle.rx_base.specs.Results.{Gives};
+ghost use Rattle.rx_world.specs.declared.call_faults.CallFault.TheVariants.{NoMemory as starved};
+ghost use Rattle.rx_exec_messages.specs.Calls.{HasCallCause, RefusesOneOf};
+ghost use Rattle.rx_grpc.specs.declared.caller.Begun.TheVariants.{Executed as executed, Waited as waited};
+ghost use Rattle.rx_grpc.specs.Caller.{Hears};
+ghost use Rattle.rx_grpc.specs.StreamedCalls.{HearsItems, HearsState, joined_of, kept_of, state_of};
+ghost use Rattle.rx_grpc.specs.Writes.{written_by};
+
+use crate::blob_streams::read_blob;
+use crate::caller::{Begun, GrpcCaller};
+use crate::method::Method;
+use crate::resources::write_name;
+use crate::streamed_calls::{begin_states, next_state};
+use crate::uploads::write_blob;
+use rx_base::{Bytes, Digest, NoMemory, Text, TryClone};
+use rx_codec::Message;
+use rx_exec_messages::{ExecuteRequest, Operation, WaitExecutionRequest};
+use rx_world::{CallFault, Dial};
+use std::alloc::Global;
+use uuid::Uuid;
+
+/// The question to run an action.
+fn execute_question(
+    alloc: Global,
+    instance: &Text,
+    action: &Digest,
+    skip_cache: bool,
+) -> Result<ExecuteRequest, NoMemory> {
+    Ok(ExecuteRequest {
+        instance_name: instance.try_clone(alloc)?,
+        skip_cache_lookup: skip_cache,
+        action_digest: Some(*action),
+    })
+}
+
+/// The question for the states of the execution of this name, and the name as it is kept.
+fn wait_question(alloc: Global, name: &str) -> Result<(WaitExecutionRequest, Text), NoMemory>
+    ensures { IfOk result (λ question. question.1 ≡ name.now) }
+{
+    let request = WaitExecutionRequest {
+        name: Text::copy_of(alloc, name)?,
+    };
+    Ok((request, Text::copy_of(alloc, name)?))
+}
+
+impl<D: Dial + Drop> GrpcCaller<D> {
+    /// Begins an execution or a wait for one, and keeps the first message that it hears.
+    fn start<Q: Message>(&mut self, method: Method, question: &Q) -> Result<(), CallFault>
+        ensures heard { HearsItems D.faults D.L.Link self.old.channel self.new.channel
+            (λ begun items. Gives starved (λ x. self.new.first) result (kept_of begun items)) }
+        ensures begun { self.new.begun ≡ self.old.begun }
+        ensures streaming { OnOk result (self.new.streaming ≡ true) }
+        ensures faults { self.new.faults ≡ self.old.faults }
+    {
+        self.streaming = false;
+        match begin_states(self.alloc, &mut self.channel, method, question) {
+            Ok(message) => {
+                self.first = Some(message);
+                self.streaming = true;
+                Ok(())
+            }
+            Err(fault) => Err(fault),
+        }
+    }
+
+    /// Begins an execution. `skip_cache` asks the farm not to answer from its action cache.
+    pub fn hear_execute(&mut self, action: &Digest, skip_cache: bool) -> Result<(), CallFault>
+        ensures heard { HearsItems D.faults D.L.Link self.old.channel self.new.channel
+            (λ begun items. Gives starved (λ x. self.new.first) result (kept_of begun items)) }
+        ensures begun { OnOk result (self.new.begun ≡ executed action.now) }
+        ensures streaming { OnOk result (self.new.streaming ≡ true) }
+        ensures cause { HasCallCause self.old.faults self.new.faults result }
+    {
+        let Ok(question) = execute_question(self.alloc, &self.instance, action, skip_cache) else {
+            return Err(CallFault::NoMemory);
+        };
+        self.begun = Begun::Executed(*action);
+        let answer = self.start(Method::Execute, &question);
+        self.counted(answer)
+    }
+
+    /// Waits for the execution of this name.
+    pub fn hear_wait(&mut self, name: &str) -> Result<(), CallFault>
+        ensures heard { HearsItems D.faults D.L.Link self.old.channel self.new.channel
+            (λ begun items. Gives starved (λ x. self.new.first) result (kept_of begun items)) }
+        ensures begun { OnOk result (self.new.begun ≡ waited name.now) }
+        ensures streaming { OnOk result (self.new.streaming ≡ true) }
+        ensures cause { HasCallCause self.old.faults self.new.faults result }
+    {
+        let Ok((question, kept)) = wait_question(self.alloc, name) else {
+            return Err(CallFault::NoMemory);
+        };
+        self.begun = Begun::Waited(kept);
+        let answer = self.start(Method::WaitExecution, &question);
+        self.counted(answer)
+    }
+
+    /// The next state of the execution that was begun or waited for last.
+    pub fn hear_operation(&mut self) -> Result<Operation, CallFault>
+        requires { self.old.streaming ≡ true }
+        ensures heard { HearsState D.L.Link self.old.first self.old.channel self.new.channel
+            (λ message. Gives starved (λ x. x) result (state_of message)) }
+        ensures begun { self.new.begun ≡ self.old.begun }
+        ensures streaming { IfOk result (λ operation.
+            operation.done ≡ None → self.new.streaming ≡ true) }
+        ensures cause { HasCallCause self.old.faults self.new.faults result }
+    {
+        let first = self.first.take();
+        self.streaming = false;
+        let answer = next_state(self.alloc, &mut self.channel, first);
+        if let Ok(operation) = &answer {
+            self.streaming = operation.done.is_none();
+        }
+        self.counted(answer)
+    }
+
+    /// The bytes of one blob, as a stream.
+    pub fn hear_blob(&mut self, digest: &Digest) -> Result<Bytes, CallFault>
+        ensures heard { HearsItems D.faults D.L.Link self.old.channel self.new.channel
+            (λ begun items. Gives starved (λ x. x) result (joined_of begun items)) }
+        ensures refused { IfErr result (RefusesOneOf (digest.now ∷ [])) }
+        ensures begun { self.new.begun ≡ self.old.begun }
+        ensures cause { HasCallCause self.old.faults self.new.faults result }
+    {
+        self.streaming = false;
+        let answer = read_blob(self.alloc, &mut self.channel, &self.instance, digest);
+        self.counted(answer)
+    }
+
+    /// Stores one blob as a stream.
+    pub fn hear_write(&mut self, digest: &Digest, bytes: &[u8]) -> Result<(), CallFault>
+        ensures heard { Hears D.faults D.L.Link self.old.channel self.new.channel (λ heard.
+            Gives starved (λ x. x) result (written_by (length bytes.now) heard)) }
+        ensures begun { self.new.begun ≡ self.old.begun }
+        ensures cause { HasCallCause self.old.faults self.new.faults result }
+    {
+        self.streaming = false;
+        let upload = Uuid::new_v4(&mut self.names);
+        let Ok(name) = write_name(self.alloc, &self.instance, upload, digest) else {
+            return Err(CallFault::NoMemory);
+        };
+        let answer = write_blob(self.alloc, &mut self.channel, name, bytes);
+        self.counted(answer)
+    }
+}
