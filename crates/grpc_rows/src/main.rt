@@ -1,12 +1,15 @@
 //! What a call hears of its answer over gRPC, and calls over links in memory, as rows: see the headings of `stdin`.
 #![tactic(auto)]
 
+mod callers;
 mod cuts;
 mod events;
+mod farms;
 mod headers;
 mod links;
 mod messages;
 
+use crate::callers::Callers;
 use crate::events::{bytes_event, list_event, number_32, read_last};
 use crate::headers::read_headers;
 use crate::links::Links;
@@ -23,6 +26,7 @@ struct Grpc {
     alloc: Global,
     answers: Answers,
     links: Links,
+    callers: Callers,
 }
 
 impl Grpc {
@@ -113,6 +117,10 @@ impl Calls for Grpc {
             b"sent" => self.links.sent(true, answer),
             b"frames" => self.links.sent(false, answer),
             b"dials" => self.links.dials(answer),
+            b"answer" => self.callers.answer(row, 0, answer),
+            b"cut_answer" => self.callers.answer(row, 1, answer),
+            b"client" => self.callers.client(row, answer),
+            b"farm" => self.callers.call(row, answer),
             _ => Err(RowFault::NoCall),
         }
     }
@@ -123,6 +131,7 @@ fn main(rt: HostRuntime) -> Result<(), TableFault> {
         alloc: rt.alloc(),
         answers: Answers::new(rt.alloc()),
         links: Links::new(rt.alloc()),
+        callers: Callers::new(rt.alloc()),
     };
     let input = BufReader::new(rt.alloc(), rt.reader())?;
     answer_rows(rt.alloc(), input, &mut io::writer(&rt), &mut calls)
