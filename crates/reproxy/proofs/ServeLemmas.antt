@@ -1,11 +1,13 @@
 -- The one desk of a run over the machine.
-use Rattle.std.specs.Prelude.{◌≡◌, ℕ, List, [], ◌∷◌, IfSome, None, Option, Some}
+use Rattle.std.proofs.Common.{◌≡◌, ◌∙◌, ℕ, List, [], ◌∷◌, None, Option, Some, refl, sym, subst}
+use Rattle.std.specs.Prelude.{IfSome, MatchOption, String, option_map}
 use Rattle.std.specs.Option.{option_to_list}
 use Rattle.rx_board.specs.declared.journal.Entry.{Entry}
 use Rattle.rx_engine.specs.declared.transcripts.Transcript.{Transcript}
 use Rattle.rx_engine.specs.Meanings.{Meanings}
 use Rattle.rx_engine.specs.Proxy.{HasStatus, IsLegal}
 use Rattle.rx_engine.specs.Serves.{RunsDone}
+use Rattle.rx_engine.specs.Words.{Options, options_in, root_in}
 use Rattle.reproxy.specs.Serves.{ServesDesk}
 
 -- where a root was found its desk was made, and the run was over that desk
@@ -24,3 +26,17 @@ serves-desk m Is (Some root) limit faults made desk left status journal handed t
   legal = legal;
   status_is = rw made-is at has;
 }
+
+-- where the words are known a desk was made, and the run was over that desk
+pub serves-made : {P W B A : Type 0} (m : Meanings P W B) (Is : P → Type 0) (words : List (String A)) (options : Option Options) (limit faults : ℕ) (made left : Option P)
+    (status : ℕ) (journal : List Entry) (handed : List P) (ts : List Transcript)
+    → options ≡ options_in words → MatchOption made (options ≡ None) Is
+    → IfSome (root_in words) (λ root. RunsDone (Some (option_to_list made)) (Some (option_to_list left)) m (λ parts. parts) root limit journal faults handed ts)
+    → IsLegal 1 journal ts
+    → IfSome (root_in words) (λ root. HasStatus (Some (option_to_list made)) (Some (option_to_list left)) 0 0 status ts)
+    → IfSome (root_in words) (λ root. ServesDesk m Is root limit faults left status journal handed ts)
+serves-made m Is words options limit faults None left status journal handed ts known none runs legal has =
+    subst (λ (o : Option Options). IfSome (option_map (λ (x : Options). x.root) o) (λ root. ServesDesk m Is root limit faults left status journal handed ts))
+    (sym none ∙ known) tt
+serves-made m Is words options limit faults (Some desk) left status journal handed ts known is runs legal has =
+    serves-desk m Is (root_in words) limit faults (Some desk) desk left status journal handed ts refl is runs legal has

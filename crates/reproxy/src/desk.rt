@@ -3,9 +3,8 @@
 ghost use Rattle.std.specs.Prelude.{Some};
 ghost use Rattle.std.specs.Option.{option_to_list};
 
-use crate::farm::HostFarm;
 use rx_engine::{Front, Parts};
-use rx_host::{HostBenches, HostSink, HostSource, HostSources, HostWorld};
+use rx_host::{HostBenches, HostFarm, HostSink, HostSource, HostSources, HostWorld};
 use rx_world::Failed;
 use std::fs::Files;
 use std::io::{Print, Read};
@@ -19,7 +18,7 @@ pub(crate) type HostDesk<R, I, O> = Parts<
     HostSources<R>,
     HostBenches<R>,
     HostSources<R>,
-    HostFarm,
+    HostFarm<HostRuntime>,
 >;
 
 /// Gives its desk, if it has one, and then no more. It never fails.

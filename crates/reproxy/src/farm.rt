@@ -1,17 +1,33 @@
-//! The farm's client of the one desk, by the command line. Which client that is stands here alone.
+//! The farm's client of the one desk, by the command line.
 
+use rx_base::Text;
 use rx_engine::Options;
-use rx_host::{HostDial, NoFarm};
+use rx_grpc::GrpcCaller;
+use rx_host::{HostDial, HostFarm};
 use std::alloc::AllocError;
 
-/// The farm's client. Nothing is called over its connection yet.
-pub(crate) type HostFarm = NoFarm<HostRuntime>;
+/// The most bytes that the name of a farm may have.
+const MOST_AUTHORITY: usize = 4_294_967_295;
 
-/// A client of the farm that the options name, or of none.
-pub(crate) fn farm_for(rt: HostRuntime, options: &Options<'_>) -> Result<HostFarm, AllocError> {
+/// A client of the farm that the options name, or of none: then each of its calls is a fault. The names of its
+/// uploads are drawn from `seed`.
+pub(crate) fn farm_for(
+    rt: HostRuntime,
+    options: &Options<'_>,
+    seed: [u8; 32],
+) -> Result<HostFarm<HostRuntime>, AllocError> {
+    let alloc = rt.alloc();
     let address = match options.remote {
-        Some(address) => Some(String::from_str(rt.alloc(), address)?),
+        Some(address) => Some(String::from_str(alloc, address)?),
         None => None,
     };
-    Ok(NoFarm::new(HostDial::new(rt, address)))
+    let authority = Vec::from_slice(alloc, options.remote.unwrap_or("").as_bytes())?;
+    if authority.len() > MOST_AUTHORITY {
+        return Err(AllocError);
+    }
+    let Ok(instance) = Text::copy_of(alloc, options.instance) else {
+        return Err(AllocError);
+    };
+    let dial = HostDial::new(rt, address);
+    Ok(HostFarm::new(GrpcCaller::new(alloc, dial, authority, instance, seed)))
 }

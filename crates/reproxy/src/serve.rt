@@ -1,16 +1,18 @@
 //! One run of the proxy over the machine.
 
-ghost use Rattle.std.specs.Prelude.{◌≡◌, ◌↔◌, [], IfOk, IfSome, None};
+ghost use Rattle.std.specs.Prelude.{◌≡◌, ◌↔◌, [], IfOk, IfSome, MatchOption, None};
 ghost use Rattle.rx_engine.specs.Meanings.{meanings};
 ghost use Rattle.rx_engine.specs.Words.{root_in};
 ghost use Rattle.reproxy.specs.Serves.{ServesDesk};
 
-use crate::desk::HostFront;
-use crate::farm::{HostFarm, farm_for};
+use crate::desk::{HostDesk, HostFront};
+use crate::farm::farm_for;
 use rx_board::JOURNAL_LIMIT;
 use rx_engine::{Options, Parts, Ran, options_in, run_proxy};
 use rx_exec_messages::Caller;
-use rx_host::{HostBench, HostBenches, HostPlace, HostSink, HostSource, HostSources, HostWorld};
+use rx_host::{
+    HostBench, HostBenches, HostFarm, HostPlace, HostSink, HostSource, HostSources, HostWorld,
+};
 use rx_world::{Bench, BenchMaker, Place, Sink, Source, Sources, World};
 use std::alloc::AllocError;
 use std::io::{Print, Read};
@@ -38,12 +40,53 @@ fn place_root<'a>(options: &Option<Options<'a>>) -> &'a str {
     }
 }
 
+/// The one desk, over these streams.
+fn desk_for<I: Read + Drop, O: Print + Drop>(
+    rt: HostRuntime,
+    options: &Options<'_>,
+    seed: [u8; 32],
+    input: I,
+    output: O,
+) -> Result<HostDesk<HostRuntime, I, O>, AllocError>
+    ensures { IfOk result (λ desk. desk.input.input ≡ input) }
+{
+    let alloc = rt.alloc();
+    let process = process::id(rt.process());
+    Ok(Parts {
+        input: HostSource::new(input),
+        output: HostSink::new(output),
+        tree: HostSources::new(rt, String::from_str(alloc, options.root)?),
+        tree_local: HostSources::new(rt, String::from_str(alloc, options.root)?),
+        benches: HostBenches::new(rt, String::from_str(alloc, SCRATCH)?, process),
+        tree_remote: HostSources::new(rt, String::from_str(alloc, options.root)?),
+        farm: farm_for(rt, options, seed)?,
+    })
+}
+
+/// The one desk, where the words are known.
+fn desk_of<I: Read + Drop, O: Print + Drop>(
+    rt: HostRuntime,
+    options: &Option<Options<'_>>,
+    seed: [u8; 32],
+    input: I,
+    output: O,
+) -> Result<Option<HostDesk<HostRuntime, I, O>>, AllocError>
+    ensures { IfOk result (λ made. MatchOption made (options.now ≡ None)
+        (λ desk. desk.input.input ≡ input)) }
+{
+    match options {
+        Some(options) => Ok(Some(desk_for(rt, options, seed, input, output)?)),
+        None => Ok(None),
+    }
+}
+
 /// Serves what the words ask for, by one desk over these streams. The lock of the digests may wait,
-/// which `wait` allows.
+/// which `wait` allows. The names of what is sent to the farm are drawn from `seed`.
 pub(crate) fn serve<I: Read + Send + Drop, O: Print + Send + Drop>(
     wait: &impl Wait,
     rt: HostRuntime,
     words: &[String],
+    seed: [u8; 32],
     input: I,
     output: O,
 ) -> Result<HostRan<I, O>, AllocError>
@@ -58,27 +101,16 @@ pub(crate) fn serve<I: Read + Send + Drop, O: Print + Send + Drop>(
         ⟦<HostSources<HostRuntime> as Sources<HostWorld>>⟧
         ⟦<HostBenches<HostRuntime> as BenchMaker<HostWorld>>⟧
         ⟦<HostBench<HostRuntime> as Bench<HostWorld>>⟧
-        ⟦<HostSources<HostRuntime> as Sources<HostWorld>>⟧ ⟦<HostFarm as Caller<HostWorld>>⟧)
+        ⟦<HostSources<HostRuntime> as Sources<HostWorld>>⟧
+        ⟦<HostFarm<HostRuntime> as Caller<HostWorld>>⟧)
         (λ desk. desk.input.input ≡ input) root JOURNAL_LIMIT
         (⟦<HostPlace<HostRuntime> as Place>⟧.faults ran.place)
         ran.front.desk ran.status ran.journal.items ran.desks.items ran.transcripts.items)) }
 {
     let alloc = rt.alloc();
-    let process = process::id(rt.process());
     let options = options_in(words);
-    let desk = match &options {
-        Some(options) => Some(Parts {
-            input: HostSource::new(input),
-            output: HostSink::new(output),
-            tree: HostSources::new(rt, String::from_str(alloc, options.root)?),
-            tree_local: HostSources::new(rt, String::from_str(alloc, options.root)?),
-            benches: HostBenches::new(rt, String::from_str(alloc, SCRATCH)?, process),
-            tree_remote: HostSources::new(rt, String::from_str(alloc, options.root)?),
-            farm: farm_for(rt, options)?,
-        }),
-        None => None,
-    };
-    let root = place_root(&options);
-    let place = HostPlace::new(rt, String::from_str(alloc, root)?, process);
+    let desk = desk_of(rt, &options, seed, input, output)?;
+    let root = String::from_str(alloc, place_root(&options))?;
+    let place = HostPlace::new(rt, root, process::id(rt.process()));
     Ok(run_proxy::<HostWorld, _, _>(wait, alloc, words, HostFront { desk }, place))
 }

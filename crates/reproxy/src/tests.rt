@@ -21,7 +21,7 @@ fn runs_a_command(rt: HostRuntime) -> Result<(), Fail> {
         String::from_str(alloc, "--root")?,
         root.clone()?,
     ]?;
-    let ran = serve(&rt, rt, &words, frame.as_slice(), rt.stderr())?;
+    let ran = serve(&rt, rt, &words, [0; 32], frame.as_slice(), rt.stderr())?;
     assert_eq!(rt; ran.status, 0);
     let placed = fs::read_to_string(&rt, format!(in alloc; "{root}/b")?)?;
     assert_eq!(rt; placed.as_str(), "abc");

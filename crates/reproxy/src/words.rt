@@ -12,7 +12,6 @@ Serves one request: its frame comes from standard input, the reply goes to stand
   --instance NAME     the farm's instance; default: the one without a name
 The options come in any order, each once at most, as two words or as --name=VALUE. A VALUE that
 begins with a dash needs the second form.
-No farm can be asked yet: a remote attempt fails, and standard error tells why.
 ";
 
 /// Whether the words are `--help` alone.
