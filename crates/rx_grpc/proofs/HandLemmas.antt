@@ -1,5 +1,5 @@
 -- Items that are handed out of an open call.
-use Rattle.std.proofs.Common.{◌≡◌, ◌⊎◌, ◌≤◌, ℕ, ◌+◌, Bool, true, false, cond, not, ◌==◌, List, [], ◌∷◌, ◌++◌, length, drop, filter, refl, sym, ap, subst, ◌∙◌, append_assoc, append-nil, arith, inl, inr, length-append, Option, None, Some, Result, Ok, Err, IfOk, IfErr}
+use Rattle.std.proofs.Common.{◌≡◌, ℕ, ◌+◌, Bool, true, false, cond, not, ◌==◌, List, [], ◌∷◌, ◌++◌, length, drop, filter, refl, sym, ap, subst, ◌∙◌, append_assoc, inl, inr, length-append, Option, None, Some, Result, Ok, Err, IfOk, IfErr}
 use Rattle.rx_h2conn.specs.Session.{Reading}
 use Rattle.rx_world.specs.Links.{Wire}
 use Rattle.rx_grpc.specs.declared.end.End.{End}
@@ -9,7 +9,7 @@ use Rattle.rx_grpc.specs.declared.stream_item.StreamItem.{StreamItem}
 use Rattle.rx_grpc.specs.declared.stream_item.StreamItem.TheVariants as Items
 use Rattle.rx_grpc.specs.declared.transfer_fault.TransferFault.{TransferFault}
 use Rattle.rx_grpc.specs.declared.transfer_fault.TransferFault.TheVariants.{Link, Protocol, NoMemory}
-use Rattle.rx_grpc.specs.Came.{judged, is_end, is_piece}
+use Rattle.rx_grpc.specs.Came.{judged, is_end}
 use Rattle.rx_grpc.specs.Heard.{Heard, heard, nothing}
 use Rattle.rx_grpc.specs.Item.{item, item_at_end, item_by, item_behind, item_of_end, is_message, after_item, place_after}
 use Rattle.rx_grpc.specs.Moves.{Carries, is_for}
@@ -94,15 +94,15 @@ pub alive_same : (o n : OpenCall) → n.came ≡ o.came → n.call.away ≡ o.ca
 alive_same o n came away = rw (came, away) refl
 
 -- the item of a call that began as first
-pub hands_item : (w0 w : Option Wire) (r : List ℕ → List ℕ → Type 0) (ended : Bool) (conn : Reading) (first o n : OpenCall) (shown : Option StreamItem) (done : Result StreamItem TransferFault) → IsOpen w r ended conn o → o.call.place ≡ first.call.place → o.call.id ≡ first.call.id → Carries w0 w first.room o.room → shown ≡ item (is_end o.came) o.call.answers → judged shown o.came ≡ Some done → HandsOne o n shown → IfOk done (Hands w0 w r ended conn first n)
-hands_item w0 w r ended conn first o n shown (Err fault) t at same carries is j one = tt
-hands_item w0 w r ended conn first o n shown (Ok x) t at same carries is j one =
+pub hands_item : (w0 w : Option Wire) (r : List ℕ → List ℕ → Type 0) (ended : Bool) (start conn : Reading) (first o n : OpenCall) (shown : Option StreamItem) (done : Result StreamItem TransferFault) → IsOpen w r ended conn o → o.call.place ≡ first.call.place → o.call.id ≡ first.call.id → Carries w0 w start conn first.room o.room → shown ≡ item (is_end o.came) o.call.answers → judged shown o.came ≡ Some done → HandsOne o n shown → IfOk done (Hands w0 w r ended start conn first n)
+hands_item w0 w r ended start conn first o n shown (Err fault) t at same carries is j one = tt
+hands_item w0 w r ended start conn first o n shown (Ok x) t at same carries is j one =
     let some = judged_some shown o.came x j in
     let over : IsOver (item_behind first.call.place) w r ended conn first.call.id (alive_of o) x = judged_over (item_behind first.call.place) item first.call.place w r ended conn o shown (Ok x) first.call.id (item_look first.call.place) t at same is j in
     let whole = subst (λ (s : Option StreamItem). HandsOne o n s) some one in
     record {
       over = subst (λ (b : Bool). IsOver (item_behind first.call.place) w r ended conn first.call.id b x) (sym (alive_same o n one.came one.away)) over;
-      carries = subst (λ (k : ℕ). Carries w0 w first.room k) (sym one.room) carries;
+      carries = subst (λ (k : ℕ). Carries w0 w start conn first.room k) (sym one.room) carries;
       open_still = open_handed w r ended conn o n x t (sym is ∙ some) whole;
       id = one.id ∙ same;
       place = whole.place ∙ ap (place_after (Some x)) at;
@@ -131,11 +131,11 @@ none_handed o n shown one none = record {
   came = one.came;
 }
 
-pub hands_from : (w0 w : Option Wire) (r : List ℕ → List ℕ → Type 0) (ended : Bool) (conn : Reading) (first o n : OpenCall) (result : Result StreamItem TransferFault) → IsLike first o → IfOk result (Hands w0 w r ended conn o n) → IfOk result (Hands w0 w r ended conn first n)
-hands_from w0 w r ended conn first o n (Err fault) like h = tt
-hands_from w0 w r ended conn first o n (Ok x) like h = record {
+pub hands_from : (w0 w : Option Wire) (r : List ℕ → List ℕ → Type 0) (ended : Bool) (start conn : Reading) (first o n : OpenCall) (result : Result StreamItem TransferFault) → IsLike first o → IfOk result (Hands w0 w r ended start conn o n) → IfOk result (Hands w0 w r ended start conn first n)
+hands_from w0 w r ended start conn first o n (Err fault) like h = tt
+hands_from w0 w r ended start conn first o n (Ok x) like h = record {
   over = subst (λ (i : ℕ). IsOver (item_behind first.call.place) w r ended conn i (alive_of n) x) like.id (subst (λ (p : ℕ). IsOver (item_behind p) w r ended conn o.call.id (alive_of n) x) like.place h.over);
-  carries = subst (λ (k : ℕ). Carries w0 w k n.room) like.room h.carries;
+  carries = subst (λ (k : ℕ). Carries w0 w start conn k n.room) like.room h.carries;
   open_still = h.open_still;
   id = h.id ∙ like.id;
   place = h.place ∙ ap (place_after (Some x)) like.place;

@@ -1,13 +1,12 @@
 -- Items of a streamed answer: what is shown stays, and is what the reader hands out.
-use Rattle.std.proofs.Common.{◌≡◌, ℕ, ◌+◌, Bool, true, false, not, ◌==◌, zero, suc, List, [], ◌∷◌, ◌++◌, length, drop, refl, sym, ap, subst, ◌∙◌, append_assoc, append-nil, arith, length-append, Option, None, Some}
+use Rattle.std.proofs.Common.{◌≡◌, ℕ, Bool, true, false, not, ◌==◌, zero, suc, List, [], ◌∷◌, ◌++◌, length, drop, refl, sym, ap, ◌∙◌, append-nil, Option, None, Some}
 use Rattle.rx_h2conn.specs.Session.{Event}
 use Rattle.rx_grpc.specs.declared.end.End.{End}
 use Rattle.rx_grpc.specs.declared.end.End.TheVariants as Ends
 use Rattle.rx_grpc.specs.declared.stream_item.StreamItem.{StreamItem}
-use Rattle.rx_grpc.specs.declared.stream_item.StreamItem.TheVariants as Items
 use Rattle.rx_grpc.specs.Answer.{unary, unary_by}
 use Rattle.rx_grpc.specs.Heard.{Heard, nothing, heard}
-use Rattle.rx_grpc.specs.Item.{item, item_at_end, item_by, item_behind, is_message, after_item, place_after}
+use Rattle.rx_grpc.specs.Item.{item, item_at_end, item_by, item_behind}
 use Rattle.rx_grpc.specs.Uses.{ShownStays, front}
 use Rattle.rx_grpc.proofs.UseLemmas.{front_heard, heard_append, heard_stopped, unary_ended, unary_stays}
 

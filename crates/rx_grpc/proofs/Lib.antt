@@ -12,6 +12,7 @@ pub mod TurnLemmas
 pub mod TalkLemmas
 pub mod HandLemmas
 pub mod GiveLemmas
+pub mod AskLemmas
 pub mod StreamLemmas
 pub mod EachLemmas
 pub mod CallerLemmas

@@ -32,7 +32,7 @@ paced_append r (c ∷ a) b p q = (p.0, paced_append (after r c) a b p.1 q)
 pub moves_none : (r : Reading) → Moves r r [] [] []
 moves_none r = record { calls = []; run_is = refl; given_is = refl; fed_is = refl; handed_is = refl; paced = tt }
 
-pub moves_trans : (a b c : Reading) (g f g2 f2 : List ℕ) (h h2 : List Event) → Moves a b g f h → Moves b c g2 f2 h2 → Moves a c (g ++ g2) (f ++ f2) (h ++ h2)
+unfoldable pub moves_trans : (a b c : Reading) (g f g2 f2 : List ℕ) (h h2 : List Event) → Moves a b g f h → Moves b c g2 f2 h2 → Moves a c (g ++ g2) (f ++ f2) (h ++ h2)
 moves_trans a b c g f g2 f2 h h2 p q = record {
   calls = p.calls ++ q.calls;
   run_is = run_append a p.calls q.calls ∙ (ap (λ (x : Reading). run x q.calls) p.run_is ∙ q.run_is);

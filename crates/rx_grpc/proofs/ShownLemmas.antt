@@ -96,8 +96,9 @@ breaks_by look view wire rule conn call code l h fault none = record {
 }
 
 -- no room is left
-pub fills_by : {A : Type 0} (look view : Bool → Heard → Option A) (before wire : Option Wire) (rule : List ℕ → List ℕ → Type 0) (conn : Reading) (call : Call) (room : ℕ) → IsLook look view call.place → IsHeardAt wire rule conn call → conn.state.fault ≡ None → Carries before wire room 0 → view false call.answers ≡ None → Fills look room before wire rule conn call.id
-fills_by look view before wire rule conn call room l h fault carries none = record {
+pub fills_by : {A : Type 0} (look view : Bool → Heard → Option A) (before wire : Option Wire) (rule : List ℕ → List ℕ → Type 0) (start conn : Reading) (call : Call) (room : ℕ) → IsLook look view call.place → IsHeardAt wire rule conn call → conn.state.fault ≡ None → Carries before wire start conn room 0 → view false call.answers ≡ None → Fills look room before wire rule conn call.id
+fills_by look view before wire rule start conn call room l h fault carries none = record {
+  first = start;
   carries = carries;
   talk = h.hears.talk;
   fault = fault;

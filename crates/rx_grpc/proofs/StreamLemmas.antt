@@ -69,13 +69,14 @@ unfolding opened
 opened-events s fields last = refl
 
 -- a stream that is opened after another was given up
-pub opens_next : (o : Option ConnFault) (old mid new : Reading) (fields : List Field) (last : Bool) (n : ℕ) → refusal mid.state ≡ o → GivesUp old mid → AnswersAt o mid.state (opened mid.state fields last) (next_id mid.state) new.state (Ok n) → new.rest ≡ mid.rest → IsHeld new.state n false → OpensStream old new n × (refusal old.state ≡ None)
-opens_next (Some e) old mid new fields last n is g d rest held = let no = d.1 in absurd cc
-opens_next None old mid new fields last n is g d rest held =
+pub opens_next : (o : Option ConnFault) (old mid new : Reading) (fields : List Field) (n : ℕ) → refusal mid.state ≡ o → GivesUp old mid → AnswersAt o mid.state (opened mid.state fields false) (next_id mid.state) new.state (Ok n) → new.rest ≡ mid.rest → IsHeld new.state n false → OpensStream old new fields n × (refusal old.state ≡ None)
+unfolding moves_trans
+opens_next (Some e) old mid new fields n is g d rest held = let no = d.1 in absurd cc
+opens_next None old mid new fields n is g d rest held =
     let s = mid.state in
-    let state : unless (refusal s) s (opened s fields last) ≡ new.state = rw is (sym d.0) in
+    let state : unless (refusal s) s (opened s fields false) ≡ new.state = rw is (sym d.0) in
     let step : Moves mid new [] [] [] = record {
-      calls = Opens fields last ∷ [];
+      calls = Opens fields false ∷ [];
       run_is = ap (λ (x : Session). record { state = x; rest = mid.rest }) state ∙ ap (λ (x : List ℕ). record { state = new.state; rest = x }) (sym rest);
       given_is = refl;
       fed_is = refl;
@@ -84,8 +85,12 @@ opens_next None old mid new fields last n is g d rest held =
     } in (
       record {
         moves = moves_trans old mid new [] [] [] [] [] [] g.moves step;
-        fault = ap (λ (x : Session). x.fault) d.0 ∙ (opened-fault s fields last ∙ g.fault);
-        events = ap (λ (x : Session). x.events) d.0 ∙ (opened-events s fields last ∙ g.events);
+        before = g.moves.calls;
+        calls_are = refl;
+        free = ap (λ (x : Reading). refusal x.state) g.moves.run_is ∙ is;
+        stream = d.1 ∙ ap (λ (x : Reading). next_id x.state) (sym g.moves.run_is);
+        fault = ap (λ (x : Session). x.fault) d.0 ∙ (opened-fault s fields false ∙ g.fault);
+        events = ap (λ (x : Session). x.events) d.0 ∙ (opened-events s fields false ∙ g.events);
         held = held;
         next = d.1 ∙ g.next;
       },
@@ -142,9 +147,9 @@ kept_silent wire rule ended conn k =
     none_for (next_id conn.state) k.talk.handed (ap (filter (is_on (next_id conn.state))) (sym all) ∙ silent) k.stays
 
 -- a stream was opened for the next call
-pub starts : (wire : Option Wire) (rule : List ℕ → List ℕ → Type 0) (ended : Bool) (old new : Reading) (n : ℕ) → IsKept wire rule ended old → OpensStream old new n → IsStarted wire rule ended new n
+pub starts : (wire : Option Wire) (rule : List ℕ → List ℕ → Type 0) (ended : Bool) (old new : Reading) (fields : List Field) (n : ℕ) → IsKept wire rule ended old → OpensStream old new fields n → IsStarted wire rule ended new n
 unfolding talk_moved
-starts wire rule ended old new n k o = record {
+starts wire rule ended old new fields n k o = record {
   fault = o.fault;
   empty = o.events ∙ k.empty;
   going = k.going;
@@ -203,10 +208,10 @@ ready_new wire rule ended faults conn new meets is = rw is (record {
   left = tt;
 })
 
-pub started_by : (wire : Option Wire) (rule : List ℕ → List ℕ → Type 0) (ended : Bool) (old new : Reading) (result : Result (Option ℕ) TransferFault) → IsKept wire rule ended old → IfOk result (λ id. MatchOption id (Unit {0}) (OpensStream old new)) → IfOk result (λ id. MatchOption id (Unit {0}) (IsStarted wire rule ended new))
-started_by wire rule ended old new (Ok (Some id)) k o = starts wire rule ended old new id k o
-started_by wire rule ended old new (Ok None) k o = tt
-started_by wire rule ended old new (Err e) k o = tt
+pub started_by : (wire : Option Wire) (rule : List ℕ → List ℕ → Type 0) (ended : Bool) (old new : Reading) (fields : List Field) (result : Result (Option ℕ) TransferFault) → IsKept wire rule ended old → IfOk result (λ id. MatchOption id (Unit {0}) (OpensStream old new fields)) → IfOk result (λ id. MatchOption id (Unit {0}) (IsStarted wire rule ended new))
+started_by wire rule ended old new fields (Ok (Some id)) k o = starts wire rule ended old new fields id k o
+started_by wire rule ended old new fields (Ok None) k o = tt
+started_by wire rule ended old new fields (Err e) k o = tt
 
 pub started_in : {L : Type 0} (wire : L → Option Wire) (rule : L → List ℕ → List ℕ → Type 0) (ended : L → Bool) (t u : TransportOf L) (id : ℕ) → t ≡ u → IsStarted (wire u.link) (rule u.link) (ended u.link) u.conn id → IsStarted (wire t.link) (rule t.link) (ended t.link) t.conn id
 started_in wire rule ended t u id is s = subst (λ x. IsStarted (wire x.link) (rule x.link) (ended x.link) x.conn id) (sym is) s

@@ -1,5 +1,5 @@
 -- Turns of a call, one after another.
-use Rattle.std.proofs.Common.{◌≡◌, ◌⊎◌, ◌≤◌, ℕ, Bool, true, false, List, [], ◌++◌, refl, sym, ap, subst, ◌∙◌, arith, inl, inr, length-append, Option, None, Some, Result, Ok, Err, IfOk, IfErr}
+use Rattle.std.proofs.Common.{◌≡◌, ◌≤◌, ℕ, Bool, true, false, List, [], ◌++◌, refl, sym, ap, subst, ◌∙◌, arith, inl, length-append, Option, None, Some, Result, Ok, Err, IfOk, IfErr, OnOk}
 use Rattle.rx_h2conn.specs.Session.{Reading}
 use Rattle.rx_world.specs.Links.{Wire, SameRule}
 use Rattle.rx_grpc.specs.declared.came.Came.{Came}
@@ -14,38 +14,45 @@ use Rattle.rx_grpc.specs.Conversation.{IsOpen, alive_of}
 use Rattle.rx_grpc.specs.Faults.{FaultIs}
 use Rattle.rx_grpc.specs.Shown.{Breaks, Fills, IsOver}
 use Rattle.rx_grpc.proofs.WireLemmas.{goes_none, goes_trans}
+use Rattle.rx_grpc.proofs.MoveLemmas.{moves_none, moves_trans}
 use Rattle.rx_grpc.proofs.ShownLemmas.{fills_by}
 use Rattle.rx_grpc.proofs.ItemLemmas.{IsLook}
 use Rattle.rx_grpc.proofs.TurnLemmas.{IsLike, open_like, came_piece, open_at, open_breaks, open_over}
 
-pub carries_none : (w : Option Wire) (room : ℕ) → Carries w w room room
-carries_none w room = record { given = []; fed = []; carries = goes_none w; count = omega arith }
+pub carries_none : (w : Option Wire) (c : Reading) (room : ℕ) → Carries w w c c room room
+carries_none w c room = record { given = []; fed = []; handed = []; moves = moves_none c; carries = goes_none w; count = omega arith }
 
-pub carries_trans : (a b c : Option Wire) (room mid left : ℕ) → Carries a b room mid → Carries b c mid left → Carries a c room left
-carries_trans a b c room mid left x y = record {
-  given = x.given ++ y.given;
-  fed = x.fed ++ y.fed;
-  carries = goes_trans a b c x.given x.fed y.given y.fed x.carries y.carries;
-  count = let sum = length-append x.fed y.fed in omega (arith, sum, x.count, y.count);
+pub carries_trans : (a b c : Option Wire) (x y z : Reading) (room mid left : ℕ) → Carries a b x y room mid → Carries b c y z mid left → Carries a c x z room left
+carries_trans a b c x y z room mid left p q = record {
+  given = p.given ++ q.given;
+  fed = p.fed ++ q.fed;
+  handed = p.handed ++ q.handed;
+  moves = moves_trans x y z p.given p.fed q.given q.fed p.handed q.handed p.moves q.moves;
+  carries = goes_trans a b c p.given p.fed q.given q.fed p.carries q.carries;
+  count = let sum = length-append p.fed q.fed in omega (arith, sum, p.count, q.count);
 }
 
+pub carries_done : {T E : Type 0} (w n : Option Wire) (c d : Reading) (room left : ℕ) (result : Result T E) → Carries w n c d room left → OnOk result (Carries w n c d room left)
+carries_done w n c d room left (Ok x) carries = carries
+carries_done w n c d room left (Err e) carries = tt
+
 -- what is kept from turn to turn: view shows nothing yet
-pub record IsTalking {A : Type 0} (view : Bool → Heard → Option A) (w0 w : Option Wire) (r0 r : List ℕ → List ℕ → Type 0) (ended : Bool) (conn : Reading) (first o : OpenCall) (k0 k : ℕ) : Type 0 where
+pub record IsTalking {A : Type 0} (view : Bool → Heard → Option A) (w0 w : Option Wire) (r0 r : List ℕ → List ℕ → Type 0) (ended : Bool) (start conn : Reading) (first o : OpenCall) (k0 k : ℕ) : Type 0 where
   pub waits : IsOpen w r ended conn o
   pub piece : is_piece o.came ≡ true
   pub none : view false o.call.answers ≡ None
-  pub carries : Carries w0 w first.room o.room
+  pub carries : Carries w0 w start conn first.room o.room
   pub same : o.call.id ≡ first.call.id
   pub place_is : o.call.place ≡ first.call.place
   pub rule : SameRule r0 r
   pub later : k0 ≤ k
 
-pub talking_starts : {A : Type 0} (view : Bool → Heard → Option A) (w : Option Wire) (r : List ℕ → List ℕ → Type 0) (ended : Bool) (conn : Reading) (o : OpenCall) (k : ℕ) → IsOpen w r ended conn o → is_piece o.came ≡ true → view false o.call.answers ≡ None → IsTalking view w w r r ended conn o o k k
+pub talking_starts : {A : Type 0} (view : Bool → Heard → Option A) (w : Option Wire) (r : List ℕ → List ℕ → Type 0) (ended : Bool) (conn : Reading) (o : OpenCall) (k : ℕ) → IsOpen w r ended conn o → is_piece o.came ≡ true → view false o.call.answers ≡ None → IsTalking view w w r r ended conn conn o o k k
 talking_starts view w r ended conn o k waits piece none = record {
   waits = waits;
   piece = piece;
   none = none;
-  carries = carries_none w o.room;
+  carries = carries_none w conn o.room;
   same = refl;
   place_is = refl;
   rule = λ s t. ((λ x. x), (λ x. x));
@@ -69,12 +76,12 @@ judged_some None End x j = absurd cc
 judged_some None Piece x j = absurd cc
 judged_some None (Broken code) x j = absurd cc
 
-pub talking_goes_on : {A : Type 0} (view : Bool → Heard → Option A) (w0 w n : Option Wire) (r0 r m : List ℕ → List ℕ → Type 0) (ended still : Bool) (conn next : Reading) (first o now : OpenCall) (k0 k j : ℕ) → IsTalking view w0 w r0 r ended conn first o k0 k → IsOpen n m still next now → is_piece now.came ≡ true → view false now.call.answers ≡ None → Carries w n o.room now.room → now.call.id ≡ o.call.id → now.call.place ≡ o.call.place → SameRule r m → k ≤ j → IsTalking view w0 n r0 m still next first now k0 j
-talking_goes_on view w0 w n r0 r m ended still conn next first o now k0 k j t waits piece none x same place rule later = record {
+pub talking_goes_on : {A : Type 0} (view : Bool → Heard → Option A) (w0 w n : Option Wire) (r0 r m : List ℕ → List ℕ → Type 0) (ended still : Bool) (start conn next : Reading) (first o now : OpenCall) (k0 k j : ℕ) → IsTalking view w0 w r0 r ended start conn first o k0 k → IsOpen n m still next now → is_piece now.came ≡ true → view false now.call.answers ≡ None → Carries w n conn next o.room now.room → now.call.id ≡ o.call.id → now.call.place ≡ o.call.place → SameRule r m → k ≤ j → IsTalking view w0 n r0 m still start next first now k0 j
+talking_goes_on view w0 w n r0 r m ended still start conn next first o now k0 k j t waits piece none x same place rule later = record {
   waits = waits;
   piece = piece;
   none = none;
-  carries = carries_trans w0 w n first.room o.room now.room t.carries x;
+  carries = carries_trans w0 w n start conn next first.room o.room now.room t.carries x;
   same = same ∙ t.same;
   place_is = place ∙ t.place_is;
   rule = λ s y. ((λ p. (rule s y).0 ((t.rule s y).0 p)), (λ p. (t.rule s y).1 ((rule s y).1 p)));
@@ -82,11 +89,11 @@ talking_goes_on view w0 w n r0 r m ended still conn next first o now k0 k j t wa
 }
 
 -- the same with a reader that handed nothing out
-pub talking_judged : {A : Type 0} (look view : Bool → Heard → Option A) (place : ℕ) (w0 w n : Option Wire) (r0 r m : List ℕ → List ℕ → Type 0) (ended still : Bool) (conn next : Reading) (first o mid now : OpenCall) (shown : Option A) (k0 k j : ℕ) → IsLook look view place → IsTalking view w0 w r0 r ended conn first o k0 k → IsOpen n m still next mid → shown ≡ view (is_end mid.came) mid.call.answers → judged shown mid.came ≡ None → (shown ≡ None → IsLike mid now) → Carries w n o.room mid.room → mid.call.id ≡ o.call.id → mid.call.place ≡ o.call.place → SameRule r m → k ≤ j → IsTalking view w0 n r0 m still next first now k0 j
-talking_judged look view place w0 w n r0 r m ended still conn next first o mid now shown k0 k j l t waits is none alike x same place_is rule later =
+pub talking_judged : {A : Type 0} (look view : Bool → Heard → Option A) (place : ℕ) (w0 w n : Option Wire) (r0 r m : List ℕ → List ℕ → Type 0) (ended still : Bool) (start conn next : Reading) (first o mid now : OpenCall) (shown : Option A) (k0 k j : ℕ) → IsLook look view place → IsTalking view w0 w r0 r ended start conn first o k0 k → IsOpen n m still next mid → shown ≡ view (is_end mid.came) mid.call.answers → judged shown mid.came ≡ None → (shown ≡ None → IsLike mid now) → Carries w n conn next o.room mid.room → mid.call.id ≡ o.call.id → mid.call.place ≡ o.call.place → SameRule r m → k ≤ j → IsTalking view w0 n r0 m still start next first now k0 j
+talking_judged look view place w0 w n r0 r m ended still start conn next first o mid now shown k0 k j l t waits is none alike x same place_is rule later =
     let on = judged_on view mid.call.answers mid.came shown (l.total mid.call.answers) is none in
     let like = alike (judged_none shown mid.came none) in
-    talking_goes_on view w0 w n r0 r m ended still conn next first o now k0 k j t (open_like n m still next mid now waits like) (ap is_piece like.came ∙ on.0) (ap (view false) like.answers ∙ on.1) (subst (λ (k : ℕ). Carries w n o.room k) (sym like.room) x) (like.id ∙ same) (like.place ∙ place_is) rule later
+    talking_goes_on view w0 w n r0 r m ended still start conn next first o now k0 k j t (open_like n m still next mid now waits like) (ap is_piece like.came ∙ on.0) (ap (view false) like.answers ∙ on.1) (subst (λ (k : ℕ). Carries w n conn next o.room k) (sym like.room) x) (like.id ∙ same) (like.place ∙ place_is) rule later
 
 -- an answer is shown
 pub judged_over : {A : Type 0} (look view : Bool → Heard → Option A) (place : ℕ) (w : Option Wire) (r : List ℕ → List ℕ → Type 0) (ended : Bool) (conn : Reading) (o : OpenCall) (shown : Option A) (done : Result A TransferFault) (id : ℕ) → IsLook look view place → IsOpen w r ended conn o → o.call.place ≡ place → o.call.id ≡ id → shown ≡ view (is_end o.came) o.call.answers → judged shown o.came ≡ Some done → IfOk done (IsOver look w r ended conn id (alive_of o))
@@ -113,8 +120,8 @@ judged_breaks look view place room w0 w r ended conn o shown (Err (Protocol code
     inl (subst (λ (i : ℕ). Breaks look w r conn i code) same breaks)
 
 -- no room is left
-pub talking_fills : {A : Type 0} (look view : Bool → Heard → Option A) (place : ℕ) (w0 w : Option Wire) (r0 r : List ℕ → List ℕ → Type 0) (ended : Bool) (conn : Reading) (first o : OpenCall) (k0 k : ℕ) → IsLook look view place → first.call.place ≡ place → IsTalking view w0 w r0 r ended conn first o k0 k → o.room ≡ 0 → Fills look first.room w0 w r conn first.call.id
-talking_fills look view place w0 w r0 r ended conn first o k0 k l at t none =
+pub talking_fills : {A : Type 0} (look view : Bool → Heard → Option A) (place : ℕ) (w0 w : Option Wire) (r0 r : List ℕ → List ℕ → Type 0) (ended : Bool) (start conn : Reading) (first o : OpenCall) (k0 k : ℕ) → IsLook look view place → first.call.place ≡ place → IsTalking view w0 w r0 r ended start conn first o k0 k → o.room ≡ 0 → Fills look first.room w0 w r conn first.call.id
+talking_fills look view place w0 w r0 r ended start conn first o k0 k l at t none =
     let waits = t.waits in
-    let filled = fills_by look view w0 w r conn o.call first.room (subst (λ (n : ℕ). IsLook look view n) (sym (t.place_is ∙ at)) l) (open_at w r ended conn o waits) (came_piece o.came false ended conn t.piece waits.came).1 (subst (λ (n : ℕ). Carries w0 w first.room n) none t.carries) t.none in
+    let filled = fills_by look view w0 w r start conn o.call first.room (subst (λ (n : ℕ). IsLook look view n) (sym (t.place_is ∙ at)) l) (open_at w r ended conn o waits) (came_piece o.came false ended conn t.piece waits.came).1 (subst (λ (n : ℕ). Carries w0 w start conn first.room n) none t.carries) t.none in
     subst (λ (i : ℕ). Fills look first.room w0 w r conn i) t.same filled

@@ -1,5 +1,5 @@
 -- One turn of a call.
-use Rattle.std.proofs.Common.{◌≡◌, ℕ, Bool, true, false, ◌&&◌, not, List, [], ◌∷◌, ◌++◌, filter, refl, sym, ap, subst, ◌∙◌, arith, Option, None, Some, Ok, is_none}
+use Rattle.std.proofs.Common.{◌≡◌, ℕ, Bool, true, false, ◌&&◌, not, List, [], ◌∷◌, ◌++◌, append-nil, filter, refl, sym, ap, subst, ◌∙◌, arith, Option, None, Some, Ok, is_none}
 use Rattle.rx_h2conn.specs.declared.fault.ConnFault.{ConnFault}
 use Rattle.rx_h2conn.specs.declared.fault.ConnFault.TheVariants.{NoMemory, Protocol}
 use Rattle.rx_h2conn.specs.Session.{Session, Reading}
@@ -19,6 +19,7 @@ use Rattle.rx_grpc.specs.Came.{CameBy, is_end, is_piece}
 use Rattle.rx_grpc.specs.Moves.{Moves, Exchange, Carries, IsDrained, is_for}
 use Rattle.rx_grpc.specs.Conversation.{CallHears, IsOpen, Drains, alive_of}
 use Rattle.rx_grpc.specs.Shown.{Breaks, IsKept, IsOver}
+use Rattle.rx_grpc.proofs.MoveLemmas.{moves_trans}
 use Rattle.rx_grpc.proofs.ConversationLemmas.{hears_exchange, hears_moved, hears_drained}
 use Rattle.rx_grpc.proofs.ShownLemmas.{IsHeardAt, shows_by, breaks_by}
 use Rattle.rx_grpc.proofs.ItemLemmas.{IsLook}
@@ -189,9 +190,16 @@ open_breaks look view w r ended conn o code l t broken none =
     let both = came_broken o.came code false ended conn broken t.came in
     breaks_by look view w r conn o.call code l (open_at w r ended conn o t) both.0 (ap (λ (x : Bool). view x o.call.answers) (sym both.1) ∙ none)
 
--- what went over the link
-pub exchange_carries : (w0 w1 : Option Wire) (c d : Reading) (room left : ℕ) → Exchange w0 w1 c d room left → Carries w0 w1 room left
-exchange_carries w0 w1 c d room left x = record { given = x.given; fed = x.fed; carries = x.carries; count = x.count }
+-- what went over the link, and over the connection
+pub give_carries : (w0 w1 : Option Wire) (c0 c1 c2 : Reading) (room : ℕ) → Moves c0 c1 [] [] [] → Exchange w0 w1 c1 c2 0 0 → Carries w0 w1 c0 c2 room room
+give_carries w0 w1 c0 c1 c2 room m x = record { given = x.given; fed = x.fed; handed = []; moves = moves_trans c0 c1 c2 [] [] x.given x.fed [] [] m x.moves; carries = x.carries; count = omega (arith, x.count) }
 
-pub flush_carries : (w0 w1 : Option Wire) (c d : Reading) (room : ℕ) → Exchange w0 w1 c d 0 0 → Carries w0 w1 room room
-flush_carries w0 w1 c d room x = record { given = x.given; fed = x.fed; carries = x.carries; count = omega (arith, x.count) }
+pub hear_carries : (w1 w2 : Option Wire) (c2 c3 c4 : Reading) (room left : ℕ) (a b : Call) → Exchange w1 w2 c2 c3 room left → Drains c3 c4 a b → Carries w1 w2 c2 c4 room left
+hear_carries w1 w2 c2 c3 c4 room left a b x d = record {
+  given = x.given ++ [];
+  fed = x.fed ++ [];
+  handed = d.out;
+  moves = moves_trans c2 c3 c4 x.given x.fed [] [] [] d.out x.moves d.moves;
+  carries = rw (append-nil x.given, append-nil x.fed) x.carries;
+  count = rw (append-nil x.fed) x.count;
+}

@@ -15,6 +15,7 @@ use Rattle.rx_grpc.specs.Transport.{TransportOf, IsStarted, takes}
 pub record ChannelOf (D L : Type 0) : Type 0 where
   pub dial : D
   pub transport : Option (TransportOf L)  -- of the last call, also where that failed
+  pub authority : List ℕ
 
 -- The next call is made on the connection that is kept, or else on a new one: this is the value of the first, where it takes a
 -- stream, or the second value.

@@ -58,9 +58,11 @@ is_away (Headers stream list last) = false
 is_away (Bytes stream bytes last) = false
 is_away (Reset stream code) = false
 
--- over the link went what leaves so much less room
-pub record Carries (before now : Option Wire) (room left : ℕ) : Type 0 where
+-- The link carried just what the connection gave and was fed, which leaves so much less room.
+pub record Carries (before now : Option Wire) (old new : Reading) (room left : ℕ) : Type 0 where
   pub given : List ℕ
   pub fed : List ℕ
+  pub handed : List Event
+  pub moves : Moves old new given fed handed
   pub carries : Goes before now (carried given fed)
   pub count : length fed + left ≡ room

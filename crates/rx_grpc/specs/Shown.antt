@@ -33,7 +33,8 @@ pub record Breaks {A : Type 0} (look : Bool → Heard → Option A) (wire : Opti
 
 -- As many bytes as there was room for broke no rule and show no answer.
 pub record Fills {A : Type 0} (look : Bool → Heard → Option A) (room : ℕ) (before now : Option Wire) (rule : List ℕ → List ℕ → Type 0) (conn : Reading) (id : ℕ) : Type 0 where
-  pub carries : Carries before now room 0
+  pub first : Reading
+  pub carries : Carries before now first conn room 0
   pub talk : Conversation now rule conn
   pub fault : conn.state.fault ≡ None
   pub none : shown look false id talk.received ≡ None

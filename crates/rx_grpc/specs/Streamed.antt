@@ -1,5 +1,5 @@
 -- A streamed answer on a channel: it is begun, and then handed out item by item.
-use Rattle.std.specs.Prelude.{◌≡◌, ◌⊎◌, ◌≤◌, ℕ, ◌+◌, Bool, true, false, List, Option, None, Some, is_some, if◌then◌else◌, Result}
+use Rattle.std.specs.Prelude.{◌≡◌, ◌⊎◌, ◌≤◌, ℕ, ◌+◌, Bool, false, List, Option, None, Some, is_some, if◌then◌else◌, Result}
 use Rattle.rx_world.specs.Causes.{HasCauseOf}
 use Rattle.rx_world.specs.Links.{Wire}
 use Rattle.rx_grpc.specs.declared.stream_item.StreamItem.{StreamItem}
@@ -29,9 +29,9 @@ abbrev pub opened_after : StreamItem → Opened → ℕ → Option Opened
 opened_after item o room = if is_message item then Some (record { id = o.id; place = o.place + 1; room = room }) else None
 
 -- An item of an open call was handed out, and the call is open behind it.
-pub record Hands (before now : Option Wire) (rule : List ℕ → List ℕ → Type 0) (ended : Bool) (conn : Reading) (old new : OpenCall) (item : StreamItem) : Type 0 where
+pub record Hands (before now : Option Wire) (rule : List ℕ → List ℕ → Type 0) (ended : Bool) (first conn : Reading) (old new : OpenCall) (item : StreamItem) : Type 0 where
   pub over : IsOver (item_behind old.call.place) now rule ended conn old.call.id (alive_of new) item
-  pub carries : Carries before now old.room new.room
+  pub carries : Carries before now first conn old.room new.room
   pub open_still : IsOpen now rule ended conn new
   pub id : new.call.id ≡ old.call.id
   pub place : new.call.place ≡ place_after (Some item) old.call.place
@@ -40,7 +40,7 @@ pub record Hands (before now : Option Wire) (rule : List ℕ → List ℕ → Ty
 pub record IsNext {L : Type 0} (wire : L → Option Wire) (rule : L → List ℕ → List ℕ → Type 0) (ended : L → Bool) (o : Opened) (old new : TransportOf L) (item : StreamItem) : Type 0 where
   pub over : IsOver (item_behind o.place) (wire new.link) (rule new.link) (ended new.link) new.conn o.id new.alive item
   pub room : ℕ
-  pub carries : Carries (wire old.link) (wire new.link) o.room room
+  pub carries : Carries (wire old.link) (wire new.link) old.conn new.conn o.room room
   pub rest : new.opened ≡ opened_after item o room
 
 abbrev pub Nexts :

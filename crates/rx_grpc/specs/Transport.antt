@@ -1,6 +1,8 @@
 -- A link with its connection, and a channel over a dial, as their users see them.
-use Rattle.std.specs.Prelude.{◌≡◌, ℕ, Bool, false, ◌&&◌, List, [], filter, Option, None, Some, is_none}
+use Rattle.std.specs.Prelude.{◌≡◌, ℕ, Bool, false, ◌&&◌, List, [], ◌∷◌, ◌++◌, filter, Option, None, Some, is_none}
 use Rattle.std.specs.List.{list_any}
+use Rattle.rx_hpack.specs.Header.{Field}
+use Rattle.rx_h2conn.specs.History.{Call, Opens, run}
 use Rattle.rx_h2conn.specs.Session.{Reading}
 use Rattle.rx_h2conn.specs.Streams.{IsHeld}
 use Rattle.rx_h2conn.specs.Open.{refusal, next_id}
@@ -62,9 +64,13 @@ pub record GivesUp (old new : Reading) : Type 0 where
   pub refusal : refusal new.state ≡ refusal old.state
   pub next : next_id new.state ≡ next_id old.state
 
--- the next stream was opened
-pub record OpensStream (old new : Reading) (id : ℕ) : Type 0 where
+-- the next stream was opened by these fields, after some other calls
+pub record OpensStream (old new : Reading) (fields : List Field) (id : ℕ) : Type 0 where
   pub moves : Moves old new [] [] []
+  pub before : List Call
+  pub calls_are : moves.calls ≡ before ++ Opens fields false ∷ []
+  pub free : refusal (run old before).state ≡ None
+  pub stream : id ≡ next_id (run old before).state
   pub fault : new.state.fault ≡ None
   pub events : new.state.events ≡ old.state.events
   pub held : IsHeld new.state id false

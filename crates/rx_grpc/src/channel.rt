@@ -3,8 +3,11 @@
 ghost use Rattle.std.specs.Prelude.{◌≡◌, ◌<◌, ◌^◌, false, true, length, None, IfErr, IfOk, MatchOption, OnErr, OnOk};
 ghost use Rattle.std.specs.List.{All};
 ghost use Rattle.rx_hpack.specs.Encoder.{IsWritable};
-ghost use Rattle.rx_grpc.specs.Channel.{Answers, Fails, HasCauseOn, IsLinkOf, IsRuled, OpensOn, Stops, is_kept};
+ghost use Rattle.rx_hpack.specs.Header.{views};
+ghost use Rattle.rx_grpc.specs.Channel.{Answers, Fails, HasCauseOn, IsLinkOf, IsRuled, OpensOn, Stops, is_kept, stream_for};
 ghost use Rattle.rx_grpc.specs.Faults.{IsOther};
+ghost use Rattle.rx_grpc.specs.Request.{request_fields};
+ghost use Rattle.rx_grpc.specs.Sent.{AskedOn, SendsOn};
 ghost use Rattle.rx_grpc.specs.Streamed.{Begins, NextCause, NextFailsOn, NextsOn, is_answering};
 ghost use Rattle.rx_grpc.specs.declared.transfer_fault.TransferFault.TheVariants.{NoMemory as starved};
 
@@ -40,7 +43,11 @@ impl<D: Dial + Drop> Model for Channel<D> {
 
     ghost use Rattle.std.specs.Prelude.{◌<◌, ◌^◌, length};
 
-    ghost view = { λ c. record { dial = c.dial; transport = c.transport } };
+    ghost view = { λ c. record {
+      dial = c.dial;
+      transport = c.transport;
+      authority = c.authority.items;
+    } };
 
     ghost invariant = { λ c. (length c.authority.items < 2 ^ 32)
         × IsRuled (D.rule c.dial) D.L.rule c.transport };
@@ -52,6 +59,7 @@ impl<D: Dial + Drop> Channel<D> {
         requires { length authority.items < 2 ^ 32 }
         ensures dial { result.dial ≡ dial }
         ensures transport { result.transport ≡ None }
+        ensures authority { result.authority ≡ authority.items }
     {
         Channel {
             alloc,
@@ -104,6 +112,9 @@ impl<D: Dial + Drop> Channel<D> {
         ensures ruled { IsRuled (D.rule self.new.dial) D.L.rule self.new.transport }
         ensures cause { HasCauseOn (D.faults self.old.dial) (D.faults self.new.dial) D.L.faults
             self.old.transport self.new.transport result }
+        ensures asks { OnOk result (SendsOn D.L.wire self.new.transport
+            (stream_for self.old.transport)
+            (request_fields path.now self.old.authority)) }
         ensures closed { OnOk result (is_answering self.new.transport ≡ false) }
     {
         let headers = request_headers(self.alloc, path, &self.authority)?;
@@ -130,6 +141,9 @@ impl<D: Dial + Drop> Channel<D> {
         ensures ruled { IsRuled (D.rule self.new.dial) D.L.rule self.new.transport }
         ensures cause { HasCauseOn (D.faults self.old.dial) (D.faults self.new.dial) D.L.faults
             self.old.transport self.new.transport result }
+        ensures asks { OnOk result (SendsOn D.L.wire self.new.transport
+            (stream_for self.old.transport)
+            (request_fields path.now self.old.authority)) }
         ensures closed { OnOk result (is_answering self.new.transport ≡ false) }
     {
         let headers = request_headers(self.alloc, path, &self.authority)?;
@@ -151,6 +165,9 @@ impl<D: Dial + Drop> Channel<D> {
         requires path { length path.now < 2 ^ 32 }
         requires message { length message.now < 2 ^ 32 }
         ensures begins { OnOk result (Begins D.L.wire self.old.transport self.new.transport) }
+        ensures asks { OnOk result (SendsOn D.L.wire self.new.transport
+            (stream_for self.old.transport)
+            (request_fields path.now self.old.authority)) }
         ensures other { IfErr result IsOther }
         ensures stops { IfErr result (Stops self.new.transport) }
         ensures ruled { IsRuled (D.rule self.new.dial) D.L.rule self.new.transport }
@@ -194,6 +211,7 @@ impl<D: Dial + Drop> Channel<D> {
         requires { All IsWritable headers.now }
         ensures opens { IfOk result (OpensOn D.L.wire D.L.rule D.L.ended D.L.faults
             self.old.transport self.new.transport) }
+        ensures asked { IfOk result (AskedOn D.L.wire self.new.transport (views headers.now)) }
         ensures other { IfErr result IsOther }
         ensures fails { IfErr result (Fails D.L.wire D.L.rule self.old.transport
             self.new.transport) }
@@ -215,6 +233,8 @@ impl<D: Dial + Drop> Channel<D> {
             ((is_kept self.old.transport ≡ false) × (is_kept self.new.transport ≡ false))
             (OpensOn D.L.wire D.L.rule D.L.ended D.L.faults self.old.transport
             self.new.transport)) }
+        ensures asked { IfOk result (λ id. MatchOption id (Unit {0})
+            (AskedOn D.L.wire self.new.transport (views headers.now))) }
         ensures memory { IfErr result (λ fault. fault ≡ starved) }
         ensures dial { self.new.dial ≡ self.old.dial }
         ensures ruled { IsRuled (D.rule self.new.dial) D.L.rule self.new.transport }
@@ -231,6 +251,7 @@ impl<D: Dial + Drop> Channel<D> {
         requires unkept { is_kept self.old.transport ≡ false }
         ensures opens { IfOk result (OpensOn D.L.wire D.L.rule D.L.ended D.L.faults None
             self.new.transport) }
+        ensures asked { IfOk result (AskedOn D.L.wire self.new.transport (views headers.now)) }
         ensures other { IfErr result IsOther }
         ensures fails { IfErr result (Fails D.L.wire D.L.rule None self.new.transport) }
         ensures stops { IfErr result (Stops self.new.transport) }

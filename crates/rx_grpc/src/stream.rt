@@ -4,6 +4,7 @@ ghost use Rattle.std.specs.Prelude.{◌≡◌, ◌≢◌, [], MatchOption, None,
 ghost use Rattle.std.specs.List.{All};
 ghost use Rattle.rx_h2conn.specs.Open.{refusal};
 ghost use Rattle.rx_hpack.specs.Encoder.{IsWritable};
+ghost use Rattle.rx_hpack.specs.Header.{views};
 ghost use Rattle.rx_grpc.specs.Shown.{IsOpenAt};
 ghost use Rattle.rx_grpc.specs.Transport.{GivesUp, OpensStream};
 ghost use Rattle.rx_grpc.specs.declared.transfer_fault.TransferFault.TheVariants.{NoMemory as starved};
@@ -43,7 +44,8 @@ pub fn next_stream(
     ensures memory { IfErr result (λ fault. fault ≡ starved) }
     ensures refused { IfOk result (λ id. MatchOption id (refusal conn.old.state ≢ None)
         (λ id. refusal conn.old.state ≡ None)) }
-    ensures opened { IfOk result (λ id. MatchOption id (Unit {0}) (OpensStream conn.old conn.new)) }
+    ensures opened { IfOk result (λ id. MatchOption id (Unit {0})
+        (OpensStream conn.old conn.new (views headers.now))) }
 {
     give_up(conn, unfinished)?;
     match conn.open_stream(headers, false) {

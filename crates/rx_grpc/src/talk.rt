@@ -8,6 +8,7 @@ ghost use Rattle.rx_grpc.specs.Came.{is_piece};
 ghost use Rattle.rx_grpc.specs.Conversation.{IsOpen, alive_of};
 ghost use Rattle.rx_grpc.specs.Faults.{FaultIs};
 ghost use Rattle.rx_grpc.specs.Heard.{nothing};
+ghost use Rattle.rx_grpc.specs.Moves.{Carries};
 ghost use Rattle.rx_grpc.specs.Shown.{IsOver};
 ghost use Rattle.rx_grpc.specs.Item.{item, item_behind};
 ghost use Rattle.rx_grpc.specs.Streamed.{Hands, NextFault};
@@ -47,6 +48,8 @@ pub fn answer_of<L: Link, B: Body>(
     ensures over { IfOk result (IsOver unary (L.wire link.new) (L.rule link.new)
         (L.ended link.new) conn.new opened.old.call.id (alive_of opened.new)) }
     ensures id { OnOk result (opened.new.call.id ≡ opened.old.call.id) }
+    ensures carries { OnOk result (Carries (L.wire link.old) (L.wire link.new) conn.old
+        conn.new opened.old.room opened.new.room) }
     ensures fault { IfErr result (λ fault. FaultIs unary opened.old.room fault (L.wire link.old)
         (L.wire link.new) (L.rule link.new) conn.new opened.old.call.id) }
     ensures rule { SameRule (L.rule link.old) (L.rule link.new) }
@@ -75,7 +78,7 @@ fn item_behind_turns<L: Link>(
     requires none { item false opened.old.call.answers ≡ None }
     requires few { opened.old.call.place < 53687091 }
     ensures next { IfOk result (Hands (L.wire link.old) (L.wire link.new) (L.rule link.new)
-        (L.ended link.new) conn.new opened.old opened.new) }
+        (L.ended link.new) conn.old conn.new opened.old opened.new) }
     ensures fault { IfErr result (λ fault. FaultIs (item_behind opened.old.call.place)
         opened.old.room fault (L.wire link.old) (L.wire link.new) (L.rule link.new) conn.new
         opened.old.call.id) }
@@ -101,7 +104,7 @@ pub fn item_of<L: Link>(
 ) -> Result<StreamItem, TransferFault>
     requires { IsOpen (L.wire link.old) (L.rule link.old) (L.ended link.old) conn.old opened.old }
     ensures next { IfOk result (Hands (L.wire link.old) (L.wire link.new) (L.rule link.new)
-        (L.ended link.new) conn.new opened.old opened.new) }
+        (L.ended link.new) conn.old conn.new opened.old opened.new) }
     ensures fault { IfErr result (λ fault. NextFault (opened_by opened.old) fault (L.wire link.old)
         (L.wire link.new) (L.rule link.new) conn.new) }
     ensures rule { SameRule (L.rule link.old) (L.rule link.new) }

@@ -1,15 +1,17 @@
 //! A link with its connection, for one call after the other.
 
-ghost use Rattle.std.specs.Prelude.{◌≡◌, true, false, None, Some, is_some, MatchOption, IfErr, IfOk, OnErr};
+ghost use Rattle.std.specs.Prelude.{◌≡◌, true, false, List, None, Some, is_some, MatchOption, IfErr, IfOk, OnErr, OnOk};
 ghost use Rattle.std.specs.List.{All};
 ghost use Rattle.rx_h2conn.specs.Conn.{started};
 ghost use Rattle.rx_h2conn.specs.Open.{next_id};
 ghost use Rattle.rx_hpack.specs.Encoder.{IsWritable};
+ghost use Rattle.rx_hpack.specs.Header.{Field, views};
 ghost use Rattle.rx_world.specs.Causes.{HasCauseOf};
 ghost use Rattle.rx_world.specs.Links.{IsNew, Meets, SameRule};
 ghost use Rattle.rx_grpc.specs.Answer.{unary};
 ghost use Rattle.rx_grpc.specs.Faults.{FaultIs};
 ghost use Rattle.rx_grpc.specs.Shown.{IsOver};
+ghost use Rattle.rx_grpc.specs.Sent.{IsAsked};
 ghost use Rattle.rx_grpc.specs.Streamed.{NextFails, Nexts};
 ghost use Rattle.rx_grpc.specs.Transport.{IsStarted, takes};
 ghost use Rattle.rx_grpc.specs.declared.transfer_fault.TransferFault.TheVariants.{Link as lost, NoMemory as starved};
@@ -107,6 +109,8 @@ impl<L: Link + Drop> Transport<L> {
         ensures started { IfOk result (λ id. MatchOption id (Unit {0})
             (IsStarted (L.wire self.new.link) (L.rule self.new.link) (L.ended self.new.link)
             self.new.conn)) }
+        ensures asked { IfOk result (λ id. MatchOption id (Unit {0}) (λ id.
+            IsAsked (L.wire self.new.link) self.new.conn id (views headers.now))) }
     {
         self.opened = None;
         if !self.alive {
@@ -136,6 +140,9 @@ impl<L: Link + Drop> Transport<L> {
             self.new.conn id) }
         ensures failed { OnErr result (self.new.alive ≡ false) }
         ensures closed { self.new.opened ≡ None }
+        ensures asked { OnOk result ((fields : List Field)
+            → IsAsked (L.wire self.old.link) self.old.conn id fields
+            → IsAsked (L.wire self.new.link) self.new.conn id fields) }
         ensures rule { SameRule (L.rule self.old.link) (L.rule self.new.link) }
         ensures cause { HasCauseOf lost (L.faults self.old.link) (L.faults self.new.link) result }
     {
@@ -152,6 +159,7 @@ impl<L: Link + Drop> Transport<L> {
         requires started { IsStarted (L.wire self.old.link) (L.rule self.old.link)
             (L.ended self.old.link) self.old.conn id }
         ensures link { self.new.link ≡ self.old.link }
+        ensures conn { self.new.conn ≡ self.old.conn }
         ensures opened { self.new.opened
             ≡ Some (record { id = id; place = 0; room = 268435456 }) }
     {

@@ -29,7 +29,8 @@ fn give<L: Link>(link: &mut L, conn: &mut Conn, opened: &mut OpenCall) -> Result
     ensures gives { OnOk result (Gives opened.old opened.new) }
     ensures last { OnOk result (opened.new.request.last ≡ opened.old.request.last) }
     ensures carries { OnOk result
-        (Carries (L.wire link.old) (L.wire link.new) opened.old.room opened.new.room) }
+        (Carries (L.wire link.old) (L.wire link.new) conn.old conn.new opened.old.room
+        opened.new.room) }
     ensures other { IfErr result IsOther }
     ensures rule { SameRule (L.rule link.old) (L.rule link.new) }
     ensures cause { HasCauseOf lost (L.faults link.old) (L.faults link.new) result }
@@ -56,7 +57,8 @@ fn give_body<L: Link, B: Body>(
     ensures drained { OnOk result (IsDrained conn.new.state) }
     ensures gives { OnOk result (Gives opened.old opened.new) }
     ensures carries { OnOk result
-        (Carries (L.wire link.old) (L.wire link.new) opened.old.room opened.new.room) }
+        (Carries (L.wire link.old) (L.wire link.new) conn.old conn.new opened.old.room
+        opened.new.room) }
     ensures other { IfErr result IsOther }
     ensures rule { SameRule (L.rule link.old) (L.rule link.new) }
     ensures cause { HasCauseOf lost (L.faults link.old) (L.faults link.new) result }
@@ -81,7 +83,8 @@ fn hear<L: Link>(link: &mut L, conn: &mut Conn, opened: &mut OpenCall) -> Result
     ensures less { OnOk result (is_piece opened.new.came ≡ true
         → opened.new.room < opened.old.room) }
     ensures carries { OnOk result
-        (Carries (L.wire link.old) (L.wire link.new) opened.old.room opened.new.room) }
+        (Carries (L.wire link.old) (L.wire link.new) conn.old conn.new opened.old.room
+        opened.new.room) }
     ensures id { OnOk result (opened.new.call.id ≡ opened.old.call.id) }
     ensures place { OnOk result (opened.new.call.place ≡ opened.old.call.place) }
     ensures other { IfErr result IsOther }
@@ -111,7 +114,8 @@ pub fn turn<L: Link, B: Body>(
     ensures less { OnOk result (is_piece opened.new.came ≡ true
         → opened.new.room < opened.old.room) }
     ensures carries { OnOk result
-        (Carries (L.wire link.old) (L.wire link.new) opened.old.room opened.new.room) }
+        (Carries (L.wire link.old) (L.wire link.new) conn.old conn.new opened.old.room
+        opened.new.room) }
     ensures id { OnOk result (opened.new.call.id ≡ opened.old.call.id) }
     ensures place { OnOk result (opened.new.call.place ≡ opened.old.call.place) }
     ensures other { IfErr result IsOther }

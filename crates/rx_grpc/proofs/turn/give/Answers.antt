@@ -1,5 +1,5 @@
 use Rattle.std.proofs.Common.{refl, ◌∙◌}
-use Rattle.rx_grpc.proofs.TurnLemmas.{given_open, flush_carries}
+use Rattle.rx_grpc.proofs.TurnLemmas.{given_open, give_carries}
 use Rattle.rx_grpc.proofs.turn.give.Goals as goal
 
 pub returns-clause-opened : goal.returns-clause-opened
@@ -7,4 +7,4 @@ returns-clause-opened g c =
     given_open (g.L.Link.wire c.args.link.now) (g.L.Link.wire c.flush.new.link) (g.L.Link.rule c.args.link.now) (g.L.Link.rule c.flush.new.link) (g.L.Link.ended c.args.link.now) (g.L.Link.ended c.flush.new.link) c.args.conn.now c.push.new.conn c.flush.new.conn c.args.opened.now _ c.requires.opened c.requires.piece c.in_ok-push.ensures.moves c.in_ok-push.ensures.held c.in_ok-push.ensures.events c.in_ok-push.ensures.fault c.in_ok-flush.ensures.exchange c.in_ok-flush.ensures.meets c.in_ok-flush.ensures.held c.in_ok-flush.ensures.ended c.in_ok-flush.ensures.fault (c.in_ok-flush.ensures.drained (c.in_ok-push.ensures.events ∙ c.requires.opened.empty)) refl refl
 
 pub returns-clause-carries : goal.returns-clause-carries
-returns-clause-carries g c = flush_carries _ _ _ _ _ c.in_ok-flush.ensures.exchange
+returns-clause-carries g c = give_carries _ _ _ _ _ _ c.in_ok-push.ensures.moves c.in_ok-flush.ensures.exchange

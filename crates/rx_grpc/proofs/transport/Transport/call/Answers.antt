@@ -1,5 +1,6 @@
 use Rattle.std.proofs.Common.{ap, ◌∙◌}
 use Rattle.rx_grpc.specs.Answer.{unary}
+use Rattle.rx_grpc.proofs.AskLemmas.{asked_in, asked_on}
 use Rattle.rx_grpc.proofs.StreamLemmas.{left_at, none_open, ready_over, started_in, waits}
 use Rattle.rx_grpc.proofs.transport.Transport.call.Goals as goal
 
@@ -13,3 +14,6 @@ invariant_of-self-2 g c = (
   λ lives. ready_over unary _ (g.L.Link.rule c.answer_of.new.link) _ _ c.new-opened.result.call.id _ _ c.in_ok-answer.answer _ c.in_ok-answer.ensures.over c.is_alive-self-inside.ensures lives (left_at _ _ _ c.stream_left-self-inside.ensures c.in_ok-answer.ensures.id),
   none_open _ (g.L.Link.rule c.answer_of.new.link) _ _ c.self.inside.opened (ap (λ t. t.opened) c.self.view_is ∙ c.requires.closed),
 )
+
+pub returns-clause-asked : goal.returns-clause-asked
+returns-clause-asked g c = λ fields asked. asked_on _ _ _ _ _ _ _ fields (asked_in g.L.Link.wire _ c.args.self.now _ fields c.self.view_is asked) c.in_ok-answer.ensures.carries
