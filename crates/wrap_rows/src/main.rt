@@ -1,0 +1,36 @@
+//! Words, environments and configuration files of `rewrapper`, as rows: see the headings of `stdin`.
+#![tactic(auto)]
+
+mod arguments;
+mod flags;
+
+use rx_rows::{Answer, Calls, Row, RowFault, TableFault, answer_rows};
+use std::alloc::Global;
+use std::io;
+use std::io::BufReader;
+
+/// The calls of the rows. Nothing is kept from row to row.
+#[derive(Drop)]
+struct Wraps {
+    alloc: Global,
+}
+
+impl Calls for Wraps {
+    fn call(&mut self, row: &mut Row<'_>, answer: &mut Answer) -> Result<(), RowFault> {
+        let alloc = self.alloc;
+        match row.word()? {
+            b"words" => flags::answer_words(alloc, row, answer),
+            b"environment" => flags::answer_environment(alloc, row, answer),
+            b"file" => flags::answer_file(alloc, row, answer),
+            b"flags" => flags::answer_flags(alloc, row, answer),
+            _ => Err(RowFault::NoCall),
+        }
+    }
+}
+
+fn main(rt: HostRuntime) -> Result<(), TableFault> {
+    let alloc = rt.alloc();
+    let input = BufReader::new(alloc, rt.reader())?;
+    let mut wraps = Wraps { alloc };
+    answer_rows(alloc, input, &mut io::writer(&rt), &mut wraps)
+}
