@@ -1,5 +1,5 @@
 -- Settings of the environment: variables RBE_name.
-use Rattle.std.specs.Prelude.{ℕ, List, Option, codes}
+use Rattle.std.specs.Prelude.{List, Option, codes}
 use Rattle.std.specs.List.{filter_map}
 use Rattle.std.specs.Option.{option_and_then, option_map}
 use Rattle.rx_world.specs.declared.commands.Pair.{Pair}

@@ -1,7 +1,15 @@
+pub mod Addresses
+pub mod Asking
+pub mod Choices
+pub mod Commas
 pub mod ConfigFile
 pub mod Cuts
+pub mod Directories
 pub mod Environment
 pub mod Flags
+pub mod Numbers
 pub mod Reading
+pub mod RelativePaths
 pub mod Settings
+pub mod Values
 pub mod Words

@@ -80,7 +80,7 @@ pub(crate) fn answer_flags(
     let text = read_text(alloc, row)?;
     let variables = read_variables(alloc, row)?;
     let words = read_texts(alloc, row)?;
-    let settings = settings_of(alloc, &words, &variables, text.as_str())?;
+    let (settings, _) = settings_of(alloc, &words, &variables, text.as_str())?;
     for flag in FLAGS {
         if let Some(setting) = settings.setting(flag) {
             write_setting(setting, answer)?;
@@ -89,31 +89,32 @@ pub(crate) fn answer_flags(
     Ok(())
 }
 
-/// The settings of all three places, which must be readable.
-fn settings_of<'a>(
+/// The settings of all three places, which must be readable, and the command.
+pub(crate) fn settings_of<'a>(
     alloc: Global,
     words: &'a [Text],
     variables: &'a [Pair],
     text: &'a str,
-) -> Result<Settings<'a>, RowFault> {
+) -> Result<(Settings<'a>, &'a [Text]), RowFault> {
     let Ok(
         Words {
             settings: command_line,
-            command: _,
+            command,
         },
     ) = read_words(alloc, words)
     else {
         return Err(RowFault::BadCall);
     };
     let environment = settings_in_environment(alloc, variables)?;
-    match settings_in_file(alloc, text) {
-        Ok(file) => Ok(Settings {
-            command_line,
-            environment,
-            file,
-        }),
-        Err(_) => Err(RowFault::BadCall),
-    }
+    let Ok(file) = settings_in_file(alloc, text) else {
+        return Err(RowFault::BadCall);
+    };
+    let settings = Settings {
+        command_line,
+        environment,
+        file,
+    };
+    Ok((settings, command))
 }
 
 /// Each setting: its flag, its value and what gave it; `nothing` for none.
@@ -143,7 +144,7 @@ fn write_command(command: &[Text], answer: &mut Answer) -> Result<(), AllocError
 }
 
 /// `bad WORD`, or `NoMemory`.
-fn write_fault(fault: &UsageFault, answer: &mut Answer) -> Result<(), AllocError> {
+pub(crate) fn write_fault(fault: &UsageFault, answer: &mut Answer) -> Result<(), AllocError> {
     match fault {
         UsageFault::Word(word) => {
             answer.word("bad")?;

@@ -2,6 +2,7 @@
 #![tactic(auto)]
 
 mod arguments;
+mod asks;
 mod flags;
 
 use rx_rows::{Answer, Calls, Row, RowFault, TableFault, answer_rows};
@@ -23,6 +24,8 @@ impl Calls for Wraps {
             b"environment" => flags::answer_environment(alloc, row, answer),
             b"file" => flags::answer_file(alloc, row, answer),
             b"flags" => flags::answer_flags(alloc, row, answer),
+            b"asked" => asks::answer_asked(alloc, row, answer),
+            b"payload" => asks::answer_payload(alloc, row, answer),
             _ => Err(RowFault::NoCall),
         }
     }
