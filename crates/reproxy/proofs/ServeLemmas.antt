@@ -1,4 +1,4 @@
--- The one desk of a run over the machine.
+-- The desks of a run over the machine.
 use Rattle.std.proofs.Common.{◌≡◌, ◌∙◌, ℕ, List, [], ◌∷◌, None, Option, Some, refl, sym, subst}
 use Rattle.std.specs.Prelude.{IfSome, MatchOption, String, option_map}
 use Rattle.std.specs.Option.{option_to_list}
@@ -8,7 +8,7 @@ use Rattle.rx_engine.specs.Meanings.{Meanings}
 use Rattle.rx_engine.specs.Proxy.{HasStatus, IsLegal}
 use Rattle.rx_engine.specs.Serves.{RunsDone}
 use Rattle.rx_engine.specs.Words.{Options, options_in, root_in}
-use Rattle.reproxy.specs.Serves.{ServesDesk}
+use Rattle.reproxy.specs.Serves.{ServesClients, ServesDesk}
 
 -- where a root was found its desk was made, and the run was over that desk
 pub serves-desk : {P W B : Type 0} (m : Meanings P W B) (Is : P → Type 0) (found : Option (List ℕ)) (limit faults : ℕ) (made : Option P) (desk : P)
@@ -40,3 +40,17 @@ serves-made m Is words options limit faults None left status journal handed ts k
     (sym none ∙ known) tt
 serves-made m Is words options limit faults (Some desk) left status journal handed ts known is runs legal has =
     serves-desk m Is (root_in words) limit faults (Some desk) desk left status journal handed ts refl is runs legal has
+
+-- where the words are known, the run was over the desks of clients
+pub serves-clients : {D P W B : Type 0} (m : Meanings P W B) (parts : D → P) (found : Option (List ℕ)) (limit faults before after status : ℕ)
+    (journal : List Entry) (handed : List D) (ts : List Transcript)
+    → IfSome found (λ root. RunsDone None None m parts root limit journal faults handed ts)
+    → IsLegal 1 journal ts
+    → IfSome found (λ root. HasStatus {D = D} None None before after status ts)
+    → IfSome found (λ root. ServesClients m parts root limit faults before after status journal handed ts)
+serves-clients m parts None limit faults before after status journal handed ts runs legal has = tt
+serves-clients m parts (Some root) limit faults before after status journal handed ts runs legal has = record {
+  sessions = runs;
+  legal = legal;
+  status_is = has;
+}

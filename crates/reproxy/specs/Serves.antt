@@ -1,5 +1,5 @@
--- One run of the proxy over the one desk that the program makes.
-use Rattle.std.specs.Prelude.{ℕ, List, [], ◌∷◌, Option, Some}
+-- Runs of the proxy over the desks that the program makes.
+use Rattle.std.specs.Prelude.{ℕ, List, [], ◌∷◌, Option, None, Some}
 use Rattle.std.specs.Option.{option_to_list}
 use Rattle.rx_board.specs.declared.journal.Entry.{Entry}
 use Rattle.rx_engine.specs.declared.transcripts.Transcript.{Transcript}
@@ -16,3 +16,11 @@ pub record ServesDesk {P W B : Type 0} (m : Meanings P W B) (Is : P → Type 0) 
       journal faults handed transcripts
   pub legal : IsLegal 1 journal transcripts
   pub status_is : HasStatus (Some (desk ∷ [])) (Some (option_to_list left)) 0 0 status transcripts
+
+-- What was served of the clients that connected, which nothing tells before: the entries are the journal, and the status has its
+-- cause. The front counted so many faults before and after.
+pub record ServesClients {D P W B : Type 0} (m : Meanings P W B) (parts : D → P) (root : List ℕ) (limit faults before after : ℕ)
+    (status : ℕ) (journal : List Entry) (handed : List D) (transcripts : List Transcript) : Type 0 where
+  pub sessions : RunsDone None None m parts root limit journal faults handed transcripts
+  pub legal : IsLegal 1 journal transcripts
+  pub status_is : HasStatus {D = D} None None before after status transcripts

@@ -12,7 +12,7 @@ pub(crate) fn tell_failures(rt: &HostRuntime, transcripts: &[Transcript]) {
 }
 
 /// Tells why the remote attempt of this session failed, if it did.
-fn tell_session(rt: &HostRuntime, transcript: &Transcript) {
+pub(crate) fn tell_session(rt: &HostRuntime, transcript: &Transcript) {
     let number = transcript.number;
     for ended in transcript.ends.as_slice() {
         if let Ended::Remote {

@@ -1,14 +1,13 @@
-//! One run of the proxy over the machine.
+//! A run of the proxy over the machine that serves one request.
 
 ghost use Rattle.std.specs.Prelude.{◌≡◌, ◌↔◌, [], IfOk, IfSome, MatchOption, None};
 ghost use Rattle.rx_engine.specs.Meanings.{meanings};
 ghost use Rattle.rx_engine.specs.Words.{root_in};
 ghost use Rattle.reproxy.specs.Serves.{ServesDesk};
 
-use crate::desk::{HostDesk, HostFront};
-use crate::farm::farm_for;
+use crate::desk::{HostDesk, HostFront, parts_over};
 use rx_board::JOURNAL_LIMIT;
-use rx_engine::{Options, Parts, Ran, options_in, run_proxy};
+use rx_engine::{Options, Ran, options_in, run_proxy};
 use rx_exec_messages::Caller;
 use rx_host::{
     HostBench, HostBenches, HostFarm, HostPlace, HostSink, HostSource, HostSources, HostWorld,
@@ -18,9 +17,6 @@ use std::alloc::AllocError;
 use std::io::{Print, Read};
 use std::process;
 use std::sync::Wait;
-
-/// The directory below which commands are staged.
-const SCRATCH: &str = "/tmp";
 
 /// The root of the place where the words name none. Nothing is placed there.
 const NO_ROOT: &str = "/nonexistent";
@@ -40,29 +36,6 @@ fn place_root<'a>(options: &Option<Options<'a>>) -> &'a str {
     }
 }
 
-/// The one desk, over these streams.
-fn desk_for<I: Read + Drop, O: Print + Drop>(
-    rt: HostRuntime,
-    options: &Options<'_>,
-    seed: [u8; 32],
-    input: I,
-    output: O,
-) -> Result<HostDesk<HostRuntime, I, O>, AllocError>
-    ensures { IfOk result (λ desk. desk.input.input ≡ input) }
-{
-    let alloc = rt.alloc();
-    let process = process::id(rt.process());
-    Ok(Parts {
-        input: HostSource::new(input),
-        output: HostSink::new(output),
-        tree: HostSources::new(rt, String::from_str(alloc, options.root)?),
-        tree_local: HostSources::new(rt, String::from_str(alloc, options.root)?),
-        benches: HostBenches::new(rt, String::from_str(alloc, SCRATCH)?, process),
-        tree_remote: HostSources::new(rt, String::from_str(alloc, options.root)?),
-        farm: farm_for(rt, options, seed)?,
-    })
-}
-
 /// The one desk, where the words are known.
 fn desk_of<I: Read + Drop, O: Print + Drop>(
     rt: HostRuntime,
@@ -75,7 +48,11 @@ fn desk_of<I: Read + Drop, O: Print + Drop>(
         (λ desk. desk.input.input ≡ input)) }
 {
     match options {
-        Some(options) => Ok(Some(desk_for(rt, options, seed, input, output)?)),
+        Some(options) => {
+            let input = HostSource::new(input);
+            let output = HostSink::new(output);
+            Ok(Some(parts_over(rt, options, seed, input, output)?))
+        }
         None => Ok(None),
     }
 }

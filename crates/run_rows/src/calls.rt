@@ -205,6 +205,9 @@ impl<'a, R: Wait> RunCalls<'a, R> {
             None => answer.word("none")?,
         }
         answer.text(options.instance.as_bytes())?;
+        if let Some(listen) = options.listen {
+            answer.text(listen.as_bytes())?;
+        }
         Ok(())
     }
 

@@ -1,5 +1,5 @@
--- Where a farm listens: HOST:PORT.
-use Rattle.std.specs.Prelude.{ℕ, List, [], ◌∷◌, Bool, ◌&&◌, ◌||◌, not, codes, length, ◌==◌}
+-- Where a farm listens, and where the proxy does.
+use Rattle.std.specs.Prelude.{ℕ, List, [], ◌∷◌, Bool, ◌&&◌, ◌||◌, not, codes, drop, length, ◌==◌}
 use Rattle.std.specs.Char.{is_ascii_alphanumeric, is_ascii_digit}
 use Rattle.std.specs.Int.{is_in_range}
 use Rattle.std.specs.List.{list_all}
@@ -24,3 +24,7 @@ colon = 58
 -- HOST:PORT
 unfoldable pub is_address : List ℕ → Bool
 is_address text = has colon text && is_host (before colon text) && is_port (after colon text)
+
+-- where the proxy listens: `unix://` and a path that begins with a slash, or `127.0.0.1:` and a port
+unfoldable pub is_listening_address : List ℕ → Bool
+is_listening_address text = begins text (codes "unix:///") || (begins text (codes "127.0.0.1:") && is_port (drop 10 text))

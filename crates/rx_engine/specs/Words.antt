@@ -1,42 +1,45 @@
--- The words of the command line: `exec`, and options in any order, each once at most.
-use Rattle.std.specs.Prelude.{ℕ, List, [], ◌∷◌, Bool, Option, None, Some, option_map, String, codes, if◌then◌else◌, length, nat_lt, string_bytes}
+-- The words of the command line: `exec` or `serve`, and options in any order, each once at most.
+use Rattle.std.specs.Prelude.{ℕ, List, [], ◌∷◌, Bool, false, not, ◌&&◌, ◌||◌, Option, None, Some, is_some, option_map, String, codes, if◌then◌else◌, length, nat_lt, string_bytes}
 use Rattle.std.specs.Option.{option_and_then, unwrap_or}
 use Rattle.std.specs.Str.{bytes_eq}
-use Rattle.rx_engine.specs.Addresses.{is_address}
+use Rattle.rx_engine.specs.Addresses.{is_address, is_listening_address}
 use Rattle.rx_engine.specs.Cuts.{after, before, begins, has}
 
 -- what the words ask for
 pub record Options : Type 0 where
   pub root : List ℕ
+  pub listen : Option (List ℕ)
   pub remote : Option (List ℕ)
   pub instance : List ℕ
 
 -- the values that options have so far, and the name whose value is the next word
 pub record Given : Type 0 where
   pub root : Option (List ℕ)
+  pub listen : Option (List ℕ)
   pub remote : Option (List ℕ)
   pub instance : Option (List ℕ)
   pub waiting : Option (List ℕ)
 
 abbrev pub nothing_given : Given
-nothing_given = record { root = None; remote = None; instance = None; waiting = None }
+nothing_given = record { root = None; listen = None; remote = None; instance = None; waiting = None }
 
 -- an option that has no value yet gets one that fits
 abbrev pub once : Option (List ℕ) → Bool → List ℕ → Option (List ℕ)
 once None fits value = if fits then Some value else None
 once (Some given) fits value = None
 
--- an option and its value: --root PATH, --remote HOST:PORT or --instance NAME
+-- an option and its value: --root PATH, --listen ADDRESS, --remote HOST:PORT or --instance NAME
 unfoldable pub with_option : Given → List ℕ → List ℕ → Option Given
 with_option given name value =
     if bytes_eq name (codes "--root") then
-    option_map (λ root. record { root = Some root; remote = given.remote; instance = given.instance; waiting = None })
-    (once given.root (begins value (codes "/")) value)
+    option_map (λ root. record given { root = Some root; waiting = None }) (once given.root (begins value (codes "/")) value)
+    else if bytes_eq name (codes "--listen") then
+    option_map (λ listen. record given { listen = Some listen; waiting = None })
+    (once given.listen (is_listening_address value) value)
     else if bytes_eq name (codes "--remote") then
-    option_map (λ remote. record { root = given.root; remote = Some remote; instance = given.instance; waiting = None })
-    (once given.remote (is_address value) value)
+    option_map (λ remote. record given { remote = Some remote; waiting = None }) (once given.remote (is_address value) value)
     else if bytes_eq name (codes "--instance") then
-    option_map (λ instance. record { root = given.root; remote = given.remote; instance = Some instance; waiting = None })
+    option_map (λ instance. record given { instance = Some instance; waiting = None })
     (once given.instance (nat_lt 0 (length value)) value)
     else None
 
@@ -48,7 +51,7 @@ abbrev pub with_word_by : Option (List ℕ) → Given → List ℕ → Option Gi
 with_word_by (Some name) given word = if begins word (codes "-") then None else with_option given name word
 with_word_by None given word =
     if has equals_sign word then with_option given (before equals_sign word) (after equals_sign word)
-    else Some (record { root = given.root; remote = given.remote; instance = given.instance; waiting = Some word })
+    else Some (record given { waiting = Some word })
 
 unfoldable pub with_word : Given → List ℕ → Option Given
 with_word given word = with_word_by given.waiting given word
@@ -58,19 +61,24 @@ abbrev pub with_words : {A : Type 0} → Given → List (String A) → Option Gi
 with_words given [] = Some given
 with_words given (word ∷ words) = option_and_then (λ more. with_words more words) (with_word given (string_bytes word))
 
+-- the command that the words need: `serve` where there is an address to listen at, and else `exec`
+abbrev pub is_command : List ℕ → Bool → Bool
+is_command command listens =
+    if bytes_eq command (codes "exec") then not listens else bytes_eq command (codes "serve") && listens
+
 -- a root is wanted, and no name may lack its value; the instance is empty by default
 abbrev pub options_by : Option (List ℕ) → Option (List ℕ) → Given → Option Options
-options_by None (Some root) given = Some (record { root = root; remote = given.remote; instance = unwrap_or given.instance [] })
+options_by None (Some root) given =
+    Some (record { root = root; listen = given.listen; remote = given.remote; instance = unwrap_or given.instance [] })
 options_by waiting root given = None
 
-abbrev pub options_of : Given → Option Options
-options_of given = options_by given.waiting given.root given
+abbrev pub options_of : List ℕ → Given → Option Options
+options_of command given = if is_command command (is_some given.listen) then options_by given.waiting given.root given else None
 
 -- what the words ask for, where they are in the grammar
 unfoldable pub options_in : {A : Type 0} → List (String A) → Option Options
 options_in [] = None
-options_in (command ∷ words) =
-    if bytes_eq (string_bytes command) (codes "exec") then option_and_then options_of (with_words nothing_given words) else None
+options_in (command ∷ words) = option_and_then (options_of (string_bytes command)) (with_words nothing_given words)
 
 -- the root that they ask for
 abbrev pub root_in : {A : Type 0} → List (String A) → Option (List ℕ)

@@ -1,9 +1,9 @@
-//! Where a farm listens: HOST:PORT.
+//! Where a farm listens, and where the proxy does.
 
 ghost use Rattle.std.specs.Prelude.{◌≡◌};
 ghost use Rattle.std.specs.Char.{is_ascii_digit};
 ghost use Rattle.std.specs.List.{list_all};
-ghost use Rattle.rx_engine.specs.Addresses.{is_address, is_host, is_host_byte, is_port};
+ghost use Rattle.rx_engine.specs.Addresses.{is_address, is_host, is_host_byte, is_listening_address, is_port};
 
 /// The longest name of a host (RFC 1123 2.1).
 const HOST_LIMIT: usize = 255;
@@ -47,12 +47,27 @@ fn is_port(text: &str) -> bool
     }
 }
 
+/// HOST:PORT.
 #[tactic(auto, unfolding(crate::specs::Addresses::is_address))]
 pub(crate) fn is_address(text: &str) -> bool
     ensures { result ≡ is_address text.now }
 {
     match text.split_once(':') {
         Some((host, port)) => is_host(host) && is_port(port),
+        None => false,
+    }
+}
+
+/// `unix://PATH` with a PATH that begins with a slash, or `127.0.0.1:PORT`.
+#[tactic(auto, unfolding(crate::specs::Addresses::is_listening_address))]
+pub(crate) fn is_listening_address(text: &str) -> bool
+    ensures { result ≡ is_listening_address text.now }
+{
+    if text.starts_with("unix:///") {
+        return true;
+    }
+    match text.strip_prefix("127.0.0.1:") {
+        Some(port) => is_port(port),
         None => false,
     }
 }

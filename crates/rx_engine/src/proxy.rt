@@ -189,7 +189,7 @@ fn serve_words<W: World, F: Front<W>, P: Place>(
 }
 
 /// Serves the desks of a front, one after the other, and hands everything back. The words are
-/// `exec --root PATH`.
+/// those of `exec` or of `serve`.
 pub fn run_proxy<W: World, F: Front<W>, P: Place>(
     rt: &impl Wait,
     alloc: Global,

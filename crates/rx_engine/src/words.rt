@@ -1,17 +1,19 @@
 //! The words of the program's command line.
 
-ghost use Rattle.std.specs.Prelude.{◌≡◌, option_copied};
+ghost use Rattle.std.specs.Prelude.{◌≡◌, is_some, option_copied};
 ghost use Rattle.rx_engine.specs.Cuts.{begins};
-ghost use Rattle.rx_engine.specs.Words.{nothing_given, once, options_in, root_in, with_option, with_word, with_words};
+ghost use Rattle.rx_engine.specs.Words.{is_command, nothing_given, once, options_in, root_in, with_option, with_word, with_words};
 
-use crate::addresses::is_address;
+use crate::addresses::{is_address, is_listening_address};
 use std::marker::Model;
 
-/// The options of `reproxy exec`.
+/// The options of `reproxy exec` and of `reproxy serve`.
 #[derive(Debug, Drop)]
 pub struct Options<'a> {
     /// The directory of the source tree and of the outputs, which begins with a slash.
     pub root: &'a str,
+    /// Where the proxy listens, as `unix://PATH` or `127.0.0.1:PORT`: `serve` has one, `exec` has none.
+    pub listen: Option<&'a str>,
     /// Where the farm listens, as `HOST:PORT`.
     pub remote: Option<&'a str>,
     /// The farm's instance; empty, unless one is named.
@@ -26,6 +28,7 @@ impl<'a> Model for Options<'a> {
 
     ghost view = { λ o. record {
       root = o.root.now;
+      listen = option_copied o.listen;
       remote = option_copied o.remote;
       instance = o.instance.now;
     } };
@@ -35,6 +38,7 @@ impl<'a> Model for Options<'a> {
 #[derive(Debug, Drop)]
 struct Given<'a> {
     root: Option<&'a str>,
+    listen: Option<&'a str>,
     remote: Option<&'a str>,
     instance: Option<&'a str>,
     /// The name of an option whose value is the next word.
@@ -49,6 +53,7 @@ impl<'a> Model for Given<'a> {
 
     ghost view = { λ g. record {
       root = option_copied g.root;
+      listen = option_copied g.listen;
       remote = option_copied g.remote;
       instance = option_copied g.instance;
       waiting = option_copied g.waiting;
@@ -80,6 +85,9 @@ fn with_option<'a>(given: Given<'a>, name: &str, value: &'a str) -> Option<Given
     given.waiting = None;
     match name {
         "--root" => given.root = Some(once(given.root, begins(value, b"/"), value)?),
+        "--listen" => {
+            given.listen = Some(once(given.listen, is_listening_address(value), value)?);
+        }
         "--remote" => given.remote = Some(once(given.remote, is_address(value), value)?),
         "--instance" => given.instance = Some(once(given.instance, !value.is_empty(), value)?),
         _ => return None,
@@ -113,6 +121,7 @@ fn given_in(words: &[String]) -> Option<Given<'_>>
 {
     let mut given = Given {
         root: None,
+        listen: None,
         remote: None,
         instance: None,
         waiting: None,
@@ -125,22 +134,30 @@ fn given_in(words: &[String]) -> Option<Given<'_>>
     Some(given)
 }
 
-/// What the words of a command line ask for: `exec --root PATH [--remote HOST:PORT] [--instance
-/// NAME]`, the options in any order, each as two words or as `--name=value`.
+/// Whether it is the command that goes with such options.
+fn is_command(command: &str, listens: bool) -> bool
+    ensures { result ≡ is_command command.now listens }
+{
+    if command == "exec" {
+        return !listens;
+    }
+    command == "serve" && listens
+}
+
+/// What the words of a command line ask for: `exec` or `serve`, and `--root PATH`, of `serve` alone `--listen ADDRESS`,
+/// `[--remote HOST:PORT]`, `[--instance NAME]`: the options in any order, each as two words or as `--name=value`.
 #[tactic(auto, unfolding(crate::specs::Words::options_in))]
 pub fn options_in(words: &[String]) -> Option<Options<'_>>
     ensures { result ≡ options_in words.now }
 {
     let (command, rest) = words.split_first()?;
-    if command.as_str() != "exec" {
-        return None;
-    }
     let given = given_in(rest)?;
-    if given.waiting.is_some() {
+    if !is_command(command.as_str(), given.listen.is_some()) || given.waiting.is_some() {
         return None;
     }
     Some(Options {
         root: given.root?,
+        listen: given.listen,
         remote: given.remote,
         instance: given.instance.unwrap_or(""),
     })

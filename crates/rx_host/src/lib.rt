@@ -13,12 +13,14 @@ mod files;
 mod link;
 #[cfg(test)]
 mod link_tests;
+mod listener;
 mod listing;
 mod looks;
 mod names;
 mod pieces;
 mod place;
 mod seeds;
+mod sockets;
 mod streams;
 #[cfg(test)]
 mod tests;
@@ -30,7 +32,9 @@ pub use dial::HostDial;
 pub use farm::HostFarm;
 pub use files::HostSources;
 pub use link::HostLink;
+pub use listener::HostListener;
 pub use place::HostPlace;
 pub use seeds::draw_seed;
+pub use sockets::{SocketSink, SocketSource};
 pub use streams::{HostSink, HostSource};
 pub use world::HostWorld;

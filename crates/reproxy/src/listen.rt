@@ -1,0 +1,56 @@
+//! A run of the proxy over the machine that serves the clients of a socket.
+
+ghost use Rattle.std.specs.Prelude.{◌≡◌, ◌↔◌, [], IfOk, IfSome, None};
+ghost use Rattle.rx_engine.specs.Meanings.{meanings};
+ghost use Rattle.rx_engine.specs.Words.{root_in};
+ghost use Rattle.reproxy.specs.Serves.{ServesClients};
+
+use crate::clients::ClientFront;
+use rx_board::JOURNAL_LIMIT;
+use rx_engine::{Options, Ran, run_proxy};
+use rx_exec_messages::Caller;
+use rx_host::{
+    HostBench, HostBenches, HostFarm, HostListener, HostPlace, HostSources, HostWorld, SocketSink,
+    SocketSource,
+};
+use rx_world::{Bench, BenchMaker, Place, Sink, Source, Sources, World};
+use std::alloc::AllocError;
+use std::process;
+use std::sync::Wait;
+
+/// Serves the clients that connect, one after the other, until no more can.
+pub(crate) fn listen<'a>(
+    wait: &impl Wait,
+    rt: HostRuntime,
+    words: &[String],
+    options: Options<'a>,
+    listener: HostListener,
+) -> Result<Ran<HostWorld, ClientFront<'a>, HostPlace<HostRuntime>>, AllocError>
+    // The status is 2 exactly where the words aren't known, and then no session is served.
+    ensures usage { IfOk result (λ ran. ran.status ≡ 2 ↔ (root_in words.now ≡ None)) }
+    ensures unused { IfOk result (λ ran.
+        root_in words.now ≡ None → ran.transcripts.items ≡ []) }
+    // What was served of the clients is as a run of the proxy says.
+    ensures served { IfOk result (λ ran. IfSome (root_in words.now) (λ root. ServesClients
+        (meanings ⟦<HostWorld as World>⟧ ⟦<SocketSource as Source>⟧ ⟦<SocketSink as Sink>⟧
+        ⟦<HostSources<HostRuntime> as Sources<HostWorld>>⟧
+        ⟦<HostSources<HostRuntime> as Sources<HostWorld>>⟧
+        ⟦<HostBenches<HostRuntime> as BenchMaker<HostWorld>>⟧
+        ⟦<HostBench<HostRuntime> as Bench<HostWorld>>⟧
+        ⟦<HostSources<HostRuntime> as Sources<HostWorld>>⟧
+        ⟦<HostFarm<HostRuntime> as Caller<HostWorld>>⟧)
+        (λ desk. desk.parts) root JOURNAL_LIMIT
+        (⟦<HostPlace<HostRuntime> as Place>⟧.faults ran.place)
+        listener ran.front.listener
+        ran.status ran.journal.items ran.desks.items ran.transcripts.items)) }
+{
+    let alloc = rt.alloc();
+    let root = String::from_str(alloc, options.root)?;
+    let place = HostPlace::new(rt, root, process::id(rt.process()));
+    let front = ClientFront {
+        rt,
+        listener,
+        options,
+    };
+    Ok(run_proxy::<HostWorld, _, _>(wait, alloc, words, front, place))
+}
