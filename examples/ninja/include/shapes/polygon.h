@@ -1,0 +1,22 @@
+#pragma once
+
+#include "shapes/shape.h"
+
+namespace shapes {
+
+// Corners in one direction, without crossings.
+class Polygon : public Shape {
+public:
+    Polygon(std::string name, std::vector<Point> corners);
+    std::string name() const override;
+    double area() const override;
+    double perimeter() const override;
+    Bounds bounds() const override;
+    bool contains(Point point) const override;
+
+private:
+    std::string name_;
+    std::vector<Point> corners_;
+};
+
+}  // namespace shapes

@@ -1,0 +1,10 @@
+#pragma once
+
+#include "shapes/shape.h"
+
+namespace shapes {
+
+// The shapes that both programs show.
+Shapes samples();
+
+}  // namespace shapes
