@@ -5,6 +5,7 @@ use Rattle.rx_world.specs.declared.links.Link as links
 use Rattle.rx_grpc.specs.declared.transfer_fault.TransferFault.TheVariants.{NoMemory}
 use Rattle.rx_grpc.specs.Caller.{Hears}
 use Rattle.rx_grpc.specs.Channel.{ChannelOf, Fails}
+use Rattle.rx_grpc.specs.Questions.{Asked}
 use Rattle.rx_grpc.specs.Replies.{Heard}
 use Rattle.rx_grpc.specs.Transport.{TransportOf}
 
@@ -12,10 +13,11 @@ fails-not : {L : Type 0} (wire : L → Option Wire) (rule : L → List ℕ → L
 fails-not wire rule old None = tt
 fails-not wire rule old (Some t) = tt
 
-pub unheard : {D L : Type 0} (dial : D → ℕ) (link : links.Ghosts L) (channel : ChannelOf D L) (IsSuch : Heard → Type 0) → IsSuch (Err NoMemory) → Hears dial link channel channel IsSuch
-unheard dial link channel IsSuch is = record {
+pub unheard : {D L : Type 0} (dial : D → ℕ) (link : links.Ghosts L) (asked : Asked) (channel : ChannelOf D L) (IsSuch : Heard → Type 0) → IsSuch (Err NoMemory) → Hears dial link asked channel channel IsSuch
+unheard dial link asked channel IsSuch is = record {
   heard = Err NoMemory;
   shown = tt;
+  asks = tt;
   fails = fails-not link.wire link.rule channel.transport channel.transport;
   stops = tt;
   cause = record { later = le_refl _; failed = λ e. absurd cc };

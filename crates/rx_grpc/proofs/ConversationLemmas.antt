@@ -26,7 +26,7 @@ meets_rule None r sent received m t = m sent received
 meets_rule (Some x) r sent received m t = subst (λ (y : Wire). r y.sent y.received) t m
 
 -- by calls that hand out some events, and give and are fed what the link carried
-pub talk_on : (w n : Option Wire) (r m : List ℕ → List ℕ → Type 0) (c d : Reading) (given fed : List ℕ) (out : List Event) → Conversation w r c → Moves c d given fed out → Goes w n (carried given fed) → Meets n m → Conversation n m d
+unfoldable pub talk_on : (w n : Option Wire) (r m : List ℕ → List ℕ → Type 0) (c d : Reading) (given fed : List ℕ) (out : List Event) → Conversation w r c → Moves c d given fed out → Goes w n (carried given fed) → Meets n m → Conversation n m d
 talk_on w n r m c d given fed out t moves carries meets =
     let tells = tells_on w n t.sent t.received given fed t.tells carries in
     record {
@@ -38,7 +38,7 @@ talk_on w n r m c d given fed out t moves carries meets =
       meets = meets_rule n m _ _ meets tells;
     }
 
-pub hears_exchange : (w n : Option Wire) (r m : List ℕ → List ℕ → Type 0) (c d : Reading) (room left : ℕ) (call : Call) → CallHears w r c call → Exchange w n c d room left → Meets n m → CallHears n m d call
+unfoldable pub hears_exchange : (w n : Option Wire) (r m : List ℕ → List ℕ → Type 0) (c d : Reading) (room left : ℕ) (call : Call) → CallHears w r c call → Exchange w n c d room left → Meets n m → CallHears n m d call
 unfolding talk_on
 hears_exchange w n r m c d room left call h x meets = record {
   talk = talk_on w n r m c d x.given x.fed [] h.talk x.moves x.carries meets;
@@ -62,7 +62,7 @@ talk_moved w r c d out t moves =
       meets = rw (sent, received) t.meets;
     }
 
-pub hears_moved : (w : Option Wire) (r : List ℕ → List ℕ → Type 0) (c d : Reading) (call : Call) → CallHears w r c call → Moves c d [] [] [] → CallHears w r d call
+unfoldable pub hears_moved : (w : Option Wire) (r : List ℕ → List ℕ → Type 0) (c d : Reading) (call : Call) → CallHears w r c call → Moves c d [] [] [] → CallHears w r d call
 unfolding talk_moved
 hears_moved w r c d call h moves = record {
   talk = talk_moved w r c d [] h.talk moves;
@@ -72,7 +72,7 @@ hears_moved w r c d call h moves = record {
   away_is = h.away_is ∙ ap (list_any is_away) (sym (append-nil h.talk.handed));
 }
 
-pub hears_drained : (w : Option Wire) (r : List ℕ → List ℕ → Type 0) (c d : Reading) (a b : Call) → CallHears w r c a → Drains c d a b → CallHears w r d b
+unfoldable pub hears_drained : (w : Option Wire) (r : List ℕ → List ℕ → Type 0) (c d : Reading) (a b : Call) → CallHears w r c a → Drains c d a b → CallHears w r d b
 unfolding talk_moved
 hears_drained w r c d a b h is =
     let handed = h.talk.handed in

@@ -1,7 +1,7 @@
 -- Events handed out one after another.
 use Rattle.std.proofs.Common.{◌≡◌, ◌<◌, ℕ, Bool, true, false, ◌||◌, ◌&&◌, not, List, [], ◌∷◌, ◌++◌, length, filter, refl, sym, ap, subst, ◌∙◌, arith, Option, None, Some}
 use Rattle.std.proofs.lemmas.List.Elements.{filter-append}
-use Rattle.std.specs.List.{list_any}
+use Rattle.std.specs.List.{list_all, list_any}
 use Rattle.rx_h2conn.specs.Session.{Session, Reading, Event, Queued}
 use Rattle.rx_h2conn.specs.Streams.{KeepsHeld, is_open, stream_at}
 use Rattle.rx_h2conn.specs.Data.{owe}
@@ -10,10 +10,10 @@ use Rattle.rx_h2conn.specs.Heard.{as_list}
 use Rattle.rx_h2conn.proofs.ListLemmas.{either}
 use Rattle.rx_grpc.specs.declared.call.Call.{Call}
 use Rattle.rx_grpc.specs.Heard.{Heard, heard}
-use Rattle.rx_grpc.specs.Moves.{Moves, is_for, is_away}
+use Rattle.rx_grpc.specs.Moves.{Moves, is_for, is_away, is_quiet}
 use Rattle.rx_grpc.specs.Conversation.{Drains}
 use Rattle.rx_grpc.proofs.UseLemmas.{heard_append}
-use Rattle.rx_grpc.proofs.MoveLemmas.{moves_none, moves_trans, moves_handed}
+use Rattle.rx_grpc.proofs.MoveLemmas.{moves_none, moves_trans, moves_handed, quiet_both}
 
 pub or_nothing : (b : Bool) → b ≡ (b || false)
 or_nothing true = refl
@@ -28,7 +28,8 @@ any_append P [] ys = refl
 any_append P (x ∷ xs) ys = ap (λ (b : Bool). P x || b) (any_append P xs ys) ∙ sym (or_again (P x) (list_any P xs) (list_any P ys))
 
 pub drains_none : (old : Reading) (call : Call) → Drains old old call call
-drains_none old call = record { out = []; moves = moves_none old; id = refl; place = refl; heard_is = refl; away_is = or_nothing call.away; fault = refl; held = λ i over h. h }
+unfolding moves_none
+drains_none old call = record { out = []; moves = moves_none old; quiet = refl; id = refl; place = refl; heard_is = refl; away_is = or_nothing call.away; fault = refl; held = λ i over h. h }
 
 pub owe-events : (s : Session) (id credit : ℕ) → (owe s id credit).events ≡ s.events
 unfolding owe
@@ -50,12 +51,22 @@ pub drained_less : (now new : Reading) (e : Event) → first now.state.events �
 drained_less now new e some is = subst (λ (x : Reading). length x.state.events < length now.state.events) (sym is) (fewer now.state now.state.events e refl some)
 
 -- one event more
+pub hands_by : (now new : Reading) (o : Option Event) (e : Event) → o ≡ Some e → (m : Moves now new [] [] (as_list o)) → list_all is_quiet m.calls ≡ true → (n : Moves now new [] [] (e ∷ [])) × (list_all is_quiet n.calls ≡ true)
+hands_by now new (Some x) e is m quiet = let same : x ≡ e = cc in subst (λ (y : Event). (n : Moves now new [] [] (y ∷ [])) × (list_all is_quiet n.calls ≡ true)) same (m, quiet)
+hands_by now new None e is m quiet = absurd cc
+
+pub hands_one : (now new : Reading) (e : Event) → first now.state.events ≡ Some e → new ≡ after_event now → (n : Moves now new [] [] (e ∷ [])) × (list_all is_quiet n.calls ≡ true)
+unfolding moves_handed
+hands_one now new e some is = hands_by now new (first now.state.events) e some (moves_handed now new is) refl
+
 pub drains_next : (old now new : Reading) (a b d : Call) (e : Event) → Drains old now a b → first now.state.events ≡ Some e → new ≡ after_event now → KeepsHeld now.state new.state → d.id ≡ b.id → d.place ≡ b.place → d.answers ≡ heard b.answers (filter (is_for b.id) (e ∷ [])) → d.away ≡ (b.away || is_away e) → Drains old new a d
+unfolding moves_trans
 drains_next old now new a b d e is some after_is held id place heard_is away_is =
-    let step : Moves now new [] [] (e ∷ []) = subst (λ (x : Option Event). Moves now new [] [] (as_list x)) some (moves_handed now new after_is) in
+    let step = hands_one now new e some after_is in
     record {
       out = is.out ++ e ∷ [];
-      moves = moves_trans old now new [] [] [] [] is.out (e ∷ []) is.moves step;
+      moves = moves_trans old now new [] [] [] [] is.out (e ∷ []) is.moves step.0;
+      quiet = quiet_both is.moves.calls step.0.calls is.quiet step.1;
       id = id ∙ is.id;
       place = place ∙ is.place;
       heard_is =

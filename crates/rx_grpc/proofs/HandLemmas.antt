@@ -14,12 +14,14 @@ use Rattle.rx_grpc.specs.Heard.{Heard, heard, nothing}
 use Rattle.rx_grpc.specs.Item.{item, item_at_end, item_by, item_behind, item_of_end, is_message, after_item, place_after}
 use Rattle.rx_grpc.specs.Moves.{Carries, is_for}
 use Rattle.rx_grpc.specs.Uses.{front}
-use Rattle.rx_grpc.specs.Conversation.{IsOpen, alive_of}
+use Rattle.rx_grpc.specs.Conversation.{CallHears, IsOpen, alive_of}
 use Rattle.rx_grpc.specs.Faults.{FaultIs}
+use Rattle.rx_grpc.specs.Sent.{Handing, StillAsks, given_after}
 use Rattle.rx_grpc.specs.Shown.{IsOver}
 use Rattle.rx_grpc.specs.Streamed.{Hands, NextFault}
 use Rattle.rx_grpc.specs.Transport.{opened_by}
 use Rattle.rx_grpc.proofs.ItemLemmas.{item_look}
+use Rattle.rx_grpc.proofs.AskingLemmas.{asking_as}
 use Rattle.rx_grpc.proofs.TalkLemmas.{judged_over, judged_some}
 use Rattle.rx_grpc.proofs.TurnLemmas.{IsLike}
 
@@ -41,19 +43,31 @@ last_no_message (Some e) cut ended x is = let same : item_of_end e cut ≡ x = c
 -- what was handed out, after one item more
 pub record IsGiven (given : List (List ℕ)) (h : Heard) (x : StreamItem) : Type 0 where
   pub all : List (List ℕ)
+  pub all_is : all ≡ given_after x given
   pub heard_is : front all (after_item (Some x) h) ≡ front given h
   pub count : length all ≡ place_after (Some x) (length given)
 
 pub given_message : (given : List (List ℕ)) (h : Heard) (m : List ℕ) (ms : List (List ℕ)) (x : StreamItem) → h.messages ≡ m ∷ ms → Items.Message m ≡ x → IsGiven given h x
 given_message given h m ms x is same = rw (sym same) (record {
   all = given ++ m ∷ [];
+  all_is = refl;
   heard_is = rw is (ap (λ (z : List (List ℕ)). record h { messages = z }) (append_assoc given (m ∷ []) ms));
   count = length-append given (m ∷ []);
 })
 
+pub given_same : (x : StreamItem) (given : List (List ℕ)) → is_message x ≡ false → given_after x given ≡ given
+given_same (Items.Message m) given last = absurd cc
+given_same (Items.Success cut) given last = refl
+given_same (Items.Status code) given last = refl
+given_same Items.Compressed given last = refl
+given_same Items.TooLarge given last = refl
+given_same Items.NoStatus given last = refl
+given_same Items.LinkEnd given last = refl
+
 pub given_none : (given : List (List ℕ)) (h : Heard) (x : StreamItem) → is_message x ≡ false → IsGiven given h x
 given_none given h x last = record {
   all = given;
+  all_is = sym (given_same x given last);
   heard_is = ap (λ (b : Bool). front given (cond b (record h { messages = drop 1 h.messages }) h)) last;
   count = sym (ap (λ (b : Bool). cond b (length given + 1) (length given)) last);
 }
@@ -68,27 +82,44 @@ pub record HandsOne (o n : OpenCall) (shown : Option StreamItem) : Type 0 where
   pub answers : n.call.answers ≡ after_item shown o.call.answers
   pub place : n.call.place ≡ place_after shown o.call.place
   pub away : n.call.away ≡ o.call.away
-  pub done : n.request.done ≡ o.request.done
+  pub request : n.request ≡ o.request
   pub room : n.room ≡ o.room
   pub came : n.came ≡ o.came
 
+unfoldable pub hears_handed : (w : Option Wire) (r : List ℕ → List ℕ → Type 0) (conn : Reading) (o n : OpenCall) (x : StreamItem) → CallHears w r conn o.call → item (is_end o.came) o.call.answers ≡ Some x → HandsOne o n (Some x) → CallHears w r conn n.call
+hears_handed w r conn o n x c shown one =
+    let h = o.call.answers in
+    let g = given_item c.given h h.messages (is_end o.came) x refl shown in
+    record {
+      talk = c.talk;
+      given = g.all;
+      count = g.count ∙ (ap (place_after (Some x)) c.count ∙ sym one.place);
+      heard_is = ap (front g.all) one.answers ∙ (g.heard_is ∙ (c.heard_is ∙ ap (λ (i : ℕ). heard nothing (filter (is_for i) c.talk.handed)) (sym one.id)));
+      away_is = one.away ∙ c.away_is;
+    }
+
 pub open_handed : (w : Option Wire) (r : List ℕ → List ℕ → Type 0) (ended : Bool) (conn : Reading) (o n : OpenCall) (x : StreamItem) → IsOpen w r ended conn o → item (is_end o.came) o.call.answers ≡ Some x → HandsOne o n (Some x) → IsOpen w r ended conn n
 open_handed w r ended conn o n x t shown one =
-    let h = o.call.answers in
-    let g = given_item t.hears.given h h.messages (is_end o.came) x refl shown in
+    let request = one.request in
     record {
-      hears = record {
-        talk = t.hears.talk;
-        given = g.all;
-        count = g.count ∙ (ap (place_after (Some x)) t.hears.count ∙ sym one.place);
-        heard_is = ap (front g.all) one.answers ∙ (g.heard_is ∙ (t.hears.heard_is ∙ ap (λ (i : ℕ). heard nothing (filter (is_for i) t.hears.talk.handed)) (sym one.id)));
-        away_is = one.away ∙ t.hears.away_is;
-      };
-      held = rw (one.id, one.done) t.held;
+      hears = hears_handed w r conn o n x t.hears shown one;
+      held = rw (one.id, request) t.held;
       empty = t.empty;
       met = t.met;
       came = rw one.came t.came;
     }
+
+-- and it asks what it asked
+pub hands_asks : (w0 w : Option Wire) (r0 r : List ℕ → List ℕ → Type 0) (start conn : Reading) (first o n : OpenCall) (shown : Option StreamItem) (done : Result StreamItem TransferFault) → shown ≡ item (is_end o.came) o.call.answers → judged shown o.came ≡ Some done → HandsOne o n shown → StillAsks w0 w r0 r start conn first o [] [] → IfOk done (Handing w0 w r0 r start conn first n)
+unfolding hears_handed
+hands_asks w0 w r0 r start conn first o n shown (Err fault) is j one asks = tt
+hands_asks w0 w r0 r start conn first o n shown (Ok answer) is j one asks = λ fields messages given a.
+    let some = judged_some shown o.came answer j in
+    let whole = subst (λ (s : Option StreamItem). HandsOne o n s) some one in
+    let now = asks fields messages given a in
+    let h = o.call.answers in
+    let all = (given_item now.hears.given h h.messages (is_end o.came) answer refl (sym is ∙ some)).all_is in
+    asking_as w r conn o n [] fields messages given (given_after answer given) now (hears_handed w r conn o n answer now.hears (sym is ∙ some) whole) refl (all ∙ ap (given_after answer) now.given_is) whole.id whole.request
 
 pub alive_same : (o n : OpenCall) → n.came ≡ o.came → n.call.away ≡ o.call.away → alive_of n ≡ alive_of o
 alive_same o n came away = rw (came, away) refl
@@ -126,21 +157,7 @@ none_handed o n shown one none = record {
   answers = one.answers ∙ ap (λ (s : Option StreamItem). after_item s o.call.answers) none;
   place = one.place ∙ ap (λ (s : Option StreamItem). place_after s o.call.place) none;
   away = one.away;
-  done = one.done;
+  request = one.request;
   room = one.room;
   came = one.came;
 }
-
-pub hands_from : (w0 w : Option Wire) (r : List ℕ → List ℕ → Type 0) (ended : Bool) (start conn : Reading) (first o n : OpenCall) (result : Result StreamItem TransferFault) → IsLike first o → IfOk result (Hands w0 w r ended start conn o n) → IfOk result (Hands w0 w r ended start conn first n)
-hands_from w0 w r ended start conn first o n (Err fault) like h = tt
-hands_from w0 w r ended start conn first o n (Ok x) like h = record {
-  over = subst (λ (i : ℕ). IsOver (item_behind first.call.place) w r ended conn i (alive_of n) x) like.id (subst (λ (p : ℕ). IsOver (item_behind p) w r ended conn o.call.id (alive_of n) x) like.place h.over);
-  carries = subst (λ (k : ℕ). Carries w0 w start conn k n.room) like.room h.carries;
-  open_still = h.open_still;
-  id = h.id ∙ like.id;
-  place = h.place ∙ ap (place_after (Some x)) like.place;
-}
-
-pub faults_from : (w0 w : Option Wire) (r : List ℕ → List ℕ → Type 0) (conn : Reading) (first o : OpenCall) (result : Result StreamItem TransferFault) → IsLike first o → IfErr result (λ fault. FaultIs (item_behind o.call.place) o.room fault w0 w r conn o.call.id) → IfErr result (λ fault. NextFault (opened_by first) fault w0 w r conn)
-faults_from w0 w r conn first o (Ok x) like f = tt
-faults_from w0 w r conn first o (Err fault) like f = next_fault first fault w0 w r conn (rw (sym like.id, sym like.place, sym like.room) f)

@@ -12,10 +12,15 @@ pub mod TurnLemmas
 pub mod TalkLemmas
 pub mod HandLemmas
 pub mod GiveLemmas
-pub mod AskLemmas
 pub mod StreamLemmas
+pub mod QuietLemmas
+pub mod UnopenedLemmas
+pub mod AskLemmas
+pub mod AskingLemmas
+pub mod SendLemmas
 pub mod EachLemmas
 pub mod CallerLemmas
 pub mod StreamedLemmas
+pub mod AskedLemmas
 pub mod BatchLemmas
 pub mod RefusedLemmas

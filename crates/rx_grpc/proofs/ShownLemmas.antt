@@ -1,12 +1,15 @@
 -- What a call has heard is what the received bytes show.
-use Rattle.std.proofs.Common.{◌≡◌, ℕ, Bool, true, false, List, [], ◌++◌, append-nil, refl, sym, ap, ◌∙◌, Option, None, Some}
+use Rattle.std.proofs.Common.{◌≡◌, ℕ, Bool, true, false, List, [], ◌++◌, append-nil, append_assoc, refl, sym, ap, ◌∙◌, Option, None, Some}
 use Rattle.rx_h2conn.specs.declared.fault.ConnFault.TheVariants.{NoMemory, Protocol}
 use Rattle.rx_h2conn.specs.Session.{Reading, Event, Queued}
 use Rattle.rx_h2conn.specs.Streams.{is_open, stream_at}
 use Rattle.rx_h2conn.specs.Conn.{started}
+use Rattle.rx_h2conn.specs.Incoming.{nothing as no_bytes}
 use Rattle.rx_h2conn.specs.Part.{Part, blank, part}
+use Rattle.rx_h2conn.specs.State.{Extends}
 use Rattle.rx_h2conn.specs.History.{run}
 use Rattle.rx_h2conn.specs.Heard.{HearsLawful, all_handed, all_lawful, events_of}
+use Rattle.rx_h2conn.proofs.GrowLemmas.{part_later}
 use Rattle.rx_h2conn.proofs.HeardRunLemmas.{hears}
 use Rattle.rx_world.specs.Links.{Wire}
 use Rattle.rx_grpc.specs.declared.call.Call.{Call}
@@ -15,8 +18,8 @@ use Rattle.rx_grpc.specs.Uses.{events_at, front, ShownStays}
 use Rattle.rx_grpc.specs.Moves.{Carries}
 use Rattle.rx_grpc.specs.Conversation.{CallHears}
 use Rattle.rx_grpc.specs.Shown.{shown, Shows, Breaks, Fills}
-use Rattle.rx_grpc.proofs.UseLemmas.{front_shows}
-use Rattle.rx_grpc.proofs.ItemLemmas.{IsLook}
+use Rattle.rx_grpc.proofs.UseLemmas.{front_shows, heard_append}
+use Rattle.rx_grpc.proofs.ItemLemmas.{IsLook, messages_later}
 use Rattle.rx_grpc.proofs.HearLemmas.{reads_from}
 
 -- the connection of a conversation, with the stream that is held
@@ -57,6 +60,24 @@ pub lawful_front : (wire : Option Wire) (rule : List ℕ → List ℕ → Type 0
 lawful_front wire rule conn call h =
     let front = (lawful_at wire rule conn call h).front in
     (front.0, sym h.hears.talk.moves.fed_is ∙ front.1)
+
+-- the messages that were handed out are a front of those of all bytes
+pub heard_given : (wire : Option Wire) (rule : List ℕ → List ℕ → Type 0) (conn : Reading) (call : Call) (h : IsHeardAt wire rule conn call) → Extends h.hears.given (heard nothing (events_at call.id h.hears.talk.received)).messages
+heard_given wire rule conn call h =
+    let lawful = all_lawful started h.hears.talk.moves.calls in
+    let cut = lawful_front wire rule conn call h in
+    let (later, is) = part_later call.id no_bytes lawful cut.0 in
+    let here = heard nothing (events_at call.id lawful) in
+    let (more, grows) = messages_later here later in
+    let given = h.hears.given in (
+      call.answers.messages ++ more,
+      ap (λ (x : List ℕ). (heard nothing (events_at call.id x)).messages) cut.1
+          ∙ (ap (λ (x : List Event). (heard nothing x).messages) is
+          ∙ (ap (λ (x : Heard). x.messages) (heard_append nothing (events_at call.id lawful) later)
+          ∙ (grows
+          ∙ (ap (λ (x : Heard). x.messages ++ more) (sym (heard_lawful wire rule conn call h))
+          ∙ append_assoc given call.answers.messages more)))),
+    )
 
 -- an answer that is shown without the link's end is shown with it
 pub shown_at : {A : Type 0} (look view : Bool → Heard → Option A) (place : ℕ) (l : IsLook look view place) (ended link_ended : Bool) (a : Heard) (x : A) → (ended ≡ true → link_ended ≡ true) → view ended a ≡ Some x → view link_ended a ≡ Some x

@@ -18,12 +18,13 @@ use Rattle.rx_h2conn.proofs.ConnLemmas.{opened-fault, reset-fault}
 use Rattle.rx_h2conn.proofs.HeardRunLemmas.{hears}
 use Rattle.rx_h2conn.proofs.ListLemmas.{or_false}
 use Rattle.rx_world.specs.Links.{Wire, IsNew, Meets}
+use Rattle.rx_grpc.specs.declared.call.Call.{Call}
 use Rattle.rx_grpc.specs.declared.came.Came.TheVariants.{Piece}
 use Rattle.rx_grpc.specs.declared.open_call.OpenCall.{OpenCall}
 use Rattle.rx_grpc.specs.declared.transfer_fault.TransferFault.{TransferFault}
 use Rattle.rx_grpc.specs.Heard.{Heard, nothing, heard}
 use Rattle.rx_grpc.specs.Moves.{Moves, is_away, is_for}
-use Rattle.rx_grpc.specs.Conversation.{IsOpen, Tells}
+use Rattle.rx_grpc.specs.Conversation.{CallHears, Conversation, IsOpen, Tells}
 use Rattle.rx_grpc.specs.Shown.{IsKept, IsOpenAt, IsOver}
 use Rattle.rx_grpc.specs.Transport.{TransportOf, IsOpenOr, IsStarted, IsReady, GivesUp, OpensStream, opened_of}
 use Rattle.rx_grpc.proofs.MoveLemmas.{moves_none, moves_trans}
@@ -57,6 +58,7 @@ gives_up None old new id code u v is none d rest =
         fed_is = refl;
         handed_is = refl;
         paced = (tt, tt);
+        sends = (tt, tt);
       };
       fault = ap (λ (x : Session). x.fault) d.0 ∙ (reset-fault s id code ∙ is);
       events = ap (λ (x : Session). x.events) d.0 ∙ reset-events s id code;
@@ -82,6 +84,7 @@ opens_next None old mid new fields n is g d rest held =
       fed_is = refl;
       handed_is = refl;
       paced = (tt, tt);
+      sends = (tt, tt);
     } in (
       record {
         moves = moves_trans old mid new [] [] [] [] [] [] g.moves step;
@@ -147,7 +150,7 @@ kept_silent wire rule ended conn k =
     none_for (next_id conn.state) k.talk.handed (ap (filter (is_on (next_id conn.state))) (sym all) ∙ silent) k.stays
 
 -- a stream was opened for the next call
-pub starts : (wire : Option Wire) (rule : List ℕ → List ℕ → Type 0) (ended : Bool) (old new : Reading) (fields : List Field) (n : ℕ) → IsKept wire rule ended old → OpensStream old new fields n → IsStarted wire rule ended new n
+unfoldable pub starts : (wire : Option Wire) (rule : List ℕ → List ℕ → Type 0) (ended : Bool) (old new : Reading) (fields : List Field) (n : ℕ) → IsKept wire rule ended old → OpensStream old new fields n → IsStarted wire rule ended new n
 unfolding talk_moved
 starts wire rule ended old new fields n k o = record {
   fault = o.fault;
@@ -160,16 +163,20 @@ starts wire rule ended old new fields n k o = record {
   stays = ap (list_any is_away) (append-nil k.talk.handed) ∙ k.stays;
 }
 
+-- a call on it has heard nothing
+unfoldable pub hears_new : (wire : Option Wire) (rule : List ℕ → List ℕ → Type 0) (conn : Reading) (call : Call) (id : ℕ) (talk : Conversation wire rule conn) → filter (is_for id) talk.handed ≡ [] → list_any is_away talk.handed ≡ false → call.id ≡ id → call.answers ≡ nothing → call.place ≡ 0 → call.away ≡ false → CallHears wire rule conn call
+hears_new wire rule conn call id talk silent stays same new place going = record {
+  talk = talk;
+  given = [];
+  count = sym place;
+  heard_is = new ∙ ap (heard nothing) (sym (ap (λ (i : ℕ). filter (is_for i) talk.handed) same ∙ silent));
+  away_is = going ∙ sym stays;
+}
+
 -- and its call is open
 pub waits : (wire : Option Wire) (rule : List ℕ → List ℕ → Type 0) (ended : Bool) (conn : Reading) (o : OpenCall) (id : ℕ) → IsStarted wire rule ended conn id → o.call.id ≡ id → o.call.answers ≡ nothing → o.call.place ≡ 0 → o.call.away ≡ false → o.request.done ≡ false → o.came ≡ Piece → IsOpen wire rule ended conn o
 waits wire rule ended conn o id s same new place going left came = record {
-  hears = record {
-    talk = s.talk;
-    given = [];
-    count = sym place;
-    heard_is = new ∙ ap (heard nothing) (sym (ap (λ (i : ℕ). filter (is_for i) s.talk.handed) same ∙ s.silent));
-    away_is = going ∙ sym s.stays;
-  };
+  hears = hears_new wire rule conn o.call id s.talk s.silent s.stays same new place going;
   held = rw (same, left) s.held;
   empty = s.empty;
   met = s.met;

@@ -1,8 +1,8 @@
 -- Streamed answers: they are open, go on item by item, and what is made of the items.
 use Rattle.std.proofs.Common.{◌≡◌, ◌≢◌, ℕ, Bool, true, false, List, [], ◌∷◌, ◌++◌, Option, None, Some, Result, Ok, Err, IfErr, IfOk, refl, sym, ap, subst, ◌∙◌, le_refl, append_assoc}
-use Rattle.std.specs.Prelude.{OnOk, is_some, if◌then◌else◌}
+use Rattle.std.specs.Prelude.{OnOk, is_some}
 use Rattle.std.specs.Option.{option_map_or}
-use Rattle.rx_base.specs.Results.{◌>>=◌, Gives}
+use Rattle.rx_base.specs.Results.{Gives}
 use Rattle.rx_world.specs.Links.{Wire}
 use Rattle.rx_world.specs.declared.call_faults.CallFault.{CallFault}
 use Rattle.rx_world.specs.declared.call_faults.CallFault.TheVariants as Faults
@@ -11,10 +11,11 @@ use Rattle.rx_grpc.specs.declared.stream_item.StreamItem.{StreamItem}
 use Rattle.rx_grpc.specs.declared.stream_item.StreamItem.TheVariants as StreamItems
 use Rattle.rx_grpc.specs.declared.transfer_fault.TransferFault.{TransferFault}
 use Rattle.rx_grpc.specs.declared.transfer_fault.TransferFault.TheVariants.{Link, Protocol, NoMemory}
-use Rattle.rx_grpc.specs.Channel.{ChannelOf, HasCauseOn, Stops}
+use Rattle.rx_grpc.specs.Channel.{ChannelOf}
 use Rattle.rx_grpc.specs.Item.{is_message}
-use Rattle.rx_grpc.specs.Streamed.{Begins, IsNext, Nexts, NextsOn, is_answering, opened_after}
-use Rattle.rx_grpc.specs.StreamedCalls.{Came, GoesOn, GoesOnBy, HearsAll, HearsItems, HearsMessage, IsBegun, first_of, joined, joined_of, kept_of, message_of, taken}
+use Rattle.rx_grpc.specs.Questions.{Asked}
+use Rattle.rx_grpc.specs.Streamed.{Begins, Nexts, NextsOn, is_answering, opened_after}
+use Rattle.rx_grpc.specs.StreamedCalls.{Came, GoesOn, GoesOnBy, HearsAll, HearsItems, IsBegun, first_of, joined, joined_of, kept_of, message_of, taken}
 use Rattle.rx_grpc.specs.Transport.{Opened, TransportOf}
 use Rattle.rx_base.specs.declared.digests.Digest.{Digest}
 use Rattle.rx_codec.specs.Decoding.{any_form, decoded}
@@ -75,20 +76,20 @@ gives-same (Err fault) given e = λ other. sym e
 
 -- ---- calls that weren't begun
 
-pub unbegun : {D L : Type 0} (dial : D → ℕ) (link : links.Ghosts L) (channel : ChannelOf D L) → IsBegun dial link channel channel (Err NoMemory)
-unbegun dial link channel = record { begins = tt; stops = tt; cause = record { later = le_refl _; failed = λ e. absurd cc } }
+pub unbegun : {D L : Type 0} (dial : D → ℕ) (link : links.Ghosts L) (asked : Asked) (channel : ChannelOf D L) → IsBegun dial link asked channel channel (Err NoMemory)
+unbegun dial link asked channel = record { begins = tt; asks = tt; stops = tt; cause = record { later = le_refl _; failed = λ e. absurd cc } }
 
-pub nothing-came : {D L : Type 0} (dial : D → ℕ) (link : links.Ghosts L) (old new : ChannelOf D L) (begun : Result (Unit {0}) TransferFault) (IsSuch : Result (Unit {0}) TransferFault → List Came → Type 0)
-    → IsBegun dial link old new begun → IsSuch begun [] → HearsItems dial link old new IsSuch
-nothing-came dial link old new begun IsSuch is such = record { begun = begun; opened = new; is_begun = is; items = []; goes_on = refl; is_such = such }
+pub nothing-came : {D L : Type 0} (dial : D → ℕ) (link : links.Ghosts L) (asked : Asked) (old new : ChannelOf D L) (begun : Result (Unit {0}) TransferFault) (IsSuch : Result (Unit {0}) TransferFault → List Came → Type 0)
+    → IsBegun dial link asked old new begun → IsSuch begun [] → HearsItems dial link asked old new IsSuch
+nothing-came dial link asked old new begun IsSuch is such = record { begun = begun; opened = new; is_begun = is; items = []; goes_on = refl; is_such = such }
 
-pub one-came : {D L : Type 0} (dial : D → ℕ) (link : links.Ghosts L) (old opened new : ChannelOf D L) (begun : Result (Unit {0}) TransferFault) (came : Came) (IsSuch : Result (Unit {0}) TransferFault → List Came → Type 0)
-    → IsBegun dial link old opened begun → GoesOn link opened new came → IsSuch begun (came ∷ []) → HearsItems dial link old new IsSuch
-one-came dial link old opened new begun came IsSuch is goes such = record { begun = begun; opened = opened; is_begun = is; items = came ∷ []; goes_on = (new, goes, refl); is_such = such }
+pub one-came : {D L : Type 0} (dial : D → ℕ) (link : links.Ghosts L) (asked : Asked) (old opened new : ChannelOf D L) (begun : Result (Unit {0}) TransferFault) (came : Came) (IsSuch : Result (Unit {0}) TransferFault → List Came → Type 0)
+    → IsBegun dial link asked old opened begun → GoesOn link opened new came → IsSuch begun (came ∷ []) → HearsItems dial link asked old new IsSuch
+one-came dial link asked old opened new begun came IsSuch is goes such = record { begun = begun; opened = opened; is_begun = is; items = came ∷ []; goes_on = (new, goes, refl); is_such = such }
 
-pub all-came : {D L : Type 0} (dial : D → ℕ) (link : links.Ghosts L) (old opened new : ChannelOf D L) (begun : Result (Unit {0}) TransferFault) (IsSuch : Result (Unit {0}) TransferFault → List Came → Type 0)
-    → IsBegun dial link old opened begun → HearsAll link opened new (λ items. IsSuch begun items) → HearsItems dial link old new IsSuch
-all-came dial link old opened new begun IsSuch is all = record { begun = begun; opened = opened; is_begun = is; items = all.items; goes_on = all.goes_on; is_such = all.is_such }
+pub all-came : {D L : Type 0} (dial : D → ℕ) (link : links.Ghosts L) (asked : Asked) (old opened new : ChannelOf D L) (begun : Result (Unit {0}) TransferFault) (IsSuch : Result (Unit {0}) TransferFault → List Came → Type 0)
+    → IsBegun dial link asked old opened begun → HearsAll link opened new (λ items. IsSuch begun items) → HearsItems dial link asked old new IsSuch
+all-came dial link asked old opened new begun IsSuch is all = record { begun = begun; opened = opened; is_begun = is; items = all.items; goes_on = all.goes_on; is_such = all.is_such }
 
 -- ---- item by item
 
@@ -190,16 +191,16 @@ joined-of-refused asked (Err NoMemory) items = tt
 
 -- ---- the first message is kept
 
-pub kept-message : {D L : Type 0} (dial : D → ℕ) (link : links.Ghosts L) (old new : ChannelOf D L) (message : List ℕ) (result : Result (List ℕ) CallFault)
-    → result ≡ Ok message → HearsItems dial link old new (λ begun items. Gives Faults.NoMemory (λ (x : List ℕ). x) result (first_of begun items))
-    → HearsItems dial link old new (λ begun items. Gives Faults.NoMemory (λ (x : Unit {0}). Some message) (Ok tt) (kept_of begun items))
-kept-message dial link old new message result e h =
+pub kept-message : {D L : Type 0} (dial : D → ℕ) (link : links.Ghosts L) (asked : Asked) (old new : ChannelOf D L) (message : List ℕ) (result : Result (List ℕ) CallFault)
+    → result ≡ Ok message → HearsItems dial link asked old new (λ begun items. Gives Faults.NoMemory (λ (x : List ℕ). x) result (first_of begun items))
+    → HearsItems dial link asked old new (λ begun items. Gives Faults.NoMemory (λ (x : Unit {0}). Some message) (Ok tt) (kept_of begun items))
+kept-message dial link asked old new message result e h =
     let first : first_of h.begun h.items ≡ Ok message = rw e at h.is_such in
     record { begun = h.begun; opened = h.opened; is_begun = h.is_begun; items = h.items; goes_on = h.goes_on; is_such = rw first refl }
 
-pub kept-none : {D L : Type 0} (dial : D → ℕ) (link : links.Ghosts L) (old new : ChannelOf D L) (first : Option (List ℕ)) (fault : CallFault) (result : Result (List ℕ) CallFault)
-    → result ≡ Err fault → HearsItems dial link old new (λ begun items. Gives Faults.NoMemory (λ (x : List ℕ). x) result (first_of begun items))
-    → HearsItems dial link old new (λ begun items. Gives Faults.NoMemory (λ (x : Unit {0}). first) (Err fault) (kept_of begun items))
-kept-none dial link old new first fault result e h =
+pub kept-none : {D L : Type 0} (dial : D → ℕ) (link : links.Ghosts L) (asked : Asked) (old new : ChannelOf D L) (first : Option (List ℕ)) (fault : CallFault) (result : Result (List ℕ) CallFault)
+    → result ≡ Err fault → HearsItems dial link asked old new (λ begun items. Gives Faults.NoMemory (λ (x : List ℕ). x) result (first_of begun items))
+    → HearsItems dial link asked old new (λ begun items. Gives Faults.NoMemory (λ (x : Unit {0}). first) (Err fault) (kept_of begun items))
+kept-none dial link asked old new first fault result e h =
     let such = rw e at h.is_such in
     record { begun = h.begun; opened = h.opened; is_begun = h.is_begun; items = h.items; goes_on = h.goes_on; is_such = λ other. rw (such other) refl }

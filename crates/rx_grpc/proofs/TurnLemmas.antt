@@ -38,9 +38,9 @@ pub record IsSent (old new : Reading) : Type 0 where
   pub fault : new.state.fault ≡ None
   pub events : new.state.events ≡ old.state.events
 
-pub sent_moves : (o : Option ConnFault) (old new : Reading) (id : ℕ) (piece : List ℕ) (last : Bool) (value n : ℕ) → old.state.fault ≡ o → o ≡ None → AnswersAt o old.state (sent old.state id piece last) value new.state (Ok n) → new.rest ≡ old.rest → IsSent old new
-sent_moves (Some e) old new id piece last value n is none d rest = absurd cc
-sent_moves None old new id piece last value n is none d rest =
+unfoldable pub sent_moves : (o : Option ConnFault) (old new : Reading) (id : ℕ) (piece : List ℕ) (last : Bool) (value n : ℕ) → old.state.fault ≡ o → o ≡ None → AnswersAt o old.state (sent old.state id piece last) value new.state (Ok n) → new.rest ≡ old.rest → (old.state.fault ≡ None → IsHeld old.state id false) → IsSent old new
+sent_moves (Some e) old new id piece last value n is none d rest held = absurd cc
+sent_moves None old new id piece last value n is none d rest held =
     let state : unless old.state.fault old.state (sent old.state id piece last) ≡ new.state = unless_none old.state.fault old.state _ is ∙ sym d.0 in
     record {
       moves = record {
@@ -50,6 +50,7 @@ sent_moves None old new id piece last value n is none d rest =
         fed_is = refl;
         handed_is = refl;
         paced = (tt, tt);
+        sends = (held, tt);
       };
       fault = ap (λ (x : Session). x.fault) d.0 ∙ (sent-fault old.state id piece last ∙ is);
       events = ap (λ (x : Session). x.events) d.0 ∙ sent-events old.state id piece last;
@@ -141,20 +142,23 @@ pub record IsLike (o n : OpenCall) : Type 0 where
   pub answers : n.call.answers ≡ o.call.answers
   pub place : n.call.place ≡ o.call.place
   pub away : n.call.away ≡ o.call.away
-  pub done : n.request.done ≡ o.request.done
+  pub request : n.request ≡ o.request
   pub room : n.room ≡ o.room
   pub came : n.came ≡ o.came
 
+unfoldable pub hears_like : (w : Option Wire) (r : List ℕ → List ℕ → Type 0) (conn : Reading) (o n : OpenCall) → CallHears w r conn o.call → IsLike o n → CallHears w r conn n.call
+hears_like w r conn o n h like = record {
+  talk = h.talk;
+  given = h.given;
+  count = h.count ∙ sym like.place;
+  heard_is = ap (front h.given) like.answers ∙ (h.heard_is ∙ ap (λ (i : ℕ). heard nothing (filter (is_for i) h.talk.handed)) (sym like.id));
+  away_is = like.away ∙ h.away_is;
+}
+
 pub open_like : (w : Option Wire) (r : List ℕ → List ℕ → Type 0) (ended : Bool) (conn : Reading) (o n : OpenCall) → IsOpen w r ended conn o → IsLike o n → IsOpen w r ended conn n
 open_like w r ended conn o n t like = record {
-  hears = record {
-    talk = t.hears.talk;
-    given = t.hears.given;
-    count = t.hears.count ∙ sym like.place;
-    heard_is = ap (front t.hears.given) like.answers ∙ (t.hears.heard_is ∙ ap (λ (i : ℕ). heard nothing (filter (is_for i) t.hears.talk.handed)) (sym like.id));
-    away_is = like.away ∙ t.hears.away_is;
-  };
-  held = rw (like.id, like.done) t.held;
+  hears = hears_like w r conn o n t.hears like;
+  held = let request = like.request in rw (like.id, request) t.held;
   empty = t.empty;
   met = t.met;
   came = rw like.came t.came;

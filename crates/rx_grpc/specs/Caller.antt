@@ -1,21 +1,27 @@
 -- A farm's client over a channel, and what its calls of one message heard.
-use Rattle.std.specs.Prelude.{ℕ, Bool, List, Option, IfErr, IfOk}
+use Rattle.std.specs.Prelude.{ℕ, Bool, List, [], Option, IfErr, IfOk}
 use Rattle.rx_world.specs.declared.links.Link as links
 use Rattle.rx_grpc.specs.declared.caller.Begun.{Begun}
-use Rattle.rx_grpc.specs.Channel.{Answers, ChannelOf, Fails, HasCauseOn, Stops}
+use Rattle.rx_grpc.specs.Answer.{unary}
+use Rattle.rx_grpc.specs.Channel.{Answers, ChannelOf, Fails, HasCauseOn, Stops, stream_for}
+use Rattle.rx_grpc.specs.Questions.{Asked}
+use Rattle.rx_grpc.specs.Request.{request_fields}
+use Rattle.rx_grpc.specs.Sent.{AnsweredOn}
 use Rattle.rx_grpc.specs.Replies.{Heard}
 
 pub record CallerOf (D L : Type 0) : Type 0 where
   pub channel : ChannelOf D L
+  pub instance : List ℕ
   pub begun : Begun
   pub first : Option (List ℕ)  -- the first message of an execution that goes on, until it is read
   pub streaming : Bool  -- an execution goes on
   pub faults : ℕ
 
--- The channel answered so, as the bytes of its link show, and the result is such.
-pub record Hears {D L : Type 0} (dial_faults : D → ℕ) (link : links.Ghosts L) (old new : ChannelOf D L) (IsSuch : Heard → Type 0) : Type 0 where
+-- This was asked. The channel answered so, as the bytes of its link show, and the result is such.
+pub record Hears {D L : Type 0} (dial_faults : D → ℕ) (link : links.Ghosts L) (asked : Asked) (old new : ChannelOf D L) (IsSuch : Heard → Type 0) : Type 0 where
   pub heard : Heard
   pub shown : IfOk heard (Answers link.wire link.rule link.ended old.transport new.transport)
+  pub asks : IfOk heard (AnsweredOn unary link.wire link.rule link.ended new.transport (stream_for old.transport) (request_fields asked.path old.authority) asked.messages [])
   pub fails : IfErr heard (Fails link.wire link.rule old.transport new.transport)
   pub stops : IfErr heard (Stops new.transport)
   pub cause : HasCauseOn (dial_faults old.dial) (dial_faults new.dial) link.faults old.transport new.transport heard

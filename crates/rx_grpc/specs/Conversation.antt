@@ -1,6 +1,6 @@
 -- What a connection and its link told each other, and what a call has heard of it.
-use Rattle.std.specs.Prelude.{◌≡◌, ℕ, Bool, false, ◌||◌, ◌&&◌, not, List, [], filter, length, Option, None, Some}
-use Rattle.std.specs.List.{list_any}
+use Rattle.std.specs.Prelude.{◌≡◌, ℕ, Bool, true, false, ◌||◌, ◌&&◌, not, List, [], filter, length, Option, None, Some}
+use Rattle.std.specs.List.{list_all, list_any}
 use Rattle.rx_h2conn.specs.Session.{Event, Reading}
 use Rattle.rx_h2conn.specs.Conn.{started}
 use Rattle.rx_h2conn.specs.Streams.{IsHeld, KeepsHeld}
@@ -10,7 +10,7 @@ use Rattle.rx_grpc.specs.declared.open_call.OpenCall.{OpenCall}
 use Rattle.rx_grpc.specs.Came.{CameBy, is_piece}
 use Rattle.rx_grpc.specs.Heard.{nothing, heard}
 use Rattle.rx_grpc.specs.Uses.{front}
-use Rattle.rx_grpc.specs.Moves.{Moves, is_away, is_for}
+use Rattle.rx_grpc.specs.Moves.{Moves, is_away, is_for, is_quiet}
 
 -- where the link tells its bytes, they are these
 abbrev pub Tells : Option Wire → List ℕ → List ℕ → Type 0
@@ -46,6 +46,7 @@ pub record IsOpen (wire : Option Wire) (rule : List ℕ → List ℕ → Type 0)
 pub record Drains (old new : Reading) (before now : Call) : Type 0 where
   pub out : List Event
   pub moves : Moves old new [] [] out
+  pub quiet : list_all is_quiet moves.calls ≡ true
   pub id : now.id ≡ before.id
   pub place : now.place ≡ before.place
   pub heard_is : now.answers ≡ heard before.answers (filter (is_for before.id) out)

@@ -1,8 +1,10 @@
 -- Runs of calls on a connection, and the link that carries what they give and are fed.
 use Rattle.std.specs.Prelude.{◌≡◌, ◌≤◌, ℕ, ◌+◌, Bool, true, false, ◌||◌, List, [], ◌∷◌, ◌++◌, length, Option}
+use Rattle.std.specs.List.{list_all}
 use Rattle.rx_h2conn.specs.Session.{Event, Headers, Bytes, Reset, Gone, Session, Reading}
 use Rattle.rx_h2conn.specs.Output.{emptied}
 use Rattle.rx_h2conn.specs.History.{Call, Feeds, Starves, Hands, Takes, Opens, Sends, Resets, after, run, all_given}
+use Rattle.rx_h2conn.specs.Granted.{AllSendHeld}
 use Rattle.rx_h2conn.specs.Heard.{all_fed, all_handed}
 use Rattle.rx_h2conn.specs.Part.{is_on, leaves_out}
 use Rattle.rx_world.specs.Links.{Wire, Goes}
@@ -27,7 +29,8 @@ abbrev pub IsPaced : Reading → List Call → Type 0
 IsPaced r [] = Unit {0}
 IsPaced r (c ∷ calls) = IsPacedCall r c × IsPaced (after r c) calls
 
--- Some such calls lead from the one state to the other, with this output and input, and with these events.
+-- Some such calls lead from the one state to the other, with this output and input, and with these events. They send only on
+-- streams that are held.
 pub record Moves (old new : Reading) (given fed : List ℕ) (handed : List Event) : Type 0 where
   pub calls : List Call
   pub run_is : run old calls ≡ new
@@ -35,15 +38,27 @@ pub record Moves (old new : Reading) (given fed : List ℕ) (handed : List Event
   pub fed_is : all_fed calls ≡ fed
   pub handed_is : all_handed old calls ≡ handed
   pub paced : IsPaced old calls
+  pub sends : AllSendHeld old calls
 
 abbrev pub carried : List ℕ → List ℕ → Wire → Wire
 carried given fed wire = record { sent = wire.sent ++ given; received = wire.received ++ fed }
+
+-- a call that leaves what was sent of each stream: it opens none, sends nothing on one and gives none up
+abbrev pub is_quiet : Call → Bool
+is_quiet (Feeds piece) = true
+is_quiet Starves = false
+is_quiet Hands = true
+is_quiet Takes = true
+is_quiet (Opens fields last) = false
+is_quiet (Sends id piece last) = false
+is_quiet (Resets id code) = false
 
 -- The link carried just what the connection gave and was fed, and there is less room by what was fed.
 pub record Exchange (before now : Option Wire) (old new : Reading) (room left : ℕ) : Type 0 where
   pub given : List ℕ
   pub fed : List ℕ
   pub moves : Moves old new given fed []
+  pub quiet : list_all is_quiet moves.calls ≡ true
   pub carries : Goes before now (carried given fed)
   pub count : length fed + left ≡ room
 

@@ -13,9 +13,12 @@ use Rattle.rx_world.specs.declared.links.Link as links
 use Rattle.rx_grpc.specs.declared.stream_item.StreamItem.{StreamItem}
 use Rattle.rx_grpc.specs.declared.stream_item.StreamItem.TheVariants as StreamItems
 use Rattle.rx_grpc.specs.declared.transfer_fault.TransferFault.{TransferFault}
-use Rattle.rx_grpc.specs.Channel.{ChannelOf, HasCauseOn, Stops}
+use Rattle.rx_grpc.specs.Channel.{ChannelOf, HasCauseOn, Stops, stream_for}
 use Rattle.rx_grpc.specs.Operations.{operation_by}
+use Rattle.rx_grpc.specs.Questions.{Asked}
 use Rattle.rx_grpc.specs.Replies.{failed, read}
+use Rattle.rx_grpc.specs.Request.{request_fields}
+use Rattle.rx_grpc.specs.Sent.{AsksOn, NextAsksOn}
 use Rattle.rx_grpc.specs.Streamed.{Begins, NextCause, NextFailsOn, NextsOn}
 
 -- an item, or why there is none
@@ -27,6 +30,7 @@ Came = Result StreamItem TransferFault
 -- The answer that is open went on so, as the bytes of its link show.
 pub record GoesOn {D L : Type 0} (link : links.Ghosts L) (old new : ChannelOf D L) (came : Came) : Type 0 where
   pub shown : IfOk came (NextsOn link.wire link.rule link.ended old.transport new.transport)
+  pub asks : IfOk came (NextAsksOn link.wire link.rule link.ended old.transport new.transport)
   pub fails : IfErr came (NextFailsOn link.wire link.rule old.transport new.transport)
   pub stops : IfErr came (Stops new.transport)
   pub cause : NextCause link.faults old.transport new.transport came
@@ -36,17 +40,18 @@ abbrev pub GoesOnBy : {D L : Type 0} → links.Ghosts L → ChannelOf D L → Ch
 GoesOnBy link old new [] = new ≡ old
 GoesOnBy {D} {L} link old new (came ∷ more) = (mid : ChannelOf D L) × GoesOn link old mid came × GoesOnBy link mid new more
 
--- A call with a streamed answer was begun.
-pub record IsBegun {D L : Type 0} (dial_faults : D → ℕ) (link : links.Ghosts L) (old new : ChannelOf D L) (begun : Result (Unit {0}) TransferFault) : Type 0 where
+-- A call with a streamed answer was begun, which asks this.
+pub record IsBegun {D L : Type 0} (dial_faults : D → ℕ) (link : links.Ghosts L) (asked : Asked) (old new : ChannelOf D L) (begun : Result (Unit {0}) TransferFault) : Type 0 where
   pub begins : OnOk begun (Begins link.wire old.transport new.transport)
+  pub asks : OnOk begun (AsksOn link.wire link.rule new.transport (stream_for old.transport) (request_fields asked.path old.authority) asked.messages [])
   pub stops : IfErr begun (Stops new.transport)
   pub cause : HasCauseOn (dial_faults old.dial) (dial_faults new.dial) link.faults old.transport new.transport begun
 
 -- A call was begun, its answer went on so, and the result is such; where it couldn't be begun nothing came.
-pub record HearsItems {D L : Type 0} (dial_faults : D → ℕ) (link : links.Ghosts L) (old new : ChannelOf D L) (IsSuch : Result (Unit {0}) TransferFault → List Came → Type 0) : Type 0 where
+pub record HearsItems {D L : Type 0} (dial_faults : D → ℕ) (link : links.Ghosts L) (asked : Asked) (old new : ChannelOf D L) (IsSuch : Result (Unit {0}) TransferFault → List Came → Type 0) : Type 0 where
   pub begun : Result (Unit {0}) TransferFault
   pub opened : ChannelOf D L
-  pub is_begun : IsBegun dial_faults link old opened begun
+  pub is_begun : IsBegun dial_faults link asked old opened begun
   pub items : List Came
   pub goes_on : GoesOnBy link opened new items
   pub is_such : IsSuch begun items

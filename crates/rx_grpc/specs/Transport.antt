@@ -30,6 +30,7 @@ pub record TransportOf (L : Type 0) : Type 0 where
   pub conn : Reading
   pub alive : Bool  -- another call can be made on it
   pub opened : Option Opened
+  pub call : Option OpenCall  -- the same, with all that it keeps
 
 -- a stream can be opened
 abbrev pub takes : {L : Type 0} → TransportOf L → Bool

@@ -1,12 +1,11 @@
 -- Blobs that are written as streams (google/bytestream/bytestream.proto, Write).
-use Rattle.std.specs.Prelude.{ℕ, ◌+◌, Bool, not, nat_lt, pos, List, length, take, drop, Result, Ok, Err, if◌then◌else◌}
+use Rattle.std.specs.Prelude.{ℕ, zero, suc, ◌+◌, ◌-◌, ◌*◌, ◌/◌, not, nat_lt, pos, List, [], ◌∷◌, ◌++◌, length, take, drop, Result, Ok, Err, if◌then◌else◌}
 use Rattle.rx_base.specs.Results.{◌>>=◌}
 use Rattle.rx_codec.specs.Decoding.{any_form, decoded}
 use Rattle.rx_codec.specs.FieldBytes.{fields_bytes}
 use Rattle.rx_exec_messages.specs.Dialects.{is_number}
 use Rattle.rx_exec_messages.specs.Streams.{write_request_fields, write_response_from, write_response_parts}
 use Rattle.rx_exec_messages.specs.declared.streams.WriteRequest.{WriteRequest}
-use Rattle.rx_exec_messages.specs.declared.streams.WriteResponse.{WriteResponse}
 use Rattle.rx_world.specs.declared.call_faults.CallFault.{CallFault}
 use Rattle.rx_world.specs.declared.call_faults.CallFault.TheVariants.{BadMessage}
 use Rattle.rx_grpc.specs.Replies.{Heard, reply}
@@ -22,6 +21,15 @@ write_of name bytes at = record {
 
 abbrev pub piece_message : List ℕ → List ℕ → ℕ → List ℕ
 piece_message name bytes at = fields_bytes (write_request_fields (write_of name bytes at))
+
+-- where so many pieces begin
+abbrev pub pieces : ℕ → List ℕ
+pieces zero = []
+pieces (suc count) = pieces count ++ count * 65536 ∷ []
+
+-- those of so many bytes: without bytes there is one
+abbrev pub offsets_of : ℕ → List ℕ
+offsets_of size = pieces ((size - 1) / 65536 + 1)
 
 -- the farm has to have all of the bytes
 abbrev pub written_by : ℕ → Heard → Result (Unit {0}) CallFault

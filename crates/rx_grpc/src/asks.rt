@@ -1,13 +1,15 @@
 //! Calls of one message on a farm, each with its question and its answer.
 
-ghost use Rattle.std.specs.Prelude.{◌≡◌, IfErr, IfOk, length};
+ghost use Rattle.std.specs.Prelude.{◌≡◌, IfErr, IfOk, length, map};
 ghost use Rattle.std.specs.Option.{option_map};
 ghost use Rattle.rx_base.specs.Results.{Gives};
 ghost use Rattle.rx_codec.specs.Decoding.{decoded};
+ghost use Rattle.rx_codec.specs.FieldBytes.{fields_bytes};
 ghost use Rattle.rx_world.specs.declared.call_faults.CallFault.TheVariants.{NoMemory as starved};
 ghost use Rattle.rx_exec_messages.specs.Calls.{digests_of};
 ghost use Rattle.rx_exec_messages.specs.Versions.{sem_ver_of};
 ghost use Rattle.rx_grpc.specs.Caller.{Hears};
+ghost use Rattle.rx_grpc.specs.Questions.{asks_capabilities, asks_missing, asks_read, asks_result, asks_update, missing_question, one, read_question, update_of, update_question};
 ghost use Rattle.rx_grpc.specs.Replies.{reply};
 ghost use Rattle.rx_grpc.specs.Results.{capabilities_by, capabilities_of, found_by, found_of, limit_by, limit_of, missing_by, read_by, updated_by};
 
@@ -39,7 +41,8 @@ fn ask<D: Dial + Drop, Q: Message, A: Message>(
     method: Method,
     question: &Q,
 ) -> Result<A, CallFault>
-    ensures { Hears D.faults D.L.Link channel.old channel.new (λ heard.
+    ensures { Hears D.faults D.L.Link (one method (fields_bytes (Q.fields question.now)))
+        channel.old channel.new (λ heard.
         Gives starved (λ x. x) result (reply (decoded A.parts A.from A.is_canonical) heard)) }
 {
     let Ok(message) = question.encode(alloc) else {
@@ -102,7 +105,8 @@ pub fn ask_capabilities<D: Dial + Drop>(
     channel: &mut Channel<D>,
     instance: &Text,
 ) -> Result<Capabilities, CallFault>
-    ensures { Hears D.faults D.L.Link channel.old channel.new (λ heard.
+    ensures { Hears D.faults D.L.Link (asks_capabilities instance.now)
+        channel.old channel.new (λ heard.
         Gives starved (λ x. x) result (capabilities_by heard)) }
 {
     let Ok(instance_name) = instance.try_clone(alloc) else {
@@ -136,7 +140,8 @@ pub fn ask_result<D: Dial + Drop>(
     instance: &Text,
     action: &Digest,
 ) -> Result<Option<ActionResult>, CallFault>
-    ensures { Hears D.faults D.L.Link channel.old channel.new (λ heard.
+    ensures { Hears D.faults D.L.Link (asks_result instance.now action.now)
+        channel.old channel.new (λ heard.
         Gives starved (λ x. x) result (found_by heard)) }
 {
     let Ok(instance_name) = instance.try_clone(alloc) else {
@@ -157,7 +162,9 @@ fn missing_question(
     alloc: Global,
     instance: &Text,
     digests: &[Digest],
-) -> Result<FindMissingBlobsRequest, NoMemory> {
+) -> Result<FindMissingBlobsRequest, NoMemory>
+    ensures { IfOk result (λ question. question ≡ missing_question instance.now digests.now) }
+{
     Ok(FindMissingBlobsRequest {
         instance_name: instance.try_clone(alloc)?,
         blob_digests: Items::copy_of(alloc, digests)?,
@@ -171,7 +178,8 @@ pub fn ask_missing<D: Dial + Drop>(
     instance: &Text,
     digests: &[Digest],
 ) -> Result<Items<Digest>, CallFault>
-    ensures { Hears D.faults D.L.Link channel.old channel.new (λ heard.
+    ensures { Hears D.faults D.L.Link (asks_missing instance.now digests.now)
+        channel.old channel.new (λ heard.
         Gives starved (λ x. x) result (missing_by digests.now heard)) }
 {
     let Ok(question) = missing_question(alloc, instance, digests) else {
@@ -193,7 +201,9 @@ fn digests_of(alloc: Global, blobs: &[NamedBlob]) -> Result<Vec<Digest>, NoMemor
 }
 
 /// The blobs of a batch, as they are sent.
-fn updates_of(alloc: Global, blobs: &[NamedBlob]) -> Result<Items<BlobUpdate>, NoMemory> {
+fn updates_of(alloc: Global, blobs: &[NamedBlob]) -> Result<Items<BlobUpdate>, NoMemory>
+    ensures { IfOk result (λ updates. updates ≡ map update_of blobs.now) }
+{
     let mut updates = Vec::with_capacity(alloc, blobs.len())?;
     for blob in blobs {
         let body = blob.bytes.try_clone(alloc)?;
@@ -210,7 +220,9 @@ fn update_question(
     alloc: Global,
     instance: &Text,
     blobs: &[NamedBlob],
-) -> Result<BatchUpdateBlobsRequest, NoMemory> {
+) -> Result<BatchUpdateBlobsRequest, NoMemory>
+    ensures { IfOk result (λ question. question ≡ update_question instance.now blobs.now) }
+{
     Ok(BatchUpdateBlobsRequest {
         instance_name: instance.try_clone(alloc)?,
         requests: updates_of(alloc, blobs)?,
@@ -224,7 +236,8 @@ pub fn ask_update<D: Dial + Drop>(
     instance: &Text,
     blobs: &[NamedBlob],
 ) -> Result<(), CallFault>
-    ensures { Hears D.faults D.L.Link channel.old channel.new (λ heard.
+    ensures { Hears D.faults D.L.Link (asks_update instance.now blobs.now)
+        channel.old channel.new (λ heard.
         Gives starved (λ x. x) result (updated_by (digests_of blobs.now) heard)) }
 {
     let Ok(digests) = digests_of(alloc, blobs) else {
@@ -244,7 +257,9 @@ fn read_question(
     alloc: Global,
     instance: &Text,
     digests: &[Digest],
-) -> Result<BatchReadBlobsRequest, NoMemory> {
+) -> Result<BatchReadBlobsRequest, NoMemory>
+    ensures { IfOk result (λ question. question ≡ read_question instance.now digests.now) }
+{
     Ok(BatchReadBlobsRequest {
         instance_name: instance.try_clone(alloc)?,
         digests: Items::copy_of(alloc, digests)?,
@@ -258,7 +273,8 @@ pub fn ask_read<D: Dial + Drop>(
     instance: &Text,
     digests: &[Digest],
 ) -> Result<Items<Bytes>, CallFault>
-    ensures { Hears D.faults D.L.Link channel.old channel.new (λ heard.
+    ensures { Hears D.faults D.L.Link (asks_read instance.now digests.now)
+        channel.old channel.new (λ heard.
         Gives starved (λ x. x) result (read_by digests.now heard)) }
 {
     let Ok(question) = read_question(alloc, instance, digests) else {

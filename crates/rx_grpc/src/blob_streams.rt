@@ -3,6 +3,7 @@
 ghost use Rattle.std.specs.Prelude.{◌≡◌, Bool, true, false, [], None, Some, if◌then◌else◌, IfOk};
 ghost use Rattle.rx_base.specs.Results.{Gives};
 ghost use Rattle.rx_world.specs.declared.call_faults.CallFault.TheVariants.{NoMemory as starved};
+ghost use Rattle.rx_grpc.specs.Questions.{asks_blob, blob_question};
 ghost use Rattle.rx_grpc.specs.Streamed.{is_answering};
 ghost use Rattle.rx_grpc.specs.StreamedCalls.{HearsAll, HearsItems, joined, joined_of, taken};
 
@@ -81,7 +82,9 @@ fn join<D: Dial + Drop>(
 }
 
 /// The question for the bytes of a blob, from the first to the last.
-fn read_question(alloc: Global, instance: &Text, digest: &Digest) -> Result<ReadRequest, NoMemory> {
+fn read_question(alloc: Global, instance: &Text, digest: &Digest) -> Result<ReadRequest, NoMemory>
+    ensures { IfOk result (λ question. question ≡ blob_question instance.now digest.now) }
+{
     Ok(ReadRequest {
         resource_name: read_name(alloc, instance, digest)?,
         read_offset: 0,
@@ -96,7 +99,8 @@ pub fn read_blob<D: Dial + Drop>(
     instance: &Text,
     digest: &Digest,
 ) -> Result<Bytes, CallFault>
-    ensures { HearsItems D.faults D.L.Link channel.old channel.new (λ begun items.
+    ensures { HearsItems D.faults D.L.Link (asks_blob instance.now digest.now) channel.old
+        channel.new (λ begun items.
         Gives starved (λ x. x) result (joined_of begun items)) }
 {
     let Ok(question) = read_question(alloc, instance, digest) else {

@@ -49,7 +49,14 @@ impl<D: Dial + Drop> Model for GrpcCaller<D> {
     ghost use Rattle.std.specs.Prelude.{◌≡◌, true};
     ghost use Rattle.rx_grpc.specs.Streamed.{is_answering};
 
-    ghost view = { λ c. record { channel = c.channel; begun = c.begun; first = c.first; streaming = c.streaming; faults = c.faults } };
+    ghost view = { λ c. record {
+      channel = c.channel;
+      instance = c.instance;
+      begun = c.begun;
+      first = c.first;
+      streaming = c.streaming;
+      faults = c.faults;
+    } };
 
     ghost invariant = { λ c. c.streaming ≡ true → is_answering c.channel.transport ≡ true };
 }
@@ -68,6 +75,8 @@ impl<D: Dial + Drop> GrpcCaller<D> {
         requires { length authority.items < 2 ^ 32 }
         ensures dial { result.channel.dial ≡ dial }
         ensures transport { result.channel.transport ≡ None }
+        ensures authority { result.channel.authority ≡ authority.items }
+        ensures instance { result.instance ≡ instance }
         ensures faults { result.faults ≡ 0 }
     {
         GrpcCaller {

@@ -1,13 +1,14 @@
 //! A channel to one server: its calls share a link while that serves, and a new one is made where it doesn't.
 
-ghost use Rattle.std.specs.Prelude.{◌≡◌, ◌<◌, ◌^◌, false, true, length, None, IfErr, IfOk, MatchOption, OnErr, OnOk};
+ghost use Rattle.std.specs.Prelude.{◌≡◌, ◌<◌, ◌^◌, ◌∷◌, [], false, true, length, None, IfErr, IfOk, MatchOption, OnErr, OnOk};
 ghost use Rattle.std.specs.List.{All};
 ghost use Rattle.rx_hpack.specs.Encoder.{IsWritable};
 ghost use Rattle.rx_hpack.specs.Header.{views};
+ghost use Rattle.rx_grpc.specs.Answer.{unary};
 ghost use Rattle.rx_grpc.specs.Channel.{Answers, Fails, HasCauseOn, IsLinkOf, IsRuled, OpensOn, Stops, is_kept, stream_for};
 ghost use Rattle.rx_grpc.specs.Faults.{IsOther};
 ghost use Rattle.rx_grpc.specs.Request.{request_fields};
-ghost use Rattle.rx_grpc.specs.Sent.{AskedOn, SendsOn};
+ghost use Rattle.rx_grpc.specs.Sent.{AnsweredOn, AskedOn, AsksOn, NextAsksOn, SendsOn};
 ghost use Rattle.rx_grpc.specs.Streamed.{Begins, NextCause, NextFailsOn, NextsOn, is_answering};
 ghost use Rattle.rx_grpc.specs.declared.transfer_fault.TransferFault.TheVariants.{NoMemory as starved};
 
@@ -112,9 +113,9 @@ impl<D: Dial + Drop> Channel<D> {
         ensures ruled { IsRuled (D.rule self.new.dial) D.L.rule self.new.transport }
         ensures cause { HasCauseOn (D.faults self.old.dial) (D.faults self.new.dial) D.L.faults
             self.old.transport self.new.transport result }
-        ensures asks { OnOk result (SendsOn D.L.wire self.new.transport
-            (stream_for self.old.transport)
-            (request_fields path.now self.old.authority)) }
+        ensures asks { IfOk result (AnsweredOn unary D.L.wire D.L.rule D.L.ended
+            self.new.transport (stream_for self.old.transport)
+            (request_fields path.now self.old.authority) (message.now ∷ []) []) }
         ensures closed { OnOk result (is_answering self.new.transport ≡ false) }
     {
         let headers = request_headers(self.alloc, path, &self.authority)?;
@@ -141,16 +142,13 @@ impl<D: Dial + Drop> Channel<D> {
         ensures ruled { IsRuled (D.rule self.new.dial) D.L.rule self.new.transport }
         ensures cause { HasCauseOn (D.faults self.old.dial) (D.faults self.new.dial) D.L.faults
             self.old.transport self.new.transport result }
-        ensures asks { OnOk result (SendsOn D.L.wire self.new.transport
-            (stream_for self.old.transport)
-            (request_fields path.now self.old.authority)) }
+        ensures asks { IfOk result (AnsweredOn unary D.L.wire D.L.rule D.L.ended
+            self.new.transport (stream_for self.old.transport)
+            (request_fields path.now self.old.authority) (B.messages body.old) []) }
         ensures closed { OnOk result (is_answering self.new.transport ≡ false) }
     {
         let headers = request_headers(self.alloc, path, &self.authority)?;
-        let mut request = Request::new(Vec::new(self.alloc), body.is_done());
-        if request.is_idle() {
-            request.refill(self.alloc, body)?;
-        }
+        let request = Request::first_of(self.alloc, body)?;
         let id = self.open_stream(&headers)?;
         let Some(transport) = &mut self.transport else {
             unreachable!()
@@ -168,6 +166,9 @@ impl<D: Dial + Drop> Channel<D> {
         ensures asks { OnOk result (SendsOn D.L.wire self.new.transport
             (stream_for self.old.transport)
             (request_fields path.now self.old.authority)) }
+        ensures open { OnOk result (AsksOn D.L.wire D.L.rule self.new.transport
+            (stream_for self.old.transport) (request_fields path.now self.old.authority)
+            (message.now ∷ []) []) }
         ensures other { IfErr result IsOther }
         ensures stops { IfErr result (Stops self.new.transport) }
         ensures ruled { IsRuled (D.rule self.new.dial) D.L.rule self.new.transport }
@@ -192,6 +193,8 @@ impl<D: Dial + Drop> Channel<D> {
         requires { is_answering self.old.transport ≡ true }
         ensures shows { IfOk result (NextsOn D.L.wire D.L.rule D.L.ended self.old.transport
             self.new.transport) }
+        ensures asks { IfOk result (NextAsksOn D.L.wire D.L.rule D.L.ended self.old.transport
+            self.new.transport) }
         ensures fails { IfErr result (NextFailsOn D.L.wire D.L.rule self.old.transport
             self.new.transport) }
         ensures stops { IfErr result (Stops self.new.transport) }
@@ -211,7 +214,8 @@ impl<D: Dial + Drop> Channel<D> {
         requires { All IsWritable headers.now }
         ensures opens { IfOk result (OpensOn D.L.wire D.L.rule D.L.ended D.L.faults
             self.old.transport self.new.transport) }
-        ensures asked { IfOk result (AskedOn D.L.wire self.new.transport (views headers.now)) }
+        ensures asked { IfOk result (AskedOn D.L.wire D.L.rule self.new.transport
+            (views headers.now)) }
         ensures other { IfErr result IsOther }
         ensures fails { IfErr result (Fails D.L.wire D.L.rule self.old.transport
             self.new.transport) }
@@ -234,7 +238,8 @@ impl<D: Dial + Drop> Channel<D> {
             (OpensOn D.L.wire D.L.rule D.L.ended D.L.faults self.old.transport
             self.new.transport)) }
         ensures asked { IfOk result (λ id. MatchOption id (Unit {0})
-            (AskedOn D.L.wire self.new.transport (views headers.now))) }
+            (AskedOn D.L.wire D.L.rule self.new.transport
+            (views headers.now))) }
         ensures memory { IfErr result (λ fault. fault ≡ starved) }
         ensures dial { self.new.dial ≡ self.old.dial }
         ensures ruled { IsRuled (D.rule self.new.dial) D.L.rule self.new.transport }
@@ -251,7 +256,8 @@ impl<D: Dial + Drop> Channel<D> {
         requires unkept { is_kept self.old.transport ≡ false }
         ensures opens { IfOk result (OpensOn D.L.wire D.L.rule D.L.ended D.L.faults None
             self.new.transport) }
-        ensures asked { IfOk result (AskedOn D.L.wire self.new.transport (views headers.now)) }
+        ensures asked { IfOk result (AskedOn D.L.wire D.L.rule self.new.transport
+            (views headers.now)) }
         ensures other { IfErr result IsOther }
         ensures fails { IfErr result (Fails D.L.wire D.L.rule None self.new.transport) }
         ensures stops { IfErr result (Stops self.new.transport) }

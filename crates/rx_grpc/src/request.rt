@@ -1,9 +1,9 @@
 //! What is left to send of a request.
 
-ghost use Rattle.std.specs.Prelude.{◌≡◌, ◌<◌, false, None, [], IfErr, OnOk};
+ghost use Rattle.std.specs.Prelude.{◌≡◌, ◌<◌, false, None, IfErr, IfOk, OnOk};
 ghost use Rattle.rx_h2conn.specs.Streams.{IsHeld};
-ghost use Rattle.rx_grpc.specs.Moves.{Moves};
 ghost use Rattle.rx_grpc.specs.Request.{is_idle, to_come};
+ghost use Rattle.rx_grpc.specs.Sent.{IsToSend, Pushes};
 ghost use Rattle.rx_grpc.specs.declared.transfer_fault.TransferFault.TheVariants.{NoMemory as starved};
 
 use crate::body::Body;
@@ -58,6 +58,19 @@ impl Request {
         }
     }
 
+    /// A request that begins with the first message of a body.
+    pub fn first_of<B: Body>(alloc: Global, body: &mut B) -> Result<Request, NoMemory>
+        ensures unsent { IfOk result (λ request. request.done ≡ false) }
+        ensures sends { IfOk result (λ request.
+            IsToSend request (B.messages body.new) (B.messages body.old)) }
+    {
+        let mut request = Request::new(Vec::new(alloc), body.is_done());
+        if request.is_idle() {
+            request.refill(alloc, body)?;
+        }
+        Ok(request)
+    }
+
     /// Whether the end was sent.
     pub fn is_done(&self) -> bool
         ensures { result ≡ self.now.done }
@@ -76,6 +89,8 @@ impl Request {
     pub fn refill<B: Body>(&mut self, alloc: Global, body: &mut B) -> Result<(), NoMemory>
         requires { self.old.last ≡ false }
         ensures done { OnOk result (self.new.done ≡ self.old.done) }
+        ensures sends { OnOk result
+            (IsToSend self.new (B.messages body.new) (B.messages body.old)) }
         ensures fewer { OnOk result (to_come (B.messages body.new) self.new
             < to_come (B.messages body.old) self.old) }
     {
@@ -98,11 +113,10 @@ impl Request {
         requires fault { conn.old.state.fault ≡ None }
         requires held { IsHeld conn.old.state id self.old.done }
         ensures memory { IfErr result (λ fault. fault ≡ starved) }
-        ensures moves { OnOk result (Moves conn.old conn.new [] [] []) }
+        ensures pushes { OnOk result (Pushes conn.old conn.new id self.old self.new) }
         ensures fault { OnOk result (conn.new.state.fault ≡ None) }
         ensures events { OnOk result (conn.new.state.events ≡ conn.old.state.events) }
         ensures held { OnOk result (IsHeld conn.new.state id self.new.done) }
-        ensures last { OnOk result (self.new.last ≡ self.old.last) }
     {
         if self.done {
             return Ok(());

@@ -32,7 +32,7 @@ fn give_up(conn: &mut Conn, unfinished: Option<u32>) -> Result<(), TransferFault
     }
 }
 
-/// OpensStream the stream of the next call, after the last one's was given up. `None` where the connection takes no stream.
+/// Opens the stream of the next call, after the last one's was given up. `None` where the connection takes no stream.
 pub fn next_stream(
     conn: &mut Conn,
     unfinished: Option<u32>,

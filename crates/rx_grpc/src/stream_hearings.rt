@@ -1,12 +1,15 @@
 //! The calls of a farm's client that are answered by streams, each with what it heard, as the bytes of its link show it, and what
 //! is made of it. Each fault but want of memory is counted.
 
-ghost use Rattle.std.specs.Prelude.{◌≡◌, ◌∷◌, [], length, true, None, IfErr, IfOk, OnOk};
+ghost use Rattle.std.specs.Prelude.{◌≡◌, ◌∷◌, [], length, true, List, ℕ, None, IfErr, IfOk, OnOk};
 ghost use Rattle.rx_base.specs.Results.{Gives};
 ghost use Rattle.rx_world.specs.declared.call_faults.CallFault.TheVariants.{NoMemory as starved};
 ghost use Rattle.rx_exec_messages.specs.Calls.{HasCallCause, RefusesOneOf};
 ghost use Rattle.rx_grpc.specs.declared.caller.Begun.TheVariants.{Executed as executed, Waited as waited};
+ghost use Rattle.rx_codec.specs.FieldBytes.{fields_bytes};
 ghost use Rattle.rx_grpc.specs.Caller.{Hears};
+ghost use Rattle.rx_grpc.specs.Questions.{asks_blob, asks_execute, asks_wait, asks_write, execute_question, one, wait_question};
+ghost use Rattle.rx_grpc.specs.Resources.{write_name};
 ghost use Rattle.rx_grpc.specs.StreamedCalls.{HearsItems, HearsState, joined_of, kept_of, state_of};
 ghost use Rattle.rx_grpc.specs.Writes.{written_by};
 
@@ -29,7 +32,10 @@ fn execute_question(
     instance: &Text,
     action: &Digest,
     skip_cache: bool,
-) -> Result<ExecuteRequest, NoMemory> {
+) -> Result<ExecuteRequest, NoMemory>
+    ensures { IfOk result (λ question.
+        question ≡ execute_question instance.now action.now skip_cache) }
+{
     Ok(ExecuteRequest {
         instance_name: instance.try_clone(alloc)?,
         skip_cache_lookup: skip_cache,
@@ -39,7 +45,8 @@ fn execute_question(
 
 /// The question for the states of the execution of this name, and the name as it is kept.
 fn wait_question(alloc: Global, name: &str) -> Result<(WaitExecutionRequest, Text), NoMemory>
-    ensures { IfOk result (λ question. question.1 ≡ name.now) }
+    ensures asks { IfOk result (λ question. question.0 ≡ wait_question name.now) }
+    ensures name { IfOk result (λ question. question.1 ≡ name.now) }
 {
     let request = WaitExecutionRequest {
         name: Text::copy_of(alloc, name)?,
@@ -50,7 +57,8 @@ fn wait_question(alloc: Global, name: &str) -> Result<(WaitExecutionRequest, Tex
 impl<D: Dial + Drop> GrpcCaller<D> {
     /// Begins an execution or a wait for one, and keeps the first message that it hears.
     fn start<Q: Message>(&mut self, method: Method, question: &Q) -> Result<(), CallFault>
-        ensures heard { HearsItems D.faults D.L.Link self.old.channel self.new.channel
+        ensures heard { HearsItems D.faults D.L.Link
+            (one method (fields_bytes (Q.fields question.now))) self.old.channel self.new.channel
             (λ begun items. Gives starved (λ x. self.new.first) result (kept_of begun items)) }
         ensures begun { self.new.begun ≡ self.old.begun }
         ensures streaming { OnOk result (self.new.streaming ≡ true) }
@@ -69,7 +77,8 @@ impl<D: Dial + Drop> GrpcCaller<D> {
 
     /// Begins an execution. `skip_cache` asks the farm not to answer from its action cache.
     pub fn hear_execute(&mut self, action: &Digest, skip_cache: bool) -> Result<(), CallFault>
-        ensures heard { HearsItems D.faults D.L.Link self.old.channel self.new.channel
+        ensures heard { HearsItems D.faults D.L.Link
+            (asks_execute self.old.instance action.now skip_cache) self.old.channel self.new.channel
             (λ begun items. Gives starved (λ x. self.new.first) result (kept_of begun items)) }
         ensures begun { OnOk result (self.new.begun ≡ executed action.now) }
         ensures streaming { OnOk result (self.new.streaming ≡ true) }
@@ -85,7 +94,8 @@ impl<D: Dial + Drop> GrpcCaller<D> {
 
     /// Waits for the execution of this name.
     pub fn hear_wait(&mut self, name: &str) -> Result<(), CallFault>
-        ensures heard { HearsItems D.faults D.L.Link self.old.channel self.new.channel
+        ensures heard { HearsItems D.faults D.L.Link
+            (asks_wait name.now) self.old.channel self.new.channel
             (λ begun items. Gives starved (λ x. self.new.first) result (kept_of begun items)) }
         ensures begun { OnOk result (self.new.begun ≡ waited name.now) }
         ensures streaming { OnOk result (self.new.streaming ≡ true) }
@@ -120,7 +130,8 @@ impl<D: Dial + Drop> GrpcCaller<D> {
 
     /// The bytes of one blob, as a stream.
     pub fn hear_blob(&mut self, digest: &Digest) -> Result<Bytes, CallFault>
-        ensures heard { HearsItems D.faults D.L.Link self.old.channel self.new.channel
+        ensures heard { HearsItems D.faults D.L.Link
+            (asks_blob self.old.instance digest.now) self.old.channel self.new.channel
             (λ begun items. Gives starved (λ x. x) result (joined_of begun items)) }
         ensures refused { IfErr result (RefusesOneOf (digest.now ∷ [])) }
         ensures begun { self.new.begun ≡ self.old.begun }
@@ -133,7 +144,9 @@ impl<D: Dial + Drop> GrpcCaller<D> {
 
     /// Stores one blob as a stream.
     pub fn hear_write(&mut self, digest: &Digest, bytes: &[u8]) -> Result<(), CallFault>
-        ensures heard { Hears D.faults D.L.Link self.old.channel self.new.channel (λ heard.
+        ensures heard { (upload : List ℕ) × Hears D.faults D.L.Link
+            (asks_write (write_name self.old.instance upload digest.now) bytes.now)
+            self.old.channel self.new.channel (λ heard.
             Gives starved (λ x. x) result (written_by (length bytes.now) heard)) }
         ensures begun { self.new.begun ≡ self.old.begun }
         ensures cause { HasCallCause self.old.faults self.new.faults result }

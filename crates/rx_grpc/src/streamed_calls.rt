@@ -3,7 +3,9 @@
 ghost use Rattle.std.specs.Prelude.{◌≡◌, true, IfOk, OnOk};
 ghost use Rattle.rx_base.specs.Results.{Gives};
 ghost use Rattle.rx_world.specs.declared.call_faults.CallFault.TheVariants.{NoMemory as starved};
+ghost use Rattle.rx_codec.specs.FieldBytes.{fields_bytes};
 ghost use Rattle.rx_grpc.specs.Item.{is_message};
+ghost use Rattle.rx_grpc.specs.Questions.{one};
 ghost use Rattle.rx_grpc.specs.StreamedCalls.{GoesOn, HearsItems, HearsMessage, HearsState, IsBegun, first_of, message_of, state_of};
 ghost use Rattle.rx_grpc.specs.Streamed.{is_answering};
 
@@ -26,7 +28,8 @@ pub fn begin<D: Dial + Drop, Q: Message>(
     method: Method,
     question: &Q,
 ) -> Result<(), TransferFault>
-    ensures begun { IsBegun D.faults D.L.Link channel.old channel.new result }
+    ensures begun { IsBegun D.faults D.L.Link (one method (fields_bytes (Q.fields question.now)))
+        channel.old channel.new result }
     ensures open { OnOk result (is_answering channel.new.transport ≡ true) }
 {
     let Ok(message) = question.encode(alloc) else {
@@ -81,7 +84,8 @@ pub fn begin_states<D: Dial + Drop, Q: Message>(
     method: Method,
     question: &Q,
 ) -> Result<Bytes, CallFault>
-    ensures heard { HearsItems D.faults D.L.Link channel.old channel.new (λ begun items.
+    ensures heard { HearsItems D.faults D.L.Link
+        (one method (fields_bytes (Q.fields question.now))) channel.old channel.new (λ begun items.
         Gives starved (λ x. x) result (first_of begun items)) }
     ensures open { OnOk result (is_answering channel.new.transport ≡ true) }
 {

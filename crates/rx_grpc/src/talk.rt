@@ -1,6 +1,6 @@
 //! Turns of a call until its bytes show an answer, or an item of a streamed one.
 
-ghost use Rattle.std.specs.Prelude.{◌≡◌, ◌<◌, false, true, None, IfErr, IfOk, OnOk};
+ghost use Rattle.std.specs.Prelude.{◌≡◌, ◌<◌, false, true, [], None, IfErr, IfOk, OnOk};
 ghost use Rattle.rx_world.specs.Causes.{HasCauseOf};
 ghost use Rattle.rx_world.specs.Links.{SameRule};
 ghost use Rattle.rx_grpc.specs.Answer.{unary};
@@ -9,6 +9,7 @@ ghost use Rattle.rx_grpc.specs.Conversation.{IsOpen, alive_of};
 ghost use Rattle.rx_grpc.specs.Faults.{FaultIs};
 ghost use Rattle.rx_grpc.specs.Heard.{nothing};
 ghost use Rattle.rx_grpc.specs.Moves.{Carries};
+ghost use Rattle.rx_grpc.specs.Sent.{Concludes, Handing};
 ghost use Rattle.rx_grpc.specs.Shown.{IsOver};
 ghost use Rattle.rx_grpc.specs.Item.{item, item_behind};
 ghost use Rattle.rx_grpc.specs.Streamed.{Hands, NextFault};
@@ -47,6 +48,9 @@ pub fn answer_of<L: Link, B: Body>(
     requires place { opened.old.call.place ≡ 0 }
     ensures over { IfOk result (IsOver unary (L.wire link.new) (L.rule link.new)
         (L.ended link.new) conn.new opened.old.call.id (alive_of opened.new)) }
+    ensures asked { IfOk result (Concludes unary (L.wire link.old) (L.wire link.new)
+        (L.rule link.old) (L.rule link.new) (L.ended link.new) conn.old conn.new opened.old
+        (B.messages body.old)) }
     ensures id { OnOk result (opened.new.call.id ≡ opened.old.call.id) }
     ensures carries { OnOk result (Carries (L.wire link.old) (L.wire link.new) conn.old
         conn.new opened.old.room opened.new.room) }
@@ -79,6 +83,11 @@ fn item_behind_turns<L: Link>(
     requires few { opened.old.call.place < 53687091 }
     ensures next { IfOk result (Hands (L.wire link.old) (L.wire link.new) (L.rule link.new)
         (L.ended link.new) conn.old conn.new opened.old opened.new) }
+    ensures asked { IfOk result (Concludes (item_behind opened.old.call.place) (L.wire link.old)
+        (L.wire link.new) (L.rule link.old) (L.rule link.new) (L.ended link.new) conn.old conn.new
+        opened.old []) }
+    ensures asks { IfOk result (Handing (L.wire link.old) (L.wire link.new) (L.rule link.old)
+        (L.rule link.new) conn.old conn.new opened.old opened.new) }
     ensures fault { IfErr result (λ fault. FaultIs (item_behind opened.old.call.place)
         opened.old.room fault (L.wire link.old) (L.wire link.new) (L.rule link.new) conn.new
         opened.old.call.id) }
@@ -105,6 +114,11 @@ pub fn item_of<L: Link>(
     requires { IsOpen (L.wire link.old) (L.rule link.old) (L.ended link.old) conn.old opened.old }
     ensures next { IfOk result (Hands (L.wire link.old) (L.wire link.new) (L.rule link.new)
         (L.ended link.new) conn.old conn.new opened.old opened.new) }
+    ensures asked { IfOk result (Concludes (item_behind opened.old.call.place) (L.wire link.old)
+        (L.wire link.new) (L.rule link.old) (L.rule link.new) (L.ended link.new) conn.old conn.new
+        opened.old []) }
+    ensures asks { IfOk result (Handing (L.wire link.old) (L.wire link.new) (L.rule link.old)
+        (L.rule link.new) conn.old conn.new opened.old opened.new) }
     ensures fault { IfErr result (λ fault. NextFault (opened_by opened.old) fault (L.wire link.old)
         (L.wire link.new) (L.rule link.new) conn.new) }
     ensures rule { SameRule (L.rule link.old) (L.rule link.new) }

@@ -1,6 +1,6 @@
 //! A link with its connection, for one call after the other.
 
-ghost use Rattle.std.specs.Prelude.{◌≡◌, true, false, List, None, Some, is_some, MatchOption, IfErr, IfOk, OnErr, OnOk};
+ghost use Rattle.std.specs.Prelude.{◌≡◌, true, false, [], List, ℕ, None, Some, is_some, MatchOption, IfErr, IfOk, OnErr, OnOk};
 ghost use Rattle.std.specs.List.{All};
 ghost use Rattle.rx_h2conn.specs.Conn.{started};
 ghost use Rattle.rx_h2conn.specs.Open.{next_id};
@@ -11,7 +11,7 @@ ghost use Rattle.rx_world.specs.Links.{IsNew, Meets, SameRule};
 ghost use Rattle.rx_grpc.specs.Answer.{unary};
 ghost use Rattle.rx_grpc.specs.Faults.{FaultIs};
 ghost use Rattle.rx_grpc.specs.Shown.{IsOver};
-ghost use Rattle.rx_grpc.specs.Sent.{IsAsked};
+ghost use Rattle.rx_grpc.specs.Sent.{AsksBy, IsAnswered, IsAsked, IsToSend, NextAsks};
 ghost use Rattle.rx_grpc.specs.Streamed.{NextFails, Nexts};
 ghost use Rattle.rx_grpc.specs.Transport.{IsStarted, takes};
 ghost use Rattle.rx_grpc.specs.declared.transfer_fault.TransferFault.TheVariants.{Link as lost, NoMemory as starved};
@@ -55,6 +55,7 @@ impl<L: Link + Drop> Model for Transport<L> {
       conn = t.conn;
       alive = t.alive;
       opened = opened_of t.opened;
+      call = t.opened;
     } };
 
     ghost invariant = { λ t. (t.alive ≡ true
@@ -110,7 +111,8 @@ impl<L: Link + Drop> Transport<L> {
             (IsStarted (L.wire self.new.link) (L.rule self.new.link) (L.ended self.new.link)
             self.new.conn)) }
         ensures asked { IfOk result (λ id. MatchOption id (Unit {0}) (λ id.
-            IsAsked (L.wire self.new.link) self.new.conn id (views headers.now))) }
+            IsAsked (L.wire self.new.link) (L.rule self.new.link) self.new.conn id
+            (views headers.now))) }
     {
         self.opened = None;
         if !self.alive {
@@ -140,9 +142,11 @@ impl<L: Link + Drop> Transport<L> {
             self.new.conn id) }
         ensures failed { OnErr result (self.new.alive ≡ false) }
         ensures closed { self.new.opened ≡ None }
-        ensures asked { OnOk result ((fields : List Field)
-            → IsAsked (L.wire self.old.link) self.old.conn id fields
-            → IsAsked (L.wire self.new.link) self.new.conn id fields) }
+        ensures asked { IfOk result (λ answer. (fields : List Field) (messages : List (List ℕ))
+            → IsAsked (L.wire self.old.link) (L.rule self.old.link) self.old.conn id fields
+            → IsToSend request (B.messages body.old) messages
+            → IsAnswered unary (L.wire self.new.link) (L.rule self.new.link)
+            (L.ended self.new.link) self.new.conn id fields messages [] answer) }
         ensures rule { SameRule (L.rule self.old.link) (L.rule self.new.link) }
         ensures cause { HasCauseOf lost (L.faults self.old.link) (L.faults self.new.link) result }
     {
@@ -162,6 +166,11 @@ impl<L: Link + Drop> Transport<L> {
         ensures conn { self.new.conn ≡ self.old.conn }
         ensures opened { self.new.opened
             ≡ Some (record { id = id; place = 0; room = 268435456 }) }
+        ensures asks { (fields : List Field) (messages : List (List ℕ))
+            → IsAsked (L.wire self.old.link) (L.rule self.old.link) self.old.conn id fields
+            → IsToSend request [] messages
+            → AsksBy (L.wire self.new.link) (L.rule self.new.link) self.new.conn self.new.call id
+            fields messages [] }
     {
         self.opened = Some(OpenCall::new(alloc, id, request));
         self.unfinished = Some(id);
@@ -173,6 +182,7 @@ impl<L: Link + Drop> Transport<L> {
         requires { is_some self.old.opened ≡ true }
         ensures next { IfOk result (Nexts L.wire L.rule L.ended self.old.opened self.old
             self.new) }
+        ensures asks { IfOk result (NextAsks L.wire L.rule L.ended self.old self.new) }
         ensures fails { IfErr result (NextFails L.wire L.rule self.old.opened self.old self.new) }
         ensures failed { OnErr result (self.new.alive ≡ false) }
         ensures closed { OnErr result (self.new.opened ≡ None) }

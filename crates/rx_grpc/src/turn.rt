@@ -1,13 +1,14 @@
 //! A turn of a call: what is due is sent, a piece is taken in, and its events are heard. That order keeps to the windows that
 //! were told, however the bytes of the link are cut.
 
-ghost use Rattle.std.specs.Prelude.{◌≡◌, ◌<◌, true, IfErr, OnOk};
+ghost use Rattle.std.specs.Prelude.{◌≡◌, ◌<◌, true, List, ℕ, IfErr, OnOk};
 ghost use Rattle.rx_world.specs.Causes.{HasCauseOf};
 ghost use Rattle.rx_world.specs.Links.{SameRule};
 ghost use Rattle.rx_grpc.specs.Came.{is_piece};
 ghost use Rattle.rx_grpc.specs.Conversation.{Gives, IsOpen};
 ghost use Rattle.rx_grpc.specs.Faults.{IsOther};
 ghost use Rattle.rx_grpc.specs.Moves.{Carries, IsDrained};
+ghost use Rattle.rx_grpc.specs.Sent.{StillAsks};
 ghost use Rattle.rx_grpc.specs.declared.transfer_fault.TransferFault.TheVariants.{Link as lost};
 
 use crate::body::Body;
@@ -28,6 +29,9 @@ fn give<L: Link>(link: &mut L, conn: &mut Conn, opened: &mut OpenCall) -> Result
     ensures drained { OnOk result (IsDrained conn.new.state) }
     ensures gives { OnOk result (Gives opened.old opened.new) }
     ensures last { OnOk result (opened.new.request.last ≡ opened.old.request.last) }
+    ensures asks { OnOk result ((coming : List (List ℕ)) →
+        StillAsks (L.wire link.old) (L.wire link.new) (L.rule link.old) (L.rule link.new) conn.old
+        conn.new opened.old opened.new coming coming) }
     ensures carries { OnOk result
         (Carries (L.wire link.old) (L.wire link.new) conn.old conn.new opened.old.room
         opened.new.room) }
@@ -56,6 +60,9 @@ fn give_body<L: Link, B: Body>(
         conn.new opened.new) }
     ensures drained { OnOk result (IsDrained conn.new.state) }
     ensures gives { OnOk result (Gives opened.old opened.new) }
+    ensures asks { OnOk result
+        (StillAsks (L.wire link.old) (L.wire link.new) (L.rule link.old) (L.rule link.new) conn.old
+        conn.new opened.old opened.new (B.messages body.old) (B.messages body.new)) }
     ensures carries { OnOk result
         (Carries (L.wire link.old) (L.wire link.new) conn.old conn.new opened.old.room
         opened.new.room) }
@@ -87,6 +94,9 @@ fn hear<L: Link>(link: &mut L, conn: &mut Conn, opened: &mut OpenCall) -> Result
         opened.new.room) }
     ensures id { OnOk result (opened.new.call.id ≡ opened.old.call.id) }
     ensures place { OnOk result (opened.new.call.place ≡ opened.old.call.place) }
+    ensures asks { OnOk result ((coming : List (List ℕ)) →
+        StillAsks (L.wire link.old) (L.wire link.new) (L.rule link.old) (L.rule link.new) conn.old
+        conn.new opened.old opened.new coming coming) }
     ensures other { IfErr result IsOther }
     ensures rule { SameRule (L.rule link.old) (L.rule link.new) }
     ensures cause { HasCauseOf lost (L.faults link.old) (L.faults link.new) result }
@@ -118,6 +128,9 @@ pub fn turn<L: Link, B: Body>(
         opened.new.room) }
     ensures id { OnOk result (opened.new.call.id ≡ opened.old.call.id) }
     ensures place { OnOk result (opened.new.call.place ≡ opened.old.call.place) }
+    ensures asks { OnOk result
+        (StillAsks (L.wire link.old) (L.wire link.new) (L.rule link.old) (L.rule link.new) conn.old
+        conn.new opened.old opened.new (B.messages body.old) (B.messages body.new)) }
     ensures other { IfErr result IsOther }
     ensures rule { SameRule (L.rule link.old) (L.rule link.new) }
     ensures cause { HasCauseOf lost (L.faults link.old) (L.faults link.new) result }

@@ -6,7 +6,8 @@ ghost use Rattle.rx_base.specs.Results.{Gives};
 ghost use Rattle.rx_exec_messages.specs.Dialects.{is_number};
 ghost use Rattle.rx_world.specs.declared.call_faults.CallFault.TheVariants.{NoMemory as starved};
 ghost use Rattle.rx_grpc.specs.Caller.{Hears};
-ghost use Rattle.rx_grpc.specs.Writes.{piece_message, write_of, written_by};
+ghost use Rattle.rx_grpc.specs.Questions.{asks_write};
+ghost use Rattle.rx_grpc.specs.Writes.{offsets_of, piece_message, write_of, written_by};
 
 use crate::body::Body;
 use crate::channel::Channel;
@@ -33,11 +34,13 @@ struct Upload<'a> {
 }
 
 /// Where the pieces of so many bytes begin; without bytes there is one.
-fn offsets_of(alloc: Global, size: usize) -> Result<VecDeque<usize>, NoMemory> {
+fn offsets_of(alloc: Global, size: usize) -> Result<VecDeque<usize>, NoMemory>
+    ensures { IfOk result (λ offsets. offsets.items ≡ offsets_of size) }
+{
     let mut offsets = VecDeque::new(alloc);
-    let last = size.saturating_sub(1) / PIECE;
-    for piece in 0..last.saturating_add(1) {
-        offsets.push_back(piece.saturating_mul(PIECE))?;
+    let count = size.saturating_sub(1) / PIECE + 1;
+    for piece in 0..count {
+        offsets.push_back(piece * PIECE)?;
     }
     Ok(offsets)
 }
@@ -117,7 +120,7 @@ pub fn write_blob<D: Dial + Drop>(
     name: Text,
     bytes: &[u8],
 ) -> Result<(), CallFault>
-    ensures { Hears D.faults D.L.Link channel.old channel.new (λ heard.
+    ensures { Hears D.faults D.L.Link (asks_write name bytes.now) channel.old channel.new (λ heard.
         Gives starved (λ x. x) result (written_by (length bytes.now) heard)) }
 {
     let Ok(offsets) = offsets_of(alloc, bytes.len()) else {

@@ -28,21 +28,22 @@ use Rattle.rx_h2conn.proofs.ListLemmas.{either, or_false, and_true, not_false}
 use Rattle.rx_h2conn.proofs.SoundLemmas.{open_at}
 use Rattle.rx_h2conn.proofs.ConnLemmas.{length_told}
 
--- the two are the same to the client
+-- the two are the same to the client, and one that the server has reset stays that
 pub record SameToClient (x y : Stream) : Type 0 where
   pub kept : x.client_reset ≡ y.client_reset
   pub done : x.client_done ≡ y.client_done
+  pub gone : y.server_reset ≡ true → x.server_reset ≡ true
 
 pub same_set : (xs : List Stream) (i k : ℕ) (t : Stream) → i < length xs → SameToClient t (get_or xs i fresh) → SameToClient (get_or (set xs i t) k fresh) (get_or xs k fresh)
 same_set [] i k t small h = absurd (omega arith)
 same_set (x ∷ xs) zero zero t small h = h
-same_set (x ∷ xs) zero (suc k) t small h = record { kept = refl; done = refl }
-same_set (x ∷ xs) (suc i) zero t small h = record { kept = refl; done = refl }
+same_set (x ∷ xs) zero (suc k) t small h = record { kept = refl; done = refl; gone = λ r. r }
+same_set (x ∷ xs) (suc i) zero t small h = record { kept = refl; done = refl; gone = λ r. r }
 same_set (x ∷ xs) (suc i) (suc k) t small h = same_set xs i k t (omega arith) h
 
 pub same_told : (xs : List Stream) (k : ℕ) → SameToClient (get_or (map told xs) k fresh) (get_or xs k fresh)
-same_told [] k = record { kept = refl; done = refl }
-same_told (x ∷ xs) zero = record { kept = refl; done = refl }
+same_told [] k = record { kept = refl; done = refl; gone = λ r. r }
+same_told (x ∷ xs) zero = record { kept = refl; done = refl; gone = λ r. r }
 same_told (x ∷ xs) (suc k) = same_told xs k
 
 -- as many streams, each the same to the client
@@ -51,12 +52,12 @@ pub record Leaves (old new : Session) : Type 0 where
   pub each : (k : ℕ) → SameToClient (get_or new.streams k fresh) (get_or old.streams k fresh)
 
 pub leaves_same : (s t : Session) → t.streams ≡ s.streams → Leaves s t
-leaves_same s t e = record { count = rw e refl; each = λ k. rw e (record { kept = refl; done = refl }) }
+leaves_same s t e = record { count = rw e refl; each = λ k. rw e (record { kept = refl; done = refl; gone = λ r. r }) }
 
 pub leaves_trans : (a b c : Session) → Leaves a b → Leaves b c → Leaves a c
 leaves_trans a b c p q = record {
   count = q.count ∙ p.count;
-  each = λ k. record { kept = (q.each k).kept ∙ (p.each k).kept; done = (q.each k).done ∙ (p.each k).done };
+  each = λ k. record { kept = (q.each k).kept ∙ (p.each k).kept; done = (q.each k).done ∙ (p.each k).done; gone = λ r. (q.each k).gone ((p.each k).gone r) };
 }
 
 pub leaves_set : (s t : Session) (id : ℕ) (x : Stream) → is_open s id ≡ true → SameToClient x (stream_at s id) → t.streams ≡ set s.streams (id / 2) x → Leaves s t
@@ -88,14 +89,14 @@ leaves_data s f =
     either (Leaves s) (passes_window s f) _ _ (λ _. leaves_failed s 3) (λ _.
     either (Leaves s) (is_interrupted s || not (is_open s f.stream)) _ _ (λ _. leaves_failed s 1) (λ fine.
     either (Leaves s) (is_dropped (stream_at s f.stream)) _ _ (λ _. leaves_same s _ refl) (λ _.
-    leaves_set s (taken_data s f (is_set f.flags 1)) f.stream _ (not_false _ (or_false _ _ fine).1) (record { kept = refl; done = refl }) refl)))
+    leaves_set s (taken_data s f (is_set f.flags 1)) f.stream _ (not_false _ (or_false _ _ fine).1) (record { kept = refl; done = refl; gone = λ r. r }) refl)))
 
 pub leaves_reset : (s : Session) (f : Whole) → Leaves s (on_reset s f)
 unfolding on_reset
 leaves_reset s f =
     either (Leaves s) (is_interrupted s || not (is_open s f.stream)) _ _ (λ _. leaves_failed s 1) (λ fine.
     either (Leaves s) (stream_at s f.stream).client_reset _ _ (λ _. leaves_same s s refl) (λ _.
-    leaves_set s _ f.stream _ (not_false _ (or_false _ _ fine).1) (record { kept = refl; done = refl }) refl))
+    leaves_set s _ f.stream _ (not_false _ (or_false _ _ fine).1) (record { kept = refl; done = refl; gone = λ _. refl }) refl))
 
 pub leaves_go_away : (s : Session) (f : Whole) → Leaves s (on_go_away s f)
 unfolding on_go_away
@@ -115,7 +116,7 @@ leaves_stream_update s id n =
     either (Leaves s) (is_interrupted s) _ _ (λ _. leaves_failed s 1) (λ _.
     either (Leaves s) (stream_at s id).client_reset _ _ (λ _. leaves_same s s refl) (λ _.
     either (Leaves s) (nat_eq n 0) _ _ (λ _. leaves_failed s 1) (λ _.
-    leaves_set s _ id _ (not_false _ opened) (record { kept = refl; done = refl }) refl)))))
+    leaves_set s _ id _ (not_false _ opened) (record { kept = refl; done = refl; gone = λ r. r }) refl)))))
 
 pub leaves_window_update : (s : Session) (f : Whole) → Leaves s (on_window_update s f)
 unfolding on_window_update
@@ -126,7 +127,7 @@ unfolding told_headers
 leaves_told s id list last =
     either (Leaves s) (not (is_open s id)) _ _ (λ _. leaves_failed s 1) (λ opened.
     either (Leaves s) (is_dropped (stream_at s id)) _ _ (λ _. leaves_same s s refl) (λ _.
-    leaves_set s _ id _ (not_false _ opened) (record { kept = refl; done = refl }) refl))
+    leaves_set s _ id _ (not_false _ opened) (record { kept = refl; done = refl; gone = λ r. r }) refl))
 
 pub leaves_block : (x : Result Progress HpackFault) (s : Session) (id : ℕ) (last : Bool) → Leaves s (told_block x s id last)
 leaves_block (Ok read) s id last = leaves_trans s (record s { decoder = Ready read.table }) _ (leaves_same s (record s { decoder = Ready read.table }) refl) (leaves_told (record s { decoder = Ready read.table }) id read.fields last)
@@ -239,7 +240,7 @@ pub leaves_owe : (s : Session) (id credit : ℕ) → Leaves s (owe s id credit)
 unfolding owe
 leaves_owe s id credit =
     either (Leaves s) (is_open s id && not (stream_at s id).client_reset) _ _
-    (λ b. leaves_set s _ id _ (and_true _ _ b).0 (record { kept = refl; done = refl }) refl)
+    (λ b. leaves_set s _ id _ (and_true _ _ b).0 (record { kept = refl; done = refl; gone = λ r. r }) refl)
     (λ _. leaves_same s _ refl)
 
 pub leaves_handed : (s : Session) (qs : List Queued) → Leaves s (handed s qs)

@@ -1,6 +1,6 @@
 use Rattle.std.proofs.Common.{ap, ◌∙◌}
 use Rattle.rx_grpc.specs.Answer.{unary}
-use Rattle.rx_grpc.proofs.AskLemmas.{asked_in, asked_on}
+use Rattle.rx_grpc.proofs.SendLemmas.{asked_in, concludes_new}
 use Rattle.rx_grpc.proofs.StreamLemmas.{left_at, none_open, ready_over, started_in, waits}
 use Rattle.rx_grpc.proofs.transport.Transport.call.Goals as goal
 
@@ -16,4 +16,5 @@ invariant_of-self-2 g c = (
 )
 
 pub returns-clause-asked : goal.returns-clause-asked
-returns-clause-asked g c = λ fields asked. asked_on _ _ _ _ _ _ _ fields (asked_in g.L.Link.wire _ c.args.self.now _ fields c.self.view_is asked) c.in_ok-answer.ensures.carries
+returns-clause-asked g c = λ fields messages asked send.
+    concludes_new unary _ _ (g.L.Link.rule c.self.inside.link) (g.L.Link.rule c.answer_of.new.link) _ _ _ c.new-opened.result c.args.id c.args.request _ c.in_ok-answer.answer fields messages c.in_ok-answer.ensures.asked (asked_in g.L.Link.wire g.L.Link.rule _ c.args.self.now c.args.id fields c.self.view_is asked) send c.new-opened.ensures.id c.new-opened.ensures.answers c.new-opened.ensures.place c.new-opened.ensures.away c.new-opened.ensures.request
