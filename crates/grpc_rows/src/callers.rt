@@ -228,6 +228,10 @@ fn call_farm(
             Err(fault) => write_fault(fault, answer),
         },
         b"faults" => answer.number(caller.faults()),
+        b"hang_up" => {
+            caller.hang_up();
+            write_done(answer)
+        }
         b"sent" => match caller.channel().link() {
             Some(link) => answer.bytes(&link.sent),
             None => answer.word("none"),

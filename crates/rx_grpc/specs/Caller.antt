@@ -1,5 +1,5 @@
 -- A farm's client over a channel, and what its calls of one message heard.
-use Rattle.std.specs.Prelude.{ℕ, Bool, List, [], Option, IfErr, IfOk}
+use Rattle.std.specs.Prelude.{ℕ, Bool, false, List, [], Option, None, IfErr, IfOk}
 use Rattle.rx_world.specs.declared.links.Link as links
 use Rattle.rx_grpc.specs.declared.caller.Begun.{Begun}
 use Rattle.rx_grpc.specs.Answer.{unary}
@@ -16,6 +16,10 @@ pub record CallerOf (D L : Type 0) : Type 0 where
   pub first : Option (List ℕ)  -- the first message of an execution that goes on, until it is read
   pub streaming : Bool  -- an execution goes on
   pub faults : ℕ
+
+-- without a connection, and so without an execution that goes on
+abbrev pub hung_up : {D L : Type 0} → CallerOf D L → CallerOf D L
+hung_up c = record c { channel = record c.channel { transport = None }; first = None; streaming = false }
 
 -- This was asked. The channel answered so, as the bytes of its link show, and the result is such.
 pub record Hears {D L : Type 0} (dial_faults : D → ℕ) (link : links.Ghosts L) (asked : Asked) (old new : ChannelOf D L) (IsSuch : Heard → Type 0) : Type 0 where

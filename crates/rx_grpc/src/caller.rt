@@ -4,6 +4,7 @@ ghost use Rattle.std.specs.Prelude.{◌≡◌, ◌≢◌, ◌<◌, ◌^◌, ◌�
 ghost use Rattle.rx_world.specs.declared.call_faults.CallFault.TheVariants.{NoMemory as starved};
 ghost use Rattle.rx_world.specs.Causes.{Rose};
 ghost use Rattle.rx_exec_messages.specs.Calls.{HasCallCause};
+ghost use Rattle.rx_grpc.specs.Caller.{hung_up};
 ghost use Rattle.rx_grpc.specs.declared.caller.Begun.TheVariants.{Executed as executed};
 
 use crate::channel::Channel;
@@ -112,8 +113,17 @@ impl<D: Dial + Drop> GrpcCaller<D> {
         &self.channel
     }
 
+    /// Closes the connection, if there is one; an execution that goes on is given up. The next call makes another connection.
+    pub fn hang_up(&mut self)
+        ensures { self.new ≡ hung_up self.old }
+    {
+        self.streaming = false;
+        self.first = None;
+        self.channel.hang_up();
+    }
+
     /// Counts the fault of an answer, unless it is want of memory.
-    pub(crate) fn counted<T: Drop>(&mut self, answer: Result<T, CallFault>) -> Result<T, CallFault>
+    pub fn counted<T: Drop>(&mut self, answer: Result<T, CallFault>) -> Result<T, CallFault>
         ensures same { result ≡ answer }
         ensures cause { HasCallCause self.old.faults self.new.faults result }
         ensures rest { self.new ≡ record self.old { faults = self.new.faults } }

@@ -97,6 +97,14 @@ impl<D: Dial + Drop> Channel<D> {
         }
     }
 
+    /// Closes the link of the last call, if there is one. The next call makes another one; a streamed answer that is open is given
+    /// up.
+    pub fn hang_up(&mut self)
+        ensures { self.new ≡ record self.old { transport = None } }
+    {
+        self.transport = None;
+    }
+
     /// A call of one message that is answered by one: the message is sent to the method that the path names, as `/SERVICE/METHOD`.
     /// A streamed answer that is open is given up.
     ///
