@@ -12,20 +12,50 @@ use rx_grpc::GrpcCaller;
 use rx_messages::ActionResult;
 use rx_world::{CallFault, World};
 use std::io::Eprint;
+use std::marker::Model;
 use std::net::{Net, TcpStream};
 use std::time::Clock;
 
-/// A farm's client over TCP. Its connection tells nothing of its bytes, so it vouches for nothing: that the farm is an honest
-/// one is its user's own premise.
+/// A farm's client over TCP, with or without a connection. That tells nothing of its bytes, so it vouches for nothing: that the
+/// farm is an honest one is its user's own premise.
 #[derive(Drop)]
 pub struct HostFarm<R: Net<Stream = TcpStream> + Clock + Eprint + Drop> {
     caller: GrpcCaller<HostDial<R>>,
+    /// Whether an execution goes on, also where the connection was closed here: then its next state is a fault.
+    streaming: bool,
+}
+
+impl<R: Net<Stream = TcpStream> + Clock + Eprint + Drop> Model for HostFarm<R> {
+    ghost use Rattle.rx_host.specs.Farms.{FarmOf};
+
+    ghost Value = { FarmOf };
+
+    ghost view = { λ f. record {
+      begun = f.caller.begun;
+      streaming = f.streaming;
+      faults = f.caller.faults;
+    } };
 }
 
 impl<R: Net<Stream = TcpStream> + Clock + Eprint + Drop> HostFarm<R> {
     /// The client that makes its calls so.
     pub fn new(caller: GrpcCaller<HostDial<R>>) -> HostFarm<R> {
-        HostFarm { caller }
+        HostFarm {
+            caller,
+            streaming: false,
+        }
+    }
+
+    /// Closes the connection, if there is one. What is told of the client stays; its next call makes another connection.
+    pub fn hang_up(self) -> HostFarm<R>
+        ensures { result ≡ self }
+    {
+        let mut caller = self.caller;
+        caller.hang_up();
+        HostFarm {
+            caller,
+            streaming: self.streaming,
+        }
     }
 }
 
@@ -38,11 +68,11 @@ impl<R: Net<Stream = TcpStream> + Clock + Eprint + Drop> Caller<HostWorld> for H
 
     ghost dialect = { λ c. new_dialect };
 
-    ghost running = { λ c. action_of ⟦<HostWorld as World>⟧.operation c.caller.begun };
+    ghost running = { λ c. action_of ⟦<HostWorld as World>⟧.operation c.begun };
 
-    ghost streaming = { λ c. c.caller.streaming ≡ true };
+    ghost streaming = { λ c. c.streaming ≡ true };
 
-    ghost faults = { λ c. c.caller.faults };
+    ghost faults = { λ c. c.faults };
 
     fn capabilities(&mut self) -> Result<Capabilities, CallFault> {
         self.caller.hear_capabilities()
@@ -73,14 +103,24 @@ impl<R: Net<Stream = TcpStream> + Clock + Eprint + Drop> Caller<HostWorld> for H
     }
 
     fn execute(&mut self, action: &Digest, skip_cache: bool) -> Result<(), CallFault> {
-        self.caller.hear_execute(action, skip_cache)
+        let answer = self.caller.hear_execute(action, skip_cache);
+        self.streaming = answer.is_ok();
+        answer
     }
 
     fn wait(&mut self, name: &str) -> Result<(), CallFault> {
-        self.caller.hear_wait(name)
+        let answer = self.caller.hear_wait(name);
+        self.streaming = answer.is_ok();
+        answer
     }
 
     fn next_operation(&mut self) -> Result<Operation, CallFault> {
-        self.caller.hear_operation()
+        if !self.caller.is_streaming() {
+            self.streaming = false;
+            return self.caller.counted(Err(CallFault::Cut));
+        }
+        let answer = self.caller.hear_operation();
+        self.streaming = self.caller.is_streaming();
+        answer
     }
 }
