@@ -14,8 +14,8 @@ use std::io;
 /// The parts of a client's session.
 pub(crate) type ClientParts = HostParts<HostRuntime, SocketSource, SocketSink>;
 
-/// The desk of a client. Where it is put together again, at the end of its session, the connection
-/// is closed.
+/// The desk of a client. Where it is put together again, at the end of its session, its connections
+/// are closed: to the client, and to the farm.
 #[derive(Drop)]
 pub(crate) struct ClientDesk {
     pub(crate) parts: ClientParts,
@@ -62,7 +62,7 @@ impl Desk<HostWorld> for ClientDesk {
                 tree_local,
                 benches,
                 tree_remote,
-                farm,
+                farm: farm.hang_up(),
             },
         }
     }

@@ -61,8 +61,8 @@ pub(crate) struct HostFront<R, I, O> {
 
 impl<
     R: Files + Processes + AllocGlobal + Clone + Drop + Send,
-    I: Read + Send,
-    O: Print + Send,
+    I: Read + Send + Drop,
+    O: Print + Send + Drop,
 > Front<HostWorld> for HostFront<R, I, O> {
     type D = HostDesk<R, I, O>;
 

@@ -6,8 +6,9 @@ ghost use Rattle.rx_engine.specs.Words.{root_in};
 ghost use Rattle.reproxy.specs.Serves.{ServesClients};
 
 use crate::clients::ClientFront;
+use crate::remote_words::HostLog;
 use rx_board::JOURNAL_LIMIT;
-use rx_engine::{Options, Ran, run_proxy};
+use rx_engine::{Options, Ran, run_in_threads};
 use rx_exec_messages::Caller;
 use rx_host::{
     HostBench, HostBenches, HostFarm, HostListener, HostPlace, HostSources, HostWorld, SocketSink,
@@ -17,10 +18,11 @@ use rx_world::{Bench, BenchMaker, Place, Sink, Source, Sources, World};
 use std::alloc::AllocError;
 use std::process;
 use std::sync::Wait;
+use std::thread::Threads;
 
-/// Serves the clients that connect, one after the other, until no more can.
+/// Serves the clients that connect, many at once, until no more can.
 pub(crate) fn listen<'a>(
-    wait: &impl Wait,
+    wait: &(impl Threads + Wait + Sync),
     rt: HostRuntime,
     words: &[String],
     options: Options<'a>,
@@ -52,5 +54,6 @@ pub(crate) fn listen<'a>(
         listener,
         options,
     };
-    Ok(run_proxy::<HostWorld, _, _>(wait, alloc, words, front, place))
+    let log = HostLog { rt };
+    Ok(run_in_threads::<HostWorld, _, _, _, _>(wait, alloc, words, front, place, &log))
 }

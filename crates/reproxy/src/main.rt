@@ -20,6 +20,7 @@ use rx_host::{HostListener, draw_seed};
 use std::io::ErrorKind;
 use std::process::ExitCode;
 use std::sync::Wait;
+use std::thread::Threads;
 use std::{env, io, process};
 
 /// The status of a command line that the program doesn't take.
@@ -46,7 +47,7 @@ fn main(rt: HostRuntime) -> ExitCode {
 
 /// Serves what the words ask for: one request, or the clients of a socket. The answer is the
 /// program's status.
-fn run_words(wait: &impl Wait, rt: HostRuntime, words: &[String]) -> u8 {
+fn run_words(wait: &(impl Threads + Wait + Sync), rt: HostRuntime, words: &[String]) -> u8 {
     match options_in(words) {
         Some(options) => match options.listen {
             Some(address) => run_clients(wait, rt, words, options, address),
@@ -57,7 +58,7 @@ fn run_words(wait: &impl Wait, rt: HostRuntime, words: &[String]) -> u8 {
 }
 
 /// Serves one request, and tells why a remote attempt failed.
-fn run_one(wait: &impl Wait, rt: HostRuntime, words: &[String]) -> u8 {
+fn run_one(wait: &(impl Threads + Wait + Sync), rt: HostRuntime, words: &[String]) -> u8 {
     let seed = match draw_seed(&rt) {
         Ok(seed) => seed,
         Err(error) => {
@@ -76,7 +77,7 @@ fn run_one(wait: &impl Wait, rt: HostRuntime, words: &[String]) -> u8 {
 
 /// Serves the clients that connect at an address.
 fn run_clients(
-    wait: &impl Wait,
+    wait: &(impl Threads + Wait + Sync),
     rt: HostRuntime,
     words: &[String],
     options: Options<'_>,

@@ -17,6 +17,7 @@ use std::alloc::AllocError;
 use std::io::{Print, Read};
 use std::process;
 use std::sync::Wait;
+use std::thread::Threads;
 
 /// The root of the place where the words name none. Nothing is placed there.
 const NO_ROOT: &str = "/nonexistent";
@@ -57,10 +58,10 @@ fn desk_of<I: Read + Drop, O: Print + Drop>(
     }
 }
 
-/// Serves what the words ask for, by one desk over these streams. The lock of the digests may wait,
-/// which `wait` allows. The names of what is sent to the farm are drawn from `seed`.
+/// Serves what the words ask for, by one desk over these streams. Both attempts of a request may run in
+/// threads, and locks and joins wait, which `wait` allows. The names of what is sent to the farm are drawn from `seed`.
 pub(crate) fn serve<I: Read + Send + Drop, O: Print + Send + Drop>(
-    wait: &impl Wait,
+    wait: &(impl Threads + Wait + Sync),
     rt: HostRuntime,
     words: &[String],
     seed: [u8; 32],
@@ -89,5 +90,5 @@ pub(crate) fn serve<I: Read + Send + Drop, O: Print + Send + Drop>(
     let desk = desk_of(rt, &options, seed, input, output)?;
     let root = String::from_str(alloc, place_root(&options))?;
     let place = HostPlace::new(rt, root, process::id(rt.process()));
-    Ok(run_proxy::<HostWorld, _, _>(wait, alloc, words, HostFront { desk }, place))
+    Ok(run_proxy::<HostWorld, _, _, _>(wait, alloc, words, HostFront { desk }, place))
 }

@@ -6,23 +6,64 @@ use crate::farms::read_line;
 use crate::plans::{DeskPlan, FailingCall, Node, Part, PlannedPath, PlannedTree};
 use crate::replies::show_number;
 use crate::requests::request_frame;
-use crate::runs::{Finished, run, serve};
+use crate::runs::{Finished, run, run_threads, serve};
 use rx_base::RelPath;
 use rx_engine::options_in;
 use rx_row_values::read_path;
 use rx_rows::{Answer, Calls, Row, RowFault};
 use std::alloc::Global;
 use std::sync::Wait;
+use std::thread::Threads;
 
-/// What rows said of a run, and what is left behind the last one.
+/// A run that a row asks for.
 #[derive(Drop)]
-pub(crate) struct RunCalls<'a, R> {
-    rt: &'a R,
+enum Errand {
+    /// Of the proxy, one session after the other.
+    Run { words: Vec<String> },
+    /// Of the proxy, with the sessions in threads.
+    Threads { words: Vec<String> },
+    /// Of one session, on a board whose journal takes so many entries.
+    Serve { limit: usize },
+}
+
+/// What rows said of a run, and what is left behind the last one. A row that asks for a run is read
+/// twice, since a run needs threads, which a call has no right to: before the run for what it asks, and
+/// after it for the answer.
+#[derive(Drop)]
+pub(crate) struct RunCalls {
     alloc: Global,
     desks: Vec<DeskPlan>,
     /// The calls of the place and of the front that fail.
     failing: Vec<FailingCall>,
+    asked: Option<Errand>,
+    /// Whether what the row asks for was just run.
+    has_run: bool,
     finished: Option<Finished>,
+}
+
+/// The run that a row asks for.
+fn errand_in(alloc: Global, word: &[u8], row: &mut Row<'_>) -> Result<Errand, RowFault> {
+    match word {
+        b"run" => Ok(Errand::Run {
+            words: words_in(alloc, row)?,
+        }),
+        b"threads" => Ok(Errand::Threads {
+            words: words_in(alloc, row)?,
+        }),
+        _ => Ok(Errand::Serve {
+            limit: row.number()? as usize,
+        }),
+    }
+}
+
+/// The status, and how many sessions and entries there are.
+fn show_run(finished: &Finished, answer: &mut Answer) -> Result<(), RowFault> {
+    if let Some(status) = finished.status {
+        show_number(answer, "status", u64::from(status))?;
+    }
+    show_number(answer, "sessions", finished.transcripts.len() as u64)?;
+    show_number(answer, "entries", finished.journal.len() as u64)?;
+    Ok(())
 }
 
 /// The first of these desks.
@@ -34,14 +75,15 @@ fn first(desks: Vec<DeskPlan>) -> Result<DeskPlan, RowFault> {
     Ok(desks.swap_remove(0))
 }
 
-impl<'a, R: Wait> RunCalls<'a, R> {
+impl RunCalls {
     /// No desk.
-    pub(crate) fn new(rt: &'a R, alloc: Global) -> RunCalls<'a, R> {
+    pub(crate) fn new(alloc: Global) -> RunCalls {
         RunCalls {
-            rt,
             alloc,
             desks: Vec::new(alloc),
             failing: Vec::new(alloc),
+            asked: None,
+            has_run: false,
             finished: None,
         }
     }
@@ -164,32 +206,44 @@ impl<'a, R: Wait> RunCalls<'a, R> {
         std::mem::replace(&mut self.desks, Vec::new(self.alloc))
     }
 
-    /// `run WORDS` and `serve LIMIT`: the status, and how many sessions and entries there are.
+    /// `run WORDS`, `threads WORDS` and `serve LIMIT`: at the first reading nothing, and at the second
+    /// what the run came to.
     fn call_runs(
         &mut self,
         word: &[u8],
         row: &mut Row<'_>,
         answer: &mut Answer,
     ) -> Result<(), RowFault> {
-        let finished = match word {
-            b"run" => {
-                let words = words_in(self.alloc, row)?;
-                let plans = self.take_desks();
-                run(self.rt, self.alloc, &words, plans, &self.failing)?
+        let errand = errand_in(self.alloc, word, row)?;
+        if self.has_run {
+            self.has_run = false;
+            return show_run(self.last_run()?, answer);
+        }
+        self.asked = Some(errand);
+        Ok(())
+    }
+
+    /// Runs what the last row asked for. Whether it asked for a run, so that it is to be read again.
+    pub(crate) fn run_asked(
+        &mut self,
+        rt: &(impl Threads + Wait + Sync),
+    ) -> Result<bool, RowFault> {
+        let Some(errand) = self.asked.take() else {
+            return Ok(false);
+        };
+        let plans = self.take_desks();
+        let finished = match errand {
+            Errand::Run { words } => run(rt, self.alloc, &words, plans, &self.failing)?,
+            Errand::Threads { words } => {
+                run_threads(rt, self.alloc, &words, plans, &self.failing)?
             }
-            _ => {
-                let limit = row.number()? as usize;
-                let plan = first(self.take_desks())?;
-                serve(self.rt, self.alloc, limit, plan, &self.failing)?
+            Errand::Serve { limit } => {
+                serve(rt, self.alloc, limit, first(plans)?, &self.failing)?
             }
         };
-        if let Some(status) = finished.status {
-            show_number(answer, "status", u64::from(status))?;
-        }
-        show_number(answer, "sessions", finished.transcripts.len() as u64)?;
-        show_number(answer, "entries", finished.journal.len() as u64)?;
         self.finished = Some(finished);
-        Ok(())
+        self.has_run = true;
+        Ok(true)
     }
 
     /// `options WORDS`: what the words of a command line ask for.
@@ -227,12 +281,12 @@ impl<'a, R: Wait> RunCalls<'a, R> {
     }
 }
 
-impl<'a, R: Wait> Calls for RunCalls<'a, R> {
+impl Calls for RunCalls {
     fn call(&mut self, row: &mut Row<'_>, answer: &mut Answer) -> Result<(), RowFault> {
         let word = row.word()?;
         match word {
             b"request" | b"bytes" => self.call_input(word, row, answer),
-            b"run" | b"serve" => self.call_runs(word, row, answer),
+            b"run" | b"threads" | b"serve" => self.call_runs(word, row, answer),
             b"session"
             | b"frame"
             | b"entry"

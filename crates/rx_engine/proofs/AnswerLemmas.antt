@@ -29,16 +29,19 @@ use Rattle.rx_world.specs.declared.sources.SourceEntry.{SourceEntry}
 use Rattle.rx_world.proofs.AnswerLemmas.{gives-none}
 use Rattle.rx_world.specs.Inputs.{IsAsListed}
 use Rattle.rx_engine.specs.declared.answered.Answered.{Answered}
-use Rattle.rx_engine.specs.declared.answers.Handled.{Handled}
+use Rattle.rx_engine.specs.declared.attempts.Attempted.{Attempted}
 use Rattle.rx_engine.specs.declared.attempts.Won.{Won}
 use Rattle.rx_engine.specs.declared.desk.Parts.{Parts}
+use Rattle.rx_engine.specs.declared.pending.Stage.TheVariants as stages
 use Rattle.rx_engine.specs.Answered.{AnswersFault, IsPlain, TellsPublication, reply_no_memory}
 use Rattle.rx_engine.specs.Answers.{Answers, Grounds, HasRun, HasWon, IsUnrun, MayHaveRun, asked_of, grounds, stretch_of}
-use Rattle.rx_engine.specs.Attempts.{HasAttempts, IsIdle}
-use Rattle.rx_engine.specs.Gathers.{AnswersRun, HasGatheredFor, HasNotGathered, HasRunAndPublished}
+use Rattle.rx_engine.specs.Attempts.{HasAttempts, HasMade, IsIdle, winner}
+use Rattle.rx_engine.specs.Gathers.{AnswersMade, HasGatheredFor, HasNotGathered}
 use Rattle.rx_engine.specs.Meanings.{Meanings, meanings}
-use Rattle.rx_engine.specs.Ready.{AnswersAs, HasHandled, IsOrGivenUp}
+use Rattle.rx_engine.specs.Pending.{HasAnswered, HasTried}
+use Rattle.rx_engine.specs.Ready.{AnswersAs, IsOrGivenUp}
 use Rattle.rx_engine.proofs.AttemptLemmas.{idle-none}
+use Rattle.rx_engine.proofs.Unpublished.{refused}
 use Rattle.rx_engine.proofs.Moves.{IsSame, attempts-move, idle-move, same-none, tells-in, tells-move}
 
 no-lists : (told : Option (List SourceEntry)) → IfSome told (λ entries. All (IsRightList (scene_of entries)) [])
@@ -86,7 +89,7 @@ module _ {P W B : Type 0} (m : Meanings P W B) (g : Grounds P) (request : Reques
   no-memory-answers : (a : Answered) → MayHaveRun m g request ends → IsPlain reply_no_memory a → Answers m g request a.receipt ends a.reply
   no-memory-answers a run h = rw h.reply_is (run, h.receipt_is)
 
-  run-answers : (run : HasRun m g request ends) (answered : Option Answered) → IfSome answered (AnswersRun run.gathered.plan run.attempts ends) → AnswersAs m g request ends answered
+  run-answers : (run : HasRun m g request ends) (answered : Option Answered) → IfSome answered (AnswersMade (winner run.gathered.plan run.attempts) ends) → AnswersAs m g request ends answered
   run-answers run None h = inr run
   run-answers run (Some a) (inl h) = (h.2.frame, publication-answers h.0 a a.reply (record { run = run; won_is = h.1 }) h.2.tells)
   run-answers run (Some a) (inr (inl h)) =
@@ -116,53 +119,63 @@ module _ {P W B : Type 0} (m : Meanings P W B) (g : Grounds P) (request : Reques
   refused-answers why (Ok a) answered u blame h o = rw o (refusal-answers why a u blame h)
   refused-answers why (Err e) answered u blame h o = given-up-answers answered u o
 
+-- the answer to attempts that were made
+pub tried-answers : {P W B : Type 0} (m : Meanings P W B) (g : Grounds P) (request : Request) (attempted : Attempted) (answered : Option Answered) → HasTried m g request attempted
+    → IfSome answered (AnswersMade attempted.won attempted.ends) → AnswersAs m g request attempted.ends answered
+tried-answers m g request attempted answered h a =
+    run-answers m g request attempted.ends h.run answered (subst (λ x. IfSome answered (AnswersMade x attempted.ends)) h.won_is a)
+
 -- ---- the whole
 
 module _ {W I O T L M B R C : Type 0} (w : world.Ghosts W) (i : inputs.Ghosts I) (o : sinks.Ghosts O) (t : sources.Ghosts T W) (l : sources.Ghosts L W) (k : makers.Ghosts M W B) (b : benches.Ghosts B W)
     (v : sources.Ghosts R W) (z : callers.Ghosts C W) where
   -- what was gathered was run on
-  pub handled-run : (p q r : Parts I O T L M R C) (request : Request) (gathered : Gathered) (accepts : Bool) (handled : Handled)
+  pub answered-run : (p q r : Parts I O T L M R C) (request : Request) (gathered : Gathered) (accepts : Bool) (attempted : Attempted)
       → IsSame p q → r.tree ≡ q.tree → accepts ≡ request.accept_cached
-      → HasGatheredFor (meanings w i o t l k b v z) request p q gathered → HasRunAndPublished (meanings w i o t l k b v z) gathered accepts q r handled
-      → HasHandled (meanings w i o t l k b v z) request p r handled
-  handled-run p q r request gathered accepts handled same d is h run =
+      → HasGatheredFor (meanings w i o t l k b v z) request p q gathered → HasMade (meanings w i o t l k b v z) gathered accepts q r attempted
+      → HasAnswered (meanings w i o t l k b v z) request p r (stages.Attempted attempted)
+  answered-run p q r request gathered accepts attempted same d is h made =
       let inputs = h.inputs in
       record {
         answers = h.answers;
         lists = h.lists;
         view = h.view;
         looked = tells-move w i o t l k b v z p q p r h.answers h.lists refl d h.looked;
-        answered = run-answers (meanings w i o t l k b v z) (grounds p r h.answers h.lists h.view) request handled.ends
-            (record {
-              gathered = gathered;
-              inputs = record {
-                by = record { view_is = inputs.by.view_is; viewed = inputs.by.viewed; seen = inputs.by.seen; shown = inputs.by.shown };
-                orderly = inputs.orderly;
-                digests = inputs.digests;
-                listed = inputs.listed;
-              };
-              attempts = run.attempts;
-              made = attempts-move w i o t l k b v z q r p r gathered request.accept_cached run.attempts (same-back p q same) (same-none r)
-                  (subst (λ x. HasAttempts (meanings w i o t l k b v z) gathered x q r run.attempts) is run.made);
-              ends_are = run.ends_are;
-            })
-            handled.answered run.answered;
+        stage_is = record {
+          run = record {
+            gathered = gathered;
+            inputs = record {
+              by = record { view_is = inputs.by.view_is; viewed = inputs.by.viewed; seen = inputs.by.seen; shown = inputs.by.shown };
+              orderly = inputs.orderly;
+              digests = inputs.digests;
+              listed = inputs.listed;
+            };
+            attempts = made.attempts;
+            made = attempts-move w i o t l k b v z q r p r gathered request.accept_cached made.attempts (same-back p q same) (same-none r)
+                (subst (λ x. HasAttempts (meanings w i o t l k b v z) gathered x q r made.attempts) is made.each);
+            ends_are = made.ends_are;
+          };
+          won_is = made.won_is;
+        };
       }
 
   -- nothing was gathered
-  pub handled-refused : {E : Type 0} (p q : Parts I O T L M R C) (request : Request) (why : GatherFault) (handled : Handled) (made : Result Answered E)
+  pub answered-refused : {E : Type 0} (p q : Parts I O T L M R C) (request : Request) (why : GatherFault) (made : Result Answered E) (answered : Option Answered)
       → IsSame p q → HasNotGathered (meanings w i o t l k b v z) request p q why
-      → handled.ends ≡ [] → IfOk made (AnswersFault why) → IsOrGivenUp made handled.answered
-      → HasHandled (meanings w i o t l k b v z) request p q handled
-  handled-refused p q request why handled made same h none answers given =
+      → IfOk made (AnswersFault why) → IsOrGivenUp made answered
+      → HasAnswered (meanings w i o t l k b v z) request p q (stages.Refused answered)
+  answered-refused p q request why made answered same h answers given =
       let idle : IsIdle (meanings w i o t l k b v z) p q = idle-move w i o t l k b v z p p p q (same-none p) same (idle-none w i o t l k b v z p) in
       record {
         answers = h.answers;
         lists = h.lists;
         view = h.view;
         looked = h.looked;
-        answered = refused-answers (meanings w i o t l k b v z) (grounds p q h.answers h.lists h.view) request handled.ends
-            why made handled.answered (record { idle = idle; ends_are = none }) h.cause answers given;
+        stage_is = (
+          refused-answers (meanings w i o t l k b v z) (grounds p q h.answers h.lists h.view) request []
+              why made answered (record { idle = idle; ends_are = refl }) h.cause answers given,
+          refused why made answered answers given,
+        );
       }
 
   -- memory ran out before anything was asked of the source tree
@@ -173,6 +186,17 @@ module _ {W I O T L M B R C : Type 0} (w : world.Ghosts W) (i : inputs.Ghosts I)
     view = [];
     looked = tells-in w t (λ (x : Parts I O T L M R C). x.tree) p p [] [] (tells-none w t p.tree);
     cause = tt;
+  }
+
+  -- the gathering was refused
+  pub not-gathered : (p : Parts I O T L M R C) (tree : T) (asked : Asked) (request : Request) (why : GatherFault) → asked ≡ asked_of request
+      → Gathers w t p.tree tree asked (Err why) → HasNotGathered (meanings w i o t l k b v z) request p (record p { tree = tree }) why
+  not-gathered p tree asked request why e h = record {
+    answers = h.answers;
+    lists = h.lists;
+    view = h.view;
+    looked = tells-in w t (λ (x : Parts I O T L M R C). x.tree) p (record p { tree = tree }) h.answers h.lists h.tells;
+    cause = subst (λ x. BlamesGather x why (stretch [] h.view (t.faults p.tree) (t.faults tree) h.answers h.lists)) e h.outcome;
   }
 
   -- what the gathering gave

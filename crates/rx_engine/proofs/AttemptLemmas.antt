@@ -1,6 +1,6 @@
 -- From the ends of the attempts to the attempts of a plan.
-use Rattle.std.proofs.Common.{◌≡◌, ◌≤◌, ◌||◌, Bool, true, false, List, [], ◌∷◌, ◌++◌, ap, arith, inl, inr, refl, subst, sym}
-use Rattle.std.specs.Prelude.{All, Err, IfErr, IfOk, IfSome, None, Ok, Option, Result, Some, if◌then◌else◌, is_some}
+use Rattle.std.proofs.Common.{◌≡◌, ◌≤◌, Bool, List, [], ◌++◌, ap, arith, inl, inr, refl, subst, sym}
+use Rattle.std.specs.Prelude.{All, Err, IfOk, IfSome, None, Ok, Option, Result, Some, is_some}
 use Rattle.rx_action.specs.OutputPaths.{AreBelow}
 use Rattle.rx_base.specs.Digests.{digest_of}
 use Rattle.rx_base.specs.declared.digests.Digest.{Digest}
@@ -10,7 +10,11 @@ use Rattle.rx_exec_messages.specs.declared.callers.Caller as callers
 use Rattle.rx_exec_messages.specs.Calls.{Stays}
 use Rattle.rx_local.proofs.Ends.{forgets}
 use Rattle.rx_local.specs.Limits.{IsWithinLimits}
-use Rattle.rx_local.specs.Local.{HasAttempted, HasTold, IsStopped, Tells}
+use Rattle.rx_local.specs.Local.{HasAttempted, HasTold}
+use Rattle.rx_race.specs.declared.slips.Slip.{Slip}
+use Rattle.rx_race.specs.declared.slips.Slip.TheVariants.{Unused}
+use Rattle.rx_race.specs.Locked.{AreTold, slips_of}
+use Rattle.rx_race.specs.Slips.{Ticket}
 use Rattle.rx_remote.specs.Actions.{AreNamed}
 use Rattle.rx_scan.specs.declared.gathering.Gathered.{Gathered}
 use Rattle.rx_scan.specs.Gathering.{IsOrderly, reading_asked}
@@ -19,16 +23,18 @@ use Rattle.rx_session.specs.declared.requests.Request.{Request}
 use Rattle.rx_tree.specs.declared.blobs.Blob.{Blob as Directory}
 use Rattle.rx_tree.specs.Blobs.{blob_of}
 use Rattle.rx_tree.proofs.FitLemmas.{can_be_built}
+use Rattle.rx_world.specs.declared.attempts.Attempt.{Attempt}
 use Rattle.rx_world.specs.declared.attempts.Cause.{Cause}
 use Rattle.rx_world.specs.declared.attempts.Cause.TheVariants as causes
 use Rattle.rx_world.specs.declared.attempts.End.{End}
 use Rattle.rx_world.specs.declared.attempts.End.TheVariants as ends
-use Rattle.rx_world.specs.declared.attempts.Ended.{Ended}
 use Rattle.rx_world.specs.declared.attempts.Origin.{Origin}
 use Rattle.rx_world.specs.declared.attempts.Plan.{Plan}
+use Rattle.rx_world.specs.declared.attempts.Plan.TheVariants as plans
 use Rattle.rx_world.specs.declared.benches.Bench as benches
 use Rattle.rx_world.specs.declared.benches.BenchMaker as makers
 use Rattle.rx_world.specs.declared.commands.Command.{Command}
+use Rattle.rx_world.specs.declared.decisions.Decision.{Decision}
 use Rattle.rx_world.specs.declared.input_files.InputFile.{InputFile}
 use Rattle.rx_world.specs.declared.outcomes.Outcome.{Outcome}
 use Rattle.rx_world.specs.declared.remote_causes.RemoteCause.{RemoteCause}
@@ -40,24 +46,17 @@ use Rattle.rx_world.specs.declared.streams.Source as inputs
 use Rattle.rx_world.specs.declared.world.World as world
 use Rattle.rx_world.proofs.AnswerLemmas.{gives-none}
 use Rattle.rx_world.specs.Inputs.{IsAsListed}
-use Rattle.rx_world.specs.Outcomes.{IsProper, kept, listing}
-use Rattle.rx_engine.specs.declared.attempts.Attempted.{Attempted}
-use Rattle.rx_engine.specs.declared.attempts.Won.{Won}
+use Rattle.rx_world.specs.Outcomes.{IsProper}
 use Rattle.rx_engine.specs.declared.desk.Parts.{Parts}
 use Rattle.rx_engine.specs.declared.held.Held.{Held}
 use Rattle.rx_engine.specs.Answers.{HasOutputsBelow, asked_of}
-use Rattle.rx_engine.specs.Attempts.{AreLaterThan, Attempts, HasAttempts, HasEndedHere, HasLocal, HasMade, HasRemote, HasRunHere, Holds, IsIdle, IsIdleHere, IsMadeOf, end_of, first_done, first_won, has_remote, is_remote_only, is_zero, job_of, kept_ends, kept_of, listed_remote, outcome_of, starts_here, whole_end, winner, won_remote}
-use Rattle.rx_engine.specs.Journal.{files_of}
+use Rattle.rx_engine.specs.Attempts.{AreLaterThan, Attempts, HasAttempts, HasEndedHere, HasLocal, HasRemote, HasRunHere, HasTurns, Holds, IsIdle, IsIdleHere, end_of, has_remote, job_of, starts_here, whole_end}
 use Rattle.rx_engine.specs.Meanings.{Meanings, meanings}
+use Rattle.rx_engine.specs.RacedAttempts.{HasRaced, HasRacedHere, HasRacedThere, RanHere, RanThere}
+use Rattle.rx_engine.specs.Racing.{HaveRaced, first_by}
 use Rattle.rx_engine.specs.RemoteAttempts.{EndsThere, FitsFarm, HasRunThere, IsIdleThere, IsTreeOf}
 use Rattle.rx_engine.proofs.Mirrors.{farm-in, source-in, there-mirrored}
 use Rattle.rx_engine.proofs.Moves.{IsSame, IsSameHere, IsSameThere, gives-in, local-move, remote-move}
-
-some-inj : {A : Type 0} {a b : A} → Some a ≡ Some b → a ≡ b
-some-inj h = cc
-
-none-some : {A : Type 0} {a : A} → None ≡ Some a → ⊥
-none-some h = cc
 
 abbrev as-remote : End Outcome RemoteCause → End Outcome RemoteCause
 as-remote end = end
@@ -68,38 +67,24 @@ unchanged-none (Some entries) files = λ h. tt
 
 -- ---- the local attempt
 
--- an attempt whose stop tells no decision isn't stopped
-unstopped-for : (cause : Cause) → Tells None None cause → IsStopped cause → ⊥
-unstopped-for (causes.Stopped decision) told stopped = let e : None ≡ Some decision = told.1 in cc
-unstopped-for (causes.BenchFault step) told stopped = stopped
-unstopped-for (causes.OutputMissing path) told stopped = stopped
-unstopped-for (causes.InputChanged input) told stopped = stopped
-unstopped-for (causes.OutputTooLarge limit n) told stopped = stopped
-unstopped-for (causes.SourceFault path) told stopped = stopped
-unstopped-for causes.NoMemory told stopped = stopped
-
-pub unstopped-by : (result : Result Outcome Cause) → HasTold None None result → IfErr result (λ cause. IsStopped cause → ⊥)
-unstopped-by (Ok outcome) told = tt
-unstopped-by (Err cause) told = unstopped-for cause told
-
-module _ {M B T W : Type 0} (w : world.Ghosts W) (m : makers.Ghosts M W B) (b : benches.Ghosts B W) (s : sources.Ghosts T W) (gathered : Gathered) (benches_old benches_new : M) (old new : T) where
+module _ {M B T W : Type 0} (w : world.Ghosts W) (m : makers.Ghosts M W B) (b : benches.Ghosts B W) (s : sources.Ghosts T W) (gathered : Gathered) (told : Option Decision) (benches_old benches_new : M) (old new : T) where
   has-run : (result : Result Outcome Cause) → HasAttempted w m b s (job_of gathered) benches_old benches_new old new result
-      → IfOk result (IsProper gathered.command) → IfOk result IsWithinLimits → IfErr result (λ cause. IsStopped cause → ⊥)
-      → HasRunHere w m b s gathered benches_old benches_new old new (end_of result)
-  has-run (Ok outcome) a proper within unstopped = record { attempted = a; proper = proper; within = within; unstopped = tt; from = refl }
-  has-run (Err cause) a proper within unstopped = record { attempted = a; proper = tt; within = tt; unstopped = unstopped; from = tt }
+      → IfOk result (IsProper gathered.command) → IfOk result IsWithinLimits → HasTold None told result
+      → HasRunHere w m b s gathered told benches_old benches_new old new (end_of result)
+  has-run (Ok outcome) a proper within stopped = record { attempted = a; proper = proper; within = within; stopped = stopped; from = refl }
+  has-run (Err cause) a proper within stopped = record { attempted = a; proper = tt; within = tt; stopped = stopped; from = tt }
 
   -- an attempt on what was gathered, whose outcome is held where there is memory for it
   pub run-held : (result : Result Outcome Cause) (held : End Held Cause) → HasAttempted w m b s (job_of gathered) benches_old benches_new old new result
-      → IfOk result (IsProper gathered.command) → IfOk result IsWithinLimits → IfErr result (λ cause. IsStopped cause → ⊥)
-      → Holds causes.NoMemory (end_of result) held → HasRunHere w m b s gathered benches_old benches_new old new (whole_end held)
-  run-held (Ok outcome) held a proper within unstopped (inl e) =
-      subst (HasRunHere w m b s gathered benches_old benches_new old new) (sym e) (has-run (Ok outcome) a proper within unstopped)
-  run-held (Ok outcome) held a proper within unstopped (inr e) =
-      subst (HasRunHere w m b s gathered benches_old benches_new old new) (sym e)
-      (has-run (Err causes.NoMemory) (forgets w m b s (job_of gathered) benches_old benches_new old new outcome a) tt tt (λ stopped. absurd stopped))
-  run-held (Err cause) held a proper within unstopped e =
-      subst (HasRunHere w m b s gathered benches_old benches_new old new) (sym e) (has-run (Err cause) a proper within unstopped)
+      → IfOk result (IsProper gathered.command) → IfOk result IsWithinLimits → HasTold None told result
+      → Holds causes.NoMemory (end_of result) held → HasRunHere w m b s gathered told benches_old benches_new old new (whole_end held)
+  run-held (Ok outcome) held a proper within stopped (inl e) =
+      subst (HasRunHere w m b s gathered told benches_old benches_new old new) (sym e) (has-run (Ok outcome) a proper within stopped)
+  run-held (Ok outcome) held a proper within stopped (inr e) =
+      subst (HasRunHere w m b s gathered told benches_old benches_new old new) (sym e)
+      (has-run (Err causes.NoMemory) (forgets w m b s (job_of gathered) benches_old benches_new old new outcome a) tt tt stopped)
+  run-held (Err cause) held a proper within stopped e =
+      subst (HasRunHere w m b s gathered told benches_old benches_new old new) (sym e) (has-run (Err cause) a proper within stopped)
 
 -- ---- what a remote attempt is about
 
@@ -123,10 +108,10 @@ memory-done : (outcome : Outcome) (origin : Origin) → as-remote (ends.Failed r
 memory-done outcome origin e = cc e
 
 -- an outcome that isn't kept
-forgets-there : {C T W : Type 0} (w : world.Ghosts W) (c : callers.Ghosts C W) (s : sources.Ghosts T W) (gathered : Gathered) (accepts : Bool) (farm_old farm_new : C) (old new : T)
-    (end : End Outcome RemoteCause) → HasRunThere w c s gathered accepts farm_old farm_new old new end
-    → HasRunThere w c s gathered accepts farm_old farm_new old new (ends.Failed remote_causes.NoMemory)
-forgets-there w c s gathered accepts farm_old farm_new old new end h = record {
+forgets-there : {C T W : Type 0} (w : world.Ghosts W) (c : callers.Ghosts C W) (s : sources.Ghosts T W) (gathered : Gathered) (accepts : Bool) (told : Option Decision) (farm_old farm_new : C) (old new : T)
+    (outcome : Outcome) (origin : Origin) → HasRunThere w c s gathered accepts told farm_old farm_new old new (ends.Done outcome origin)
+    → HasRunThere w c s gathered accepts told farm_old farm_new old new (ends.Failed remote_causes.NoMemory)
+forgets-there w c s gathered accepts told farm_old farm_new old new outcome origin h = record {
   root = h.root;
   directories = h.directories;
   tree = h.tree;
@@ -135,19 +120,20 @@ forgets-there w c s gathered accepts farm_old farm_new old new end h = record {
   sound = λ outcome origin e. absurd (memory-done outcome origin e);
   stays = h.stays;
   own = record { answers = h.own.answers; gives = h.own.gives; reads = h.own.reads; is_such = tt };
+  stopped = h.stopped;
   unchanged = λ k. unchanged-none (s.listed old) gathered.files;
 }
 
 -- an end that is held, or want of memory
-pub there-held : {C T W : Type 0} (w : world.Ghosts W) (c : callers.Ghosts C W) (s : sources.Ghosts T W) (gathered : Gathered) (accepts : Bool) (farm_old farm_new : C) (old new : T)
-    (end : End Outcome RemoteCause) (held : End Held RemoteCause) → HasRunThere w c s gathered accepts farm_old farm_new old new end → Holds remote_causes.NoMemory end held
-    → HasRunThere w c s gathered accepts farm_old farm_new old new (whole_end held)
-there-held w c s gathered accepts farm_old farm_new old new (ends.Done outcome origin) held h (inl e) =
-    subst (HasRunThere w c s gathered accepts farm_old farm_new old new) (sym e) h
-there-held w c s gathered accepts farm_old farm_new old new (ends.Done outcome origin) held h (inr e) =
-    subst (HasRunThere w c s gathered accepts farm_old farm_new old new) (sym e) (forgets-there w c s gathered accepts farm_old farm_new old new (ends.Done outcome origin) h)
-there-held w c s gathered accepts farm_old farm_new old new (ends.Failed cause) held h e =
-    subst (HasRunThere w c s gathered accepts farm_old farm_new old new) (sym e) h
+pub there-held : {C T W : Type 0} (w : world.Ghosts W) (c : callers.Ghosts C W) (s : sources.Ghosts T W) (gathered : Gathered) (accepts : Bool) (told : Option Decision) (farm_old farm_new : C) (old new : T)
+    (end : End Outcome RemoteCause) (held : End Held RemoteCause) → HasRunThere w c s gathered accepts told farm_old farm_new old new end → Holds remote_causes.NoMemory end held
+    → HasRunThere w c s gathered accepts told farm_old farm_new old new (whole_end held)
+there-held w c s gathered accepts told farm_old farm_new old new (ends.Done outcome origin) held h (inl e) =
+    subst (HasRunThere w c s gathered accepts told farm_old farm_new old new) (sym e) h
+there-held w c s gathered accepts told farm_old farm_new old new (ends.Done outcome origin) held h (inr e) =
+    subst (HasRunThere w c s gathered accepts told farm_old farm_new old new) (sym e) (forgets-there w c s gathered accepts told farm_old farm_new old new outcome origin h)
+there-held w c s gathered accepts told farm_old farm_new old new (ends.Failed cause) held h e =
+    subst (HasRunThere w c s gathered accepts told farm_old farm_new old new) (sym e) h
 
 -- ---- both attempts, over the parts
 
@@ -181,9 +167,9 @@ module _ {W I O T L M B R C : Type 0} (w : world.Ghosts W) (i : inputs.Ghosts I)
   }
 
   -- the local attempt was made by its parts
-  pub here-in : (p q : Parts I O T L M R C) (gathered : Gathered) (end : End Outcome Cause) → HasRunHere w k b l gathered p.benches q.benches p.tree_local q.tree_local end
-      → HasEndedHere (meanings w i o t l k b v z) gathered p q end
-  here-in p q gathered end h =
+  pub here-in : (p q : Parts I O T L M R C) (gathered : Gathered) (told : Option Decision) (end : End Outcome Cause) → HasRunHere w k b l gathered told p.benches q.benches p.tree_local q.tree_local end
+      → HasEndedHere (meanings w i o t l k b v z) gathered told p q end
+  here-in p q gathered told end h =
       let a = h.attempted in
       record {
         attempted = record {
@@ -200,57 +186,89 @@ module _ {W I O T L M B R C : Type 0} (w : world.Ghosts W) (i : inputs.Ghosts I)
         };
         proper = h.proper;
         within = h.within;
-        unstopped = h.unstopped;
+        stopped = h.stopped;
         from = h.from;
       }
 
   -- and so was the remote one
-  pub there-in : (p q : Parts I O T L M R C) (gathered : Gathered) (accepts : Bool) (end : End Outcome RemoteCause) → EndsThere w z v gathered accepts p.farm q.farm p.tree_remote q.tree_remote end
-      → HasRemote (meanings w i o t l k b v z) gathered accepts p q (Some end)
-  there-in p q gathered accepts end h =
+  pub there-in : (p q : Parts I O T L M R C) (gathered : Gathered) (accepts : Bool) (told : Option Decision) (end : End Outcome RemoteCause) → EndsThere w z v gathered accepts told p.farm q.farm p.tree_remote q.tree_remote end
+      → HasRemote (meanings w i o t l k b v z) gathered accepts told p q (Some end)
+  there-in p q gathered accepts told end h =
       there-mirrored w z _ v _ p.farm q.farm p q p.tree_remote q.tree_remote p q
       (farm-in z (λ (x : Parts I O T L M R C). x.farm) p) (farm-in z (λ (x : Parts I O T L M R C). x.farm) q)
       (source-in v (λ (x : Parts I O T L M R C). x.tree_remote) p) (source-in v (λ (x : Parts I O T L M R C). x.tree_remote) q)
-      gathered accepts end h
+      gathered accepts told end h
 
   -- the remote attempt where the plan has one, then the local one where it starts
-  pub both-made : (p q r : Parts I O T L M R C) (gathered : Gathered) (accepts : Bool) (here : Option (End Outcome Cause)) (there : Option (End Outcome RemoteCause)) (made : Attempted)
+  pub turns-made : (p q r : Parts I O T L M R C) (gathered : Gathered) (accepts : Bool) (here : Option (End Outcome Cause)) (there : Option (End Outcome RemoteCause))
       → IsSameHere p q → IsSameThere q r
-      → HasRemote (meanings w i o t l k b v z) gathered accepts p q there → is_some there ≡ has_remote gathered.plan
-      → HasLocal (meanings w i o t l k b v z) gathered q r here → is_some here ≡ starts_here gathered.plan there
-      → IsMadeOf gathered.plan here there made
-      → HasMade (meanings w i o t l k b v z) gathered accepts p r made
-  both-made p q r gathered accepts here there made same_here same_there h started_there g started_here is = record {
-    attempts = record { local = here; remote = there };
-    each = record {
-      local = local-move w i o t l k b v z q r p r gathered here (record { tree_local = sym same_here.tree_local; benches = sym same_here.benches }) (record { tree_local = refl; benches = refl }) g;
-      remote = remote-move w i o t l k b v z p q p r gathered accepts there (record { tree_remote = refl; farm = refl }) same_there h;
-      started_here = started_here;
-      started_there = started_there;
-    };
-    ends_are = is.ends_are;
-    won_is = is.won_is;
+      → HasRemote (meanings w i o t l k b v z) gathered accepts None p q there → is_some there ≡ has_remote gathered.plan
+      → HasLocal (meanings w i o t l k b v z) gathered None q r here → is_some here ≡ starts_here gathered.plan there
+      → HasTurns (meanings w i o t l k b v z) gathered accepts p r here there
+  turns-made p q r gathered accepts here there same_here same_there h started_there g started_here = record {
+    here = local-move w i o t l k b v z q r p r gathered None here (record { tree_local = sym same_here.tree_local; benches = sym same_here.benches }) (record { tree_local = refl; benches = refl }) g;
+    there = remote-move w i o t l k b v z p q p r gathered accepts None there (record { tree_remote = refl; farm = refl }) same_there h;
+    started_here = started_here;
+    started_there = started_there;
+  }
+
+  -- ---- a race
+
+  -- the local attempt was made or refused
+  raced-here : (p q : Parts I O T L M R C) (gathered : Gathered) (told : Option Decision) (end : Option (End Outcome Cause)) → RanHere w k b l gathered told p.benches q.benches p.tree_local q.tree_local end
+      → HasLocal (meanings w i o t l k b v z) gathered told p q end
+  raced-here p q gathered told None h =
+      local-move w i o t l k b v z p p p q gathered told None (record { tree_local = refl; benches = refl }) (record { tree_local = h.1; benches = h.0 }) (idle-here-none p)
+  raced-here p q gathered told (Some end) h = here-in p q gathered told end h
+
+  -- and so was the remote one
+  raced-there : (p q : Parts I O T L M R C) (gathered : Gathered) (accepts : Bool) (told : Option Decision) (end : Option (End Outcome RemoteCause))
+      → RanThere w z v gathered accepts told p.farm q.farm p.tree_remote q.tree_remote end → HasRemote (meanings w i o t l k b v z) gathered accepts told p q end
+  raced-there p q gathered accepts told None h =
+      remote-move w i o t l k b v z p p p q gathered accepts told None (record { tree_remote = refl; farm = refl }) (record { tree_remote = h.1; farm = h.0 })
+      (idle-there-none w (meanings w i o t l k b v z).farm (meanings w i o t l k b v z).tree_remote p p)
+  raced-there p q gathered accepts told (Some end) h = there-in p q gathered accepts told end h
+
+  pub both-raced : (p q : Parts I O T L M R C) (gathered : Gathered) (accepts : Bool) (plan : Plan) (here : Option (End Outcome Cause)) (there : Option (End Outcome RemoteCause)) (near far : Ticket) (cancel : Slip) (first : Attempt)
+      → plan ≡ plans.Both
+      → HasRacedHere w k b l plan gathered p.benches q.benches p.tree_local q.tree_local here near
+      → HasRacedThere w z v plan gathered accepts p.farm q.farm p.tree_remote q.tree_remote there far
+      → AreTold plan (slips_of near.slip far.slip cancel) → cancel ≡ Unused → first ≡ first_by far.slip
+      → HasRaced (meanings w i o t l k b v z) gathered accepts p q here there first
+  both-raced p q gathered accepts plan here there near far cancel first e h g told unused is = record {
+    told_local = h.told;
+    told_remote = g.told;
+    here = raced-here p q gathered h.told here h.ran;
+    there = raced-there p q gathered accepts g.told there g.ran;
+    raced = subst (λ x. HaveRaced x h.told here g.told there first) e (record {
+      slips = slips_of near.slip far.slip cancel;
+      told = told;
+      fits_local = h.fits;
+      fits_remote = g.fits;
+      uncancelled = unused;
+      first_is = is;
+    });
   }
 
 -- ---- counts
 
 module _ {P W B : Type 0} (m : Meanings P W B) (before after : P) where
-  here-later : (gathered : Gathered) (end : Option (End Outcome Cause)) → HasLocal m gathered before after end
+  here-later : (gathered : Gathered) (told : Option Decision) (end : Option (End Outcome Cause)) → HasLocal m gathered told before after end
       → (m.tree_local.faults before ≤ m.tree_local.faults after) × (m.benches.faults before ≤ m.benches.faults after)
-  here-later gathered None h = let s = h.source_is in let n = h.bench_is in (omega arith, omega arith)
-  here-later gathered (Some end) h = (h.attempted.on.gives.later, h.attempted.later)
+  here-later gathered told None h = let s = h.source_is in let n = h.bench_is in (omega arith, omega arith)
+  here-later gathered told (Some end) h = (h.attempted.on.gives.later, h.attempted.later)
 
-  there-later : (gathered : Gathered) (accepts : Bool) (end : Option (End Outcome RemoteCause)) → HasRemote m gathered accepts before after end
+  there-later : (gathered : Gathered) (accepts : Bool) (told : Option Decision) (end : Option (End Outcome RemoteCause)) → HasRemote m gathered accepts told before after end
       → (m.tree_remote.faults before ≤ m.tree_remote.faults after) × (m.farm.faults before ≤ m.farm.faults after)
-  there-later gathered accepts None h = let s = h.source_is in let n = h.unasked.faults_are in (omega arith, omega arith)
-  there-later gathered accepts (Some end) (inl h) = let s = h.1.source_is in let n = h.1.unasked.faults_are in (omega arith, omega arith)
-  there-later gathered accepts (Some end) (inr h) = (h.own.gives.later, h.stays.exchanged.later)
+  there-later gathered accepts told None h = let s = h.source_is in let n = h.unasked.faults_are in (omega arith, omega arith)
+  there-later gathered accepts told (Some end) (inl h) = let s = h.2.source_is in let n = h.2.unasked.faults_are in (omega arith, omega arith)
+  there-later gathered accepts told (Some end) (inr h) = (h.own.gives.later, h.stays.exchanged.later)
 
   -- no count falls in attempts
   pub attempts-later : (gathered : Gathered) (accepts : Bool) (attempts : Attempts) → HasAttempts m gathered accepts before after attempts → AreLaterThan m before after
   attempts-later gathered accepts attempts h =
-      let here = here-later gathered attempts.local h.local in
-      let there = there-later gathered accepts attempts.remote h.remote in
+      let here = here-later gathered attempts.told_local attempts.local h.local in
+      let there = there-later gathered accepts attempts.told_remote attempts.remote h.remote in
       record { tree_local = here.0; benches = here.1; tree_remote = there.0; farm = there.1 }
 
 module _ {W I O T L M B R C : Type 0} (w : world.Ghosts W) (i : inputs.Ghosts I) (o : sinks.Ghosts O) (t : sources.Ghosts T W) (l : sources.Ghosts L W) (k : makers.Ghosts M W B) (b : benches.Ghosts B W)
@@ -266,30 +284,3 @@ module _ {W I O T L M B R C : Type 0} (w : world.Ghosts W) (i : inputs.Ghosts I)
 
   pub later-none : (p : Parts I O T L M R C) → AreLaterThan (meanings w i o t l k b v z) p p
   later-none p = record { tree_local = omega arith; benches = omega arith; tree_remote = omega arith; farm = omega arith }
-
--- ---- the outcome that is published
-
-pub if-some : (test : Bool) (first won : Won) → (if test then Some first else None) ≡ Some won → first ≡ won
-if-some true first won h = some-inj h
-if-some false first won h = absurd (none-some h)
-
-remote-first : (plan : Plan) (remote : Option (End Outcome RemoteCause)) (won : Won) → won_remote plan remote ≡ Some won → first_done (listed_remote (kept_of remote)) ≡ Some (kept won.outcome)
-remote-first plan None won h = absurd (none-some h)
-remote-first plan (Some (ends.Failed cause)) won h = absurd (none-some h)
-remote-first plan (Some (ends.Done outcome origin)) won h =
-    ap (λ (x : Won). Some (kept x.outcome)) (if-some (is_zero outcome.exit.code || is_remote_only plan) (record { outcome = outcome; origin = origin }) won h)
-
-first-by : (plan : Plan) (local : Option (End Outcome Cause)) (remote : Option (End Outcome RemoteCause)) (won : Won) → first_won (outcome_of local) (won_remote plan remote) ≡ Some won
-    → first_done (kept_ends (record { local = local; remote = remote })) ≡ Some (kept won.outcome)
-first-by plan None remote won h = remote-first plan remote won h
-first-by plan (Some (ends.Failed cause)) remote won h = remote-first plan remote won h
-first-by plan (Some (ends.Done outcome origin)) remote won h = ap (λ (x : Won). Some (kept x.outcome)) (some-inj h)
-
--- the first outcome among the ends is the one that is published
-pub won-first : (plan : Plan) (attempts : Attempts) (won : Won) → winner plan attempts ≡ Some won → first_done (kept_ends attempts) ≡ Some (kept won.outcome)
-won-first plan attempts won h = first-by plan attempts.local attempts.remote won h
-
--- and its files are those of the entry
-pub won-files : (plan : Plan) (attempts : Attempts) (won : Won) (ended : List Ended) → winner plan attempts ≡ Some won → ended ≡ kept_ends attempts → files_of ended ≡ listing won.outcome.files
-won-files plan attempts won ended h e =
-    rw (e, won-first plan attempts won h) refl

@@ -4,7 +4,7 @@ use Rattle.std.specs.Prelude.{All, Contains, None, Option, Some}
 use Rattle.std.proofs.lemmas.List.Elements.{All-contains, Contains-append_right}
 use Rattle.rx_base.specs.Digests.{digest_of}
 use Rattle.rx_board.specs.declared.journal.Receipt.{Receipt}
-use Rattle.rx_local.specs.Local.{LacksOutput}
+use Rattle.rx_local.specs.Local.{IsStopped, LacksOutput}
 use Rattle.rx_local.specs.Stage.{IsChangedInput}
 use Rattle.rx_local.proofs.LimitLemmas.{within-none}
 use Rattle.rx_local.proofs.Staging.{staged-listed}
@@ -20,7 +20,7 @@ use Rattle.rx_world.specs.declared.attempts.Cause.TheVariants as causes
 use Rattle.rx_world.specs.declared.attempts.End.TheVariants as ends
 use Rattle.rx_world.specs.declared.commands.Strategy.TheVariants as strategies
 use Rattle.rx_world.specs.declared.attempts.Ended.{Ended}
-use Rattle.rx_world.specs.declared.attempts.Ended.TheVariants as ended
+use Rattle.rx_world.specs.declared.decisions.Decision.{Decision}
 use Rattle.rx_world.specs.declared.input_files.InputFile.{InputFile}
 use Rattle.rx_world.specs.declared.looks.Look.{Look}
 use Rattle.rx_world.specs.declared.looks.ChangedInput.{ChangedInput}
@@ -33,7 +33,6 @@ use Rattle.rx_world.specs.Inputs.{look_of}
 use Rattle.rx_world.specs.Outcomes.{IsClean}
 use Rattle.rx_world.specs.Sources.{entry_at, given_bytes, is_file}
 use Rattle.rx_world.specs.Trees.{tree_of}
-use Rattle.rx_engine.specs.declared.transcripts.Ending.TheVariants.{NoMemory}
 use Rattle.rx_engine.specs.declared.transcripts.Transcript.{Transcript}
 use Rattle.rx_engine.specs.Answers.{Grounds, HasGathered, IsRefused, asked_of}
 use Rattle.rx_engine.specs.Attempts.{HasEndedHere}
@@ -141,25 +140,26 @@ module _ {P W B : Type 0} (m : Meanings P W B) (entries : List SourceEntry) (g :
       none-some (sym (c.gathers.free b.cause b.files b.kept b.sorted b.each) ∙ b.blocks)
   not-refused-by receipt ends fault.NoMemory f n = n refl
 
-  -- the attempt doesn't fail
-  pub not-failed-for : (gathered : Gathered) (why : Cause) → HasGathered m g asked gathered → HasEndedHere m gathered g.before g.after (ends.Failed why) → why ≢ causes.NoMemory → ⊥
-  not-failed-for gathered (causes.BenchFault step) inputs h n = c.benches h.attempted.counted
-  not-failed-for gathered (causes.SourceFault path) inputs h n = c.tree_local h.attempted.counted
-  not-failed-for gathered causes.NoMemory inputs h n = n refl
-  not-failed-for gathered (causes.Stopped decision) inputs h n = h.unstopped tt
-  not-failed-for gathered (causes.OutputTooLarge limit count) inputs h n =
+  -- the attempt doesn't fail, where it isn't stopped
+  pub not-failed-for : (gathered : Gathered) (told : Option Decision) (why : Cause) → HasGathered m g asked gathered → HasEndedHere m gathered told g.before g.after (ends.Failed why)
+      → (IsStopped why → ⊥) → why ≢ causes.NoMemory → ⊥
+  not-failed-for gathered told (causes.BenchFault step) inputs h u n = c.benches h.attempted.counted
+  not-failed-for gathered told (causes.SourceFault path) inputs h u n = c.tree_local h.attempted.counted
+  not-failed-for gathered told causes.NoMemory inputs h u n = n refl
+  not-failed-for gathered told (causes.Stopped decision) inputs h u n = u tt
+  not-failed-for gathered told (causes.OutputTooLarge limit count) inputs h u n =
       let caused = h.attempted.on.ended.caused in
       let here = inputs.by.shown (scene_of entries) (shows m entries g c.by_list) in
-      let same = staged-listed entries gathered.files h.attempted.on.answers caused.of.staged caused.of.each (again m entries g gathered _ c.by_list h) in
+      let same = staged-listed entries gathered.files h.attempted.on.answers caused.of.staged caused.of.each (again m entries g gathered told _ c.by_list h) in
       let clean = subst (λ copies. IsClean m.world.tool gathered.command (tree_of copies gathered.dirs) caused.outcome) same (caused.of.clean c.by_list.tools_hold) in
       none-some (sym (within-none caused.outcome (c.limits gathered here inputs.orderly caused.outcome clean)) ∙ caused.passes)
-  not-failed-for gathered (causes.OutputMissing path) inputs h n =
+  not-failed-for gathered told (causes.OutputMissing path) inputs h u n =
       let caused = h.attempted.on.ended.caused in
       let here = inputs.by.shown (scene_of entries) (shows m entries g c.by_list) in
-      let same = staged-listed entries gathered.files h.attempted.on.answers caused.staged caused.each (again m entries g gathered _ c.by_list h) in
+      let same = staged-listed entries gathered.files h.attempted.on.answers caused.staged caused.each (again m entries g gathered told _ c.by_list h) in
       let lacks = subst (λ copies. LacksOutput m.world.tool gathered.command (tree_of copies gathered.dirs) path) same (caused.lacks c.by_list.tools_hold) in
       none-some (sym (c.proper gathered here inputs.orderly lacks.code_is) ∙ lacks.first)
-  not-failed-for gathered (causes.InputChanged input) inputs h n =
+  not-failed-for gathered told (causes.InputChanged input) inputs h u n =
       let here = inputs.by.shown (scene_of entries) (shows m entries g c.by_list) in
-      not-changed-again entries m.world.content gathered.files h.attempted.on.answers input h.attempted.on.ended.caused (again m entries g gathered _ c.by_list h)
+      not-changed-again entries m.world.content gathered.files h.attempted.on.answers input h.attempted.on.ended.caused (again m entries g gathered told _ c.by_list h)
       (h.attempted.on.gives.contents c.stamps_hold) here.looks (inputs.digests c.stamps_hold)

@@ -7,26 +7,15 @@ use Rattle.rx_session.specs.declared.requests.Request.{Request}
 use Rattle.rx_world.specs.declared.attempts.Ended.{Ended}
 use Rattle.rx_world.specs.declared.looks.Look.{Look}
 use Rattle.rx_world.specs.declared.sources.Given.{Given}
-use Rattle.rx_exec_messages.specs.declared.callers.Caller as callers
-use Rattle.rx_world.specs.declared.benches.Bench as benches
-use Rattle.rx_world.specs.declared.benches.BenchMaker as makers
-use Rattle.rx_world.specs.declared.sources.Sources as sources
-use Rattle.rx_world.specs.declared.streams.Sink as sinks
-use Rattle.rx_world.specs.declared.streams.Source as inputs
-use Rattle.rx_world.specs.declared.world.World as world
 use Rattle.rx_world.specs.Causes.{Rose}
 use Rattle.rx_engine.specs.declared.answered.Answered.{Answered}
-use Rattle.rx_engine.specs.declared.desk.Parts.{Parts}
 use Rattle.rx_engine.specs.declared.transcripts.Ending.{Ending}
 use Rattle.rx_engine.specs.declared.transcripts.Ending.TheVariants.{NoMemory, Replied, SinkLost, SourceLost}
 use Rattle.rx_engine.specs.declared.transcripts.Transcript.{Transcript}
 use Rattle.rx_engine.specs.Answers.{Grounds, grounds}
-use Rattle.rx_engine.specs.Meanings.{Meanings, meanings}
-use Rattle.rx_engine.specs.Ready.{FinishesAs, IsLost, IsReadyAs, IsWriting, Wrote}
+use Rattle.rx_engine.specs.Meanings.{Meanings}
+use Rattle.rx_engine.specs.Ready.{FinishesAs, IsReadyAs, IsWriting, Wrote}
 use Rattle.rx_engine.specs.Session.{AreLater, IsCourse, IsSession, Replies}
-use Rattle.rx_engine.proofs.AnswerLemmas.{tells-none}
-use Rattle.rx_engine.proofs.AttemptLemmas.{idle-none}
-use Rattle.rx_engine.proofs.Moves.{IsSame, idle-move, same-none, tells-in, tells-move}
 
 module _ {P W B : Type 0} (m : Meanings P W B) (root : List ℕ) (g : Grounds P) (number : ℕ) (read : List ℕ) (request : Option Request) (ends : List Ended) where
   replies-moved : (a : Answered) (t : Transcript) → Replies m root g read request a.receipt ends a.reply → Wrote number read request ends a t → Replies m root g t.read t.request t.receipt t.ends a.reply
@@ -72,37 +61,6 @@ session-finished m root before after number read request ends answered t answers
       sink = sink;
       later = later;
     }
-
-module _ {W I O T L M B R C : Type 0} (w : world.Ghosts W) (i : inputs.Ghosts I) (o : sinks.Ghosts O) (t : sources.Ghosts T W) (l : sources.Ghosts L W) (k : makers.Ghosts M W B) (b : benches.Ghosts B W)
-    (v : sources.Ghosts R W) (z : callers.Ghosts C W) where
-  -- a session whose input was lost
-  pub session-lost : (root : List ℕ) (p q : Parts I O T L M R C) (number : ℕ) (read : List ℕ) (kept : Transcript)
-      → Consumes (i.left p.input) (i.left q.input) read → Appends (o.taken p.output) (o.taken q.output) []
-      → q.tree ≡ p.tree → IsSame p q
-      → IsLost number read kept → Rose (i.faults p.input) (i.faults q.input) → AreLater (meanings w i o t l k b v z) p q
-      → IsSession (meanings w i o t l k b v z) root p q kept
-  session-lost root p q number read kept consumed written same same_parts lost rose later = record {
-    answers = [];
-    lists = [];
-    view = [];
-    read = rw lost.read_is consumed;
-    written = rw lost.written_is written;
-    looked = tells-move w i o t l k b v z p p p q [] [] refl same (tells-in w t (λ (x : Parts I O T L M R C). x.tree) p p [] [] (tells-none w t p.tree));
-    course = rw lost.ending_is (
-      lost.reply_is,
-      lost.request_is,
-      lost.written_is,
-      lost.receipt_is,
-      record {
-        answers_are = refl;
-        lists_are = refl;
-        unrun = record { idle = idle-move w i o t l k b v z p p p q (same-none p) same_parts (idle-none w i o t l k b v z p); ends_are = lost.ends_are };
-      },
-    );
-    source = λ e. rose;
-    sink = λ e. absurd (let x = lost.ending_is in cc);
-    later = later;
-  }
 
 -- nothing was written
 pub appends-none : (old : Option (List ℕ)) → Appends old old []

@@ -1,6 +1,6 @@
 -- What a session of an honest world stands on, and its clean run.
 use Rattle.std.proofs.Common.{◌≡◌, ◌||◌, ℕ, ℤ, Bool, true, List, [], ◌∷◌, ◌++◌, refl, ap, sym, subst, ◌∙◌, append-nil, length, inl, inr}
-use Rattle.std.specs.Prelude.{All, IfSome, MatchOption, None, Ok, Option, Some, is_some}
+use Rattle.std.specs.Prelude.{◌⊎◌, All, IfSome, MatchOption, None, Ok, Option, Some, is_some}
 use Rattle.std.specs.Io.KnownBytes.{Consumes, IsAtEnd}
 use Rattle.std.proofs.lemmas.List.Elements.{All-weaker}
 use Rattle.rx_action.specs.ActionKeys.{key_of}
@@ -8,6 +8,7 @@ use Rattle.rx_base.specs.declared.digests.Digest.{Digest}
 use Rattle.rx_board.specs.declared.journal.Entry.{Entry}
 use Rattle.rx_local.proofs.Staging.{staged-listed}
 use Rattle.rx_reach.specs.Scenes.{IsRight, scene_of}
+use Rattle.rx_race.specs.Publishing.{is_remote_only, is_zero}
 use Rattle.rx_remote.specs.Runs.{IsRightEnd}
 use Rattle.rx_scan.specs.declared.gathering.Gathered.{Gathered}
 use Rattle.rx_scan.specs.Gathering.{IsGathered}
@@ -17,11 +18,14 @@ use Rattle.rx_session.specs.declared.replies.Reply.TheVariants as reply
 use Rattle.rx_session.specs.declared.requests.Request.{Request}
 use Rattle.rx_session.specs.Frames.{request_of}
 use Rattle.rx_tree.specs.WorldTrees.{IsCopyOf, IsRootOfCopies, root_of}
+use Rattle.rx_world.specs.declared.attempts.Attempt.{Attempt}
+use Rattle.rx_world.specs.declared.attempts.Attempt.TheVariants as whose
 use Rattle.rx_world.specs.declared.attempts.Cause.{Cause}
 use Rattle.rx_world.specs.declared.attempts.End.{End}
 use Rattle.rx_world.specs.declared.attempts.End.TheVariants as ends
 use Rattle.rx_world.specs.declared.attempts.Ended.{Ended}
 use Rattle.rx_world.specs.declared.attempts.Origin.{Origin}
+use Rattle.rx_world.specs.declared.decisions.Decision.{Decision}
 use Rattle.rx_world.specs.declared.looks.Look.{Look}
 use Rattle.rx_world.specs.declared.outcomes.Outcome.{Outcome}
 use Rattle.rx_world.specs.declared.remote_causes.RemoteCause.{RemoteCause}
@@ -38,13 +42,14 @@ use Rattle.rx_engine.specs.declared.transcripts.Ending.{Ending}
 use Rattle.rx_engine.specs.declared.transcripts.Ending.TheVariants.{NoMemory, Replied, SinkLost, SourceLost}
 use Rattle.rx_engine.specs.declared.transcripts.Transcript.{Transcript}
 use Rattle.rx_engine.specs.Answers.{Grounds, HasGathered, HasWon, asked_of, done_reply, grounds}
-use Rattle.rx_engine.specs.Attempts.{HasEndedHere, HasLocal, HasRemote, first_done, first_won, has_remote, is_remote_only, is_zero, outcome_of, won_remote}
+use Rattle.rx_engine.specs.Attempts.{Attempts, HasAttempts, HasEndedHere, HasLocal, HasRemote, first_done, first_won, has_remote, outcome_of, winner, won_by, won_remote}
 use Rattle.rx_engine.specs.Honest.{IsCleanDone, IsCleanFrom, IsCleanIfDone, IsHonest, IsSteady, IsTrusted, IsTrustedFor, listed_tree, whole_entry}
 use Rattle.rx_engine.specs.Journal.{IsEntry, IsJournalled, IsPlaced, files_of}
 use Rattle.rx_engine.specs.Meanings.{Meanings}
 use Rattle.rx_engine.specs.RemoteAttempts.{EndsThere, HasRunThere}
 use Rattle.rx_engine.specs.Session.{IsCourse, IsSession, Replies, RepliesTo}
-use Rattle.rx_engine.proofs.AttemptLemmas.{if-some, won-files, won-first}
+use Rattle.rx_engine.proofs.MadeLemmas.{if-some, won-files, won-first}
+use Rattle.rx_engine.proofs.RaceLemmas.{planned-there}
 
 none-some : {A : Type 0} {a : A} → None ≡ Some a → ⊥
 none-some h = cc
@@ -121,12 +126,21 @@ by-list m root before after t bytes asked entries s h = record {
 }
 
 -- what the attempt was told when it read the files again
-pub again : {P W B : Type 0} (m : Meanings P W B) (entries : List SourceEntry) (g : Grounds P) (gathered : Gathered) (end : End Outcome Cause) → IsByList m entries g
-    → (h : HasEndedHere m gathered g.before g.after end) → All (IsAnswerOf entries) h.attempted.on.answers
-again m entries g gathered end b h =
+pub again : {P W B : Type 0} (m : Meanings P W B) (entries : List SourceEntry) (g : Grounds P) (gathered : Gathered) (told : Option Decision) (end : End Outcome Cause) → IsByList m entries g
+    → (h : HasEndedHere m gathered told g.before g.after end) → All (IsAnswerOf entries) h.attempted.on.answers
+again m entries g gathered told end b h =
     told-by (λ entries. All (IsAnswerOf entries) h.attempted.on.answers) (m.tree_local.listed g.before) entries b.local_listed (h.attempted.on.gives.by_list b.local_kept)
 
 -- ---- a clean run
+
+-- an outcome that is published is that of the one attempt or of the other
+first-or : (one other : Option Won) (won : Won) → first_won one other ≡ Some won → (one ≡ Some won) ⊎ (other ≡ Some won)
+first-or None other won h = inr h
+first-or (Some first) other won h = inl h
+
+either-won : (first : Attempt) (here there : Option Won) (won : Won) → won_by first here there ≡ Some won → (here ≡ Some won) ⊎ (there ≡ Some won)
+either-won whose.Local here there won h = first-or here there won h
+either-won whose.Remote here there won h = elim (first-or there here won h) [ inl a ↦ inr a | inr a ↦ inl a ]
 
 -- what was gathered is right in the list's scene
 pub gathered-by : {P W B : Type 0} (m : Meanings P W B) (entries : List SourceEntry) (g : Grounds P) (asked : Request) (gathered : Gathered) → IsByList m entries g → HasGathered m g asked gathered
@@ -140,12 +154,12 @@ files-listed m entries g asked gathered b stamps h =
     told-by (λ entries. All (IsAsListed entries) gathered.files) (m.tree.listed g.before) entries b.listed (h.listed stamps b.kept)
 
 -- the outcome of the local attempt is the clean one, from the list
-clean-here : {P W B : Type 0} (m : Meanings P W B) (entries : List SourceEntry) (g : Grounds P) (gathered : Gathered) (outcome : Outcome) (origin : Origin) → IsByList m entries g
-    → HasEndedHere m gathered g.before g.after (ends.Done outcome origin) → IsClean m.world.tool gathered.command (listed_tree entries gathered) outcome
-clean-here m entries g gathered outcome origin b h =
+clean-here : {P W B : Type 0} (m : Meanings P W B) (entries : List SourceEntry) (g : Grounds P) (gathered : Gathered) (told : Option Decision) (outcome : Outcome) (origin : Origin) → IsByList m entries g
+    → HasEndedHere m gathered told g.before g.after (ends.Done outcome origin) → IsClean m.world.tool gathered.command (listed_tree entries gathered) outcome
+clean-here m entries g gathered told outcome origin b h =
     let of = h.attempted.on.ended.of in
     subst (λ copies. IsClean m.world.tool gathered.command (tree_of copies gathered.dirs) outcome)
-    (staged-listed entries gathered.files h.attempted.on.answers of.staged of.each (again m entries g gathered (ends.Done outcome origin) b h)) (of.clean b.tools_hold)
+    (staged-listed entries gathered.files h.attempted.on.answers of.staged of.each (again m entries g gathered told (ends.Done outcome origin) b h)) (of.clean b.tools_hold)
 
 -- the root of the tree that was gathered is that of the list's tree
 root-listed : (entries : List SourceEntry) (gathered : Gathered) (root : Digest) → IsRootOfCopies gathered.files gathered.dirs root → All (IsAsListed entries) gathered.files
@@ -155,11 +169,11 @@ root-listed entries gathered root copies listed =
     (All-weaker (IsAsListed entries) (λ file. IsCopyOf file (listed_copy entries file)) (λ file here. record { path_is = refl; digest_is = here.digest_is; mark_is = refl }) gathered.files listed)
 
 -- the end of a remote attempt on a farm that is trusted is right for the list's tree
-pub right-there : {P W B : Type 0} (m : Meanings P W B) (entries : List SourceEntry) (g : Grounds P) (gathered : Gathered) (accepts : Bool) (end : End Outcome RemoteCause)
+pub right-there : {P W B : Type 0} (m : Meanings P W B) (entries : List SourceEntry) (g : Grounds P) (gathered : Gathered) (accepts : Bool) (told : Option Decision) (end : End Outcome RemoteCause)
     → All (IsAsListed entries) gathered.files → IsTrusted m g.before gathered.command (listed_tree entries gathered)
-    → HasRunThere m.world m.farm m.tree_remote gathered accepts g.before g.after g.before g.after end
+    → HasRunThere m.world m.farm m.tree_remote gathered accepts told g.before g.after g.before g.after end
     → IsRightEnd m.world.tool gathered.command (listed_tree entries gathered) end
-right-there m entries g gathered accepts end listed trusted h =
+right-there m entries g gathered accepts told end listed trusted h =
     let tree = listed_tree entries gathered in
     h.right tree trusted.genuine
     (subst (λ x. m.farm.vouches g.before (key_of gathered.command x (m.farm.dialect g.before)).digest gathered.command (m.world.tool gathered.command tree))
@@ -169,13 +183,13 @@ failed-done : (outcome : Outcome) (origin : Origin) (cause : RemoteCause) → as
 failed-done outcome origin cause e = cc e
 
 -- so its outcome is the clean one
-clean-there : {P W B : Type 0} (m : Meanings P W B) (entries : List SourceEntry) (g : Grounds P) (gathered : Gathered) (accepts : Bool) (outcome : Outcome) (origin : Origin)
+clean-there : {P W B : Type 0} (m : Meanings P W B) (entries : List SourceEntry) (g : Grounds P) (gathered : Gathered) (accepts : Bool) (told : Option Decision) (outcome : Outcome) (origin : Origin)
     → All (IsAsListed entries) gathered.files → IsTrusted m g.before gathered.command (listed_tree entries gathered)
-    → EndsThere m.world m.farm m.tree_remote gathered accepts g.before g.after g.before g.after (ends.Done outcome origin)
+    → EndsThere m.world m.farm m.tree_remote gathered accepts told g.before g.after g.before g.after (ends.Done outcome origin)
     → IsClean m.world.tool gathered.command (listed_tree entries gathered) outcome
-clean-there m entries g gathered accepts outcome origin listed trusted (inl h) = absurd (failed-done outcome origin remote_causes.NoMemory h.0)
-clean-there m entries g gathered accepts outcome origin listed trusted (inr h) =
-    (right-there m entries g gathered accepts (ends.Done outcome origin) listed trusted h).clean outcome origin refl
+clean-there m entries g gathered accepts told outcome origin listed trusted (inl h) = absurd (failed-done outcome origin remote_causes.NoMemory h.0)
+clean-there m entries g gathered accepts told outcome origin listed trusted (inr h) =
+    (right-there m entries g gathered accepts told (ends.Done outcome origin) listed trusted h).clean outcome origin refl
 
 module _ {P W B : Type 0} (m : Meanings P W B) (entries : List SourceEntry) (g : Grounds P) (asked : Request) (b : IsByList m entries g) (farm : IsTrustedFor m g.before entries (asked_of asked))
     (gathered : Gathered) (inputs : HasGathered m g asked gathered) where
@@ -183,25 +197,32 @@ module _ {P W B : Type 0} (m : Meanings P W B) (entries : List SourceEntry) (g :
   pub trusted : has_remote gathered.plan ≡ true → IsTrusted m g.before gathered.command (listed_tree entries gathered)
   trusted has = farm gathered (gathered-by m entries g asked gathered b inputs) inputs.orderly has
 
-  won-there : (remote : Option (End Outcome RemoteCause)) (won : Won) → HasRemote m gathered asked.accept_cached g.before g.after remote → is_some remote ≡ has_remote gathered.plan
-      → won_remote gathered.plan remote ≡ Some won → IsClean m.world.tool gathered.command (listed_tree entries gathered) won.outcome
-  won-there None won h started w = absurd (none-some w)
-  won-there (Some (ends.Failed cause)) won h started w = absurd (none-some w)
-  won-there (Some (ends.Done outcome origin)) won h started w =
-      let here = trusted (sym started) in
+  won-there : (told : Option Decision) (remote : Option (End Outcome RemoteCause)) (won : Won) → HasRemote m gathered asked.accept_cached told g.before g.after remote
+      → (is_some remote ≡ true → has_remote gathered.plan ≡ true) → won_remote gathered.plan remote ≡ Some won → IsClean m.world.tool gathered.command (listed_tree entries gathered) won.outcome
+  won-there told None won h started w = absurd (none-some w)
+  won-there told (Some (ends.Failed cause)) won h started w = absurd (none-some w)
+  won-there told (Some (ends.Done outcome origin)) won h started w =
+      let here = trusted (started refl) in
       let same : outcome ≡ won.outcome = ap (λ (x : Won). x.outcome) (if-some (is_zero outcome.exit.code || is_remote_only gathered.plan) (record { outcome = outcome; origin = origin }) won w) in
       subst (λ x. IsClean m.world.tool gathered.command (listed_tree entries gathered) x) same
-      (clean-there m entries g gathered asked.accept_cached outcome origin (files-listed m entries g asked gathered b here.stamps inputs) here h)
+      (clean-there m entries g gathered asked.accept_cached told outcome origin (files-listed m entries g asked gathered b here.stamps inputs) here h)
+
+  won-here : (told : Option Decision) (local : Option (End Outcome Cause)) (won : Won) → HasLocal m gathered told g.before g.after local → outcome_of local ≡ Some won
+      → IsClean m.world.tool gathered.command (listed_tree entries gathered) won.outcome
+  won-here told None won h w = absurd (none-some w)
+  won-here told (Some (ends.Failed cause)) won h w = absurd (none-some w)
+  won-here told (Some (ends.Done outcome origin)) won h w =
+      let same : outcome ≡ won.outcome = ap (λ (x : Won). x.outcome) (some-inj w) in
+      subst (λ x. IsClean m.world.tool gathered.command (listed_tree entries gathered) x) same (clean-here m entries g gathered told outcome origin b h)
 
   -- the outcome that is published is the clean one, from the list
-  won-clean : (local : Option (End Outcome Cause)) (remote : Option (End Outcome RemoteCause)) (won : Won)
-      → HasLocal m gathered g.before g.after local → HasRemote m gathered asked.accept_cached g.before g.after remote → is_some remote ≡ has_remote gathered.plan
-      → first_won (outcome_of local) (won_remote gathered.plan remote) ≡ Some won → IsClean m.world.tool gathered.command (listed_tree entries gathered) won.outcome
-  won-clean None remote won h there started w = won-there remote won there started w
-  won-clean (Some (ends.Failed cause)) remote won h there started w = won-there remote won there started w
-  won-clean (Some (ends.Done outcome origin)) remote won h there started w =
-      let same : outcome ≡ won.outcome = ap (λ (x : Won). x.outcome) (some-inj w) in
-      subst (λ x. IsClean m.world.tool gathered.command (listed_tree entries gathered) x) same (clean-here m entries g gathered outcome origin b h)
+  won-clean : (attempts : Attempts) (won : Won) → HasAttempts m gathered asked.accept_cached g.before g.after attempts → winner gathered.plan attempts ≡ Some won
+      → IsClean m.world.tool gathered.command (listed_tree entries gathered) won.outcome
+  won-clean attempts won made w =
+      elim (either-won attempts.first (outcome_of attempts.local) (won_remote gathered.plan attempts.remote) won w) [
+        | inl here ↦ won-here attempts.told_local attempts.local won made.local here
+        | inr there ↦ won-there attempts.told_remote attempts.remote won made.remote (planned-there m gathered asked.accept_cached g.before g.after attempts made) there
+      ]
 
 clean-from : {P W B : Type 0} (m : Meanings P W B) (entries : List SourceEntry) (g : Grounds P) (asked : Request) (kept : List Ended) (won : Won)
     → IsByList m entries g → IsTrustedFor m g.before entries (asked_of asked) → HasWon m g asked kept won → IsCleanFrom m.world.tool entries (asked_of asked) won.outcome
@@ -211,7 +232,7 @@ clean-from m entries g asked kept won b farm h =
       gathered = run.gathered;
       inputs = gathered-by m entries g asked run.gathered b run.inputs;
       orderly = run.inputs.orderly;
-      clean = won-clean m entries g asked b farm run.gathered run.inputs run.attempts.local run.attempts.remote won run.made.local run.made.remote run.made.started_there h.won_is;
+      clean = won-clean m entries g asked b farm run.gathered run.inputs run.attempts won run.made h.won_is;
     }
 
 -- the entry of a session that is done has all files of its outcome
@@ -245,8 +266,8 @@ module _ {P W B : Type 0} (m : Meanings P W B) (root : List ℕ) (before after :
         won = won;
         clean = clean-from m entries g asked t.ends won (by-list m root before after t bytes asked entries s h.steady) h.farm has;
         reply_is = reply_is;
-        end_is = ap first_done run.ends_are ∙ won-first run.gathered.plan run.attempts won has.won_is;
-        entry = whole limit old new pb pn t won number j done.2.3 reply_is (won-files run.gathered.plan run.attempts won t.ends has.won_is run.ends_are);
+        end_is = ap first_done run.ends_are ∙ won-first m run.gathered asked.accept_cached before after run.attempts run.made won has.won_is;
+        entry = whole limit old new pb pn t won number j done.2.3 reply_is (won-files m run.gathered asked.accept_cached before after run.attempts run.made won t.ends has.won_is run.ends_are);
       }
 
   done-by : (ending : Ending) → IsCourse m root (grounds_of m root before after t s) t ending → IsCleanDone m.world.tool entries (asked_of asked) old new t number

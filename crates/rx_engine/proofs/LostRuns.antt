@@ -1,17 +1,21 @@
 -- Which failures a calm session may tell.
-use Rattle.std.proofs.Common.{◌≡◌, ◌≢◌, ◌≤◌, ◌||◌, ℕ, Bool, true, false, List, [], ◌++◌, refl, ap, sym, ◌∙◌, arith, length, inl, inr}
+use Rattle.std.proofs.Common.{◌≡◌, ◌≢◌, ◌≤◌, ◌||◌, ℕ, Bool, true, false, List, [], ◌++◌, refl, ap, subst, sym, ◌∙◌, arith, length, inl, inr}
 use Rattle.std.specs.List.{flat_map}
 use Rattle.std.specs.Prelude.{All, None, Option, Some, if◌then◌else◌, is_some}
 use Rattle.std.proofs.lemmas.List.Elements.{All-head}
 use Rattle.rx_exec_messages.specs.declared.callers.Caller as callers
 use Rattle.rx_scan.specs.declared.gathering.Gathered.{Gathered}
 use Rattle.rx_scan.specs.Gathering.{plan_of}
+use Rattle.rx_local.specs.Local.{IsStopped}
+use Rattle.rx_race.specs.Publishing.{is_zero}
 use Rattle.rx_remote.specs.Actions.{Work}
 use Rattle.rx_remote.specs.Marks.{faults_of}
 use Rattle.rx_remote.specs.Runs.{EndsOr, task_of}
 use Rattle.rx_remote.specs.Turns.{RoseBy}
 use Rattle.rx_remote.proofs.CallEnds.{call-faulted}
 use Rattle.rx_session.specs.declared.requests.Request.{Request}
+use Rattle.rx_world.specs.declared.attempts.Attempt.{Attempt}
+use Rattle.rx_world.specs.declared.attempts.Attempt.TheVariants as whose
 use Rattle.rx_world.specs.declared.attempts.Cause.{Cause}
 use Rattle.rx_world.specs.declared.attempts.End.{End}
 use Rattle.rx_world.specs.declared.attempts.End.TheVariants as ends
@@ -21,6 +25,7 @@ use Rattle.rx_world.specs.declared.attempts.Plan.TheVariants as plans
 use Rattle.rx_world.specs.declared.call_faults.CallFault.{CallFault}
 use Rattle.rx_world.specs.declared.commands.Strategy.{Strategy}
 use Rattle.rx_world.specs.declared.commands.Strategy.TheVariants as strategies
+use Rattle.rx_world.specs.declared.decisions.Decision.{Decision}
 use Rattle.rx_world.specs.declared.outcomes.Outcome.{Outcome}
 use Rattle.rx_world.specs.declared.refusals.LocalCause.{LocalCause}
 use Rattle.rx_world.specs.declared.attempts.Ended.{Ended}
@@ -31,14 +36,14 @@ use Rattle.rx_world.specs.declared.sources.SourceEntry.{SourceEntry}
 use Rattle.rx_world.specs.Causes.{Rose}
 use Rattle.rx_world.specs.Inputs.{IsAsListed}
 use Rattle.rx_engine.specs.declared.attempts.Won.{Won}
-use Rattle.rx_engine.specs.declared.transcripts.Ending.TheVariants.{NoMemory}
 use Rattle.rx_engine.specs.Answers.{Grounds, HasGathered, HasLost, asked_of}
-use Rattle.rx_engine.specs.Attempts.{AreTellable, HasLocal, HasRemote, IsTellable, failure_of, first_won, has_local, has_remote, is_zero, kept_of, listed_local, listed_remote, outcome_of, starts_here, won_remote}
+use Rattle.rx_engine.specs.Attempts.{AreTellable, HasLocal, HasRemote, IsTellable, failure_of, first_won, has_both, has_local, has_remote, in_order, kept_of, listed_local, listed_remote, outcome_of, won_by, won_remote}
 use Rattle.rx_engine.specs.Meanings.{Meanings}
 use Rattle.rx_engine.specs.Quiet.{IsFarmCause, IsQuietThere, MayFail}
 use Rattle.rx_engine.specs.RemoteAttempts.{EndsThere}
 use Rattle.rx_engine.proofs.HonestRuns.{files-listed, right-there, told-by, trusted}
 use Rattle.rx_engine.proofs.Calm.{IsCalm, not-failed-for}
+use Rattle.rx_engine.proofs.RaceLemmas.{first-won, started-here, unstopped-here}
 
 none-some : {A : Type 0} {a : A} → None ≡ Some a → ⊥
 none-some h = cc
@@ -89,13 +94,13 @@ plan-by strategies.Racing None plan h = ap has_local (sym (some-inj h))
 plan-by strategies.Racing (Some cause) plan h = ap has_local (sym (some-inj h))
 
 -- of two, neither won
-both-none : (first other : Option Won) → first_won first other ≡ None → (first ≡ None) × (other ≡ None)
-both-none None other h = (refl, h)
-both-none (Some won) other h = absurd (none-some (sym h))
+neither-won : (one other : Option Won) → first_won one other ≡ None → (one ≡ None) × (other ≡ None)
+neither-won None other h = (refl, h)
+neither-won (Some won) other h = absurd (none-some (sym h))
 
--- the local attempt was started where the remote one won nothing
-starts-none : (plan : Plan) (remote : Option (End Outcome RemoteCause)) → has_local plan ≡ true → won_remote plan remote ≡ None → starts_here plan remote ≡ true
-starts-none plan remote h n = rw (h, n) refl
+both-none : (first : Attempt) (here there : Option Won) → won_by first here there ≡ None → (here ≡ None) × (there ≡ None)
+both-none whose.Local here there h = neither-won here there h
+both-none whose.Remote here there h = let both = neither-won there here h in (both.1, both.0)
 
 -- a remote outcome alone is published
 published-alone : (outcome : Outcome) (origin : Origin) → won_remote plans.RemoteOnly (Some (ends.Done outcome origin)) ≡ None → ⊥
@@ -103,27 +108,37 @@ published-alone outcome origin h =
     none-some (sym h ∙ ap (λ test. if test then Some (record { outcome = outcome; origin = origin }) else None) (or-true (is_zero outcome.exit.code)))
 
 module _ {P W B : Type 0} (m : Meanings P W B) (entries : List SourceEntry) (g : Grounds P) (asked : Request) (c : IsCalm m entries g asked) where
-  not-lost-here : (gathered : Gathered) (local : Option (End Outcome Cause)) (rest : List Ended) → HasGathered m g asked gathered → HasLocal m gathered g.before g.after local
-      → is_some local ≡ true → outcome_of local ≡ None → AreTellable (listed_local (kept_of local) ++ rest) → ⊥
-  not-lost-here gathered None rest inputs h started none tellable = false-true started
-  not-lost-here gathered (Some (ends.Done outcome origin)) rest inputs h started none tellable = none-some (sym none)
-  not-lost-here gathered (Some (ends.Failed why)) rest inputs h started none tellable =
-      not-failed-for m entries g asked c gathered why inputs h (All-head IsTellable (ended.Local (ends.Failed why)) rest tellable)
+  not-lost-here : (gathered : Gathered) (told : Option Decision) (local : Option (End Outcome Cause)) (rest : List Ended) → HasGathered m g asked gathered → HasLocal m gathered told g.before g.after local
+      → (local ≡ None → ⊥) → ((why : Cause) → local ≡ Some (ends.Failed why) → IsStopped why → ⊥) → outcome_of local ≡ None → AreTellable (listed_local (kept_of local) ++ rest) → ⊥
+  not-lost-here gathered told None rest inputs h started unstopped none tellable = started refl
+  not-lost-here gathered told (Some (ends.Done outcome origin)) rest inputs h started unstopped none tellable = none-some (sym none)
+  not-lost-here gathered told (Some (ends.Failed why)) rest inputs h started unstopped none tellable =
+      not-failed-for m entries g asked c gathered told why inputs h (unstopped why refl) (All-head IsTellable (ended.Local (ends.Failed why)) rest tellable)
+
+  -- the local end stands first where the remote one doesn't come first
+  local-first : (first : Attempt) (here there : List Ended) → (first ≡ whose.Remote → ⊥) → AreTellable (in_order first here there) → AreTellable (here ++ there)
+  local-first whose.Local here there n tellable = tellable
+  local-first whose.Remote here there n tellable = absurd (n refl)
 
   -- with a local attempt there is an outcome, whatever the farm does
   not-lost : (kept : List Ended) → (h : HasLost m g asked kept) → has_local h.run.gathered.plan ≡ true → ⊥
   not-lost kept h has =
       let run = h.run in
-      let remote = run.attempts.remote in
-      let none = both-none (outcome_of run.attempts.local) (won_remote run.gathered.plan remote) h.none_won in
-      not-lost-here run.gathered run.attempts.local (listed_remote (kept_of remote)) run.inputs run.made.local
-      (run.made.started_here ∙ starts-none run.gathered.plan remote has none.1) none.0 (rw run.ends_are at h.tellable)
+      let attempts = run.attempts in
+      let none = both-none attempts.first (outcome_of attempts.local) (won_remote run.gathered.plan attempts.remote) h.none_won in
+      not-lost-here run.gathered attempts.told_local attempts.local (listed_remote (kept_of attempts.remote)) run.inputs run.made.local
+      (started-here m run.gathered asked.accept_cached g.before g.after attempts run.made has none.1)
+      (unstopped-here m run.gathered asked.accept_cached g.before g.after attempts run.made has none.1)
+      none.0
+      (local-first attempts.first (listed_local (kept_of attempts.local)) (listed_remote (kept_of attempts.remote))
+      (λ f. first-won m run.gathered asked.accept_cached g.before g.after attempts run.made f none.1)
+      (rw run.ends_are at h.tellable))
 
   -- ---- the remote attempt alone
 
   module _ (q : IsQuietThere m g.before g.after entries (asked_of asked)) (gathered : Gathered) (inputs : HasGathered m g asked gathered) (has : has_remote gathered.plan ≡ true) where
     -- it fails for a cause that is the farm's own
-    farm-cause : (why : RemoteCause) → EndsThere m.world m.farm m.tree_remote gathered asked.accept_cached g.before g.after g.before g.after (ends.Failed why) → why ≢ remote_causes.NoMemory → IsFarmCause why
+    farm-cause : (why : RemoteCause) → EndsThere m.world m.farm m.tree_remote gathered asked.accept_cached None g.before g.after g.before g.after (ends.Failed why) → why ≢ remote_causes.NoMemory → IsFarmCause why
     farm-cause why (inl h) n = absurd (n (failed-inj why remote_causes.NoMemory h.0))
     farm-cause remote_causes.NoMemory (inr h) n = absurd (n refl)
     farm-cause (remote_causes.WrongVersion low high) (inr h) n = tt
@@ -135,16 +150,16 @@ module _ {P W B : Type 0} (m : Meanings P W B) (entries : List SourceEntry) (g :
         (files-listed m entries g asked gathered c.by_list c.stamps_hold inputs))
     farm-cause (remote_causes.CallFailed faults) (inr h) n = absurd (q.calls (called faults h.ended))
     farm-cause (remote_causes.BadBlob expected got) (inr h) n =
-        absurd ((right-there m entries g gathered asked.accept_cached (ends.Failed (remote_causes.BadBlob expected got)) (files-listed m entries g asked gathered c.by_list c.stamps_hold inputs)
+        absurd ((right-there m entries g gathered asked.accept_cached None (ends.Failed (remote_causes.BadBlob expected got)) (files-listed m entries g asked gathered c.by_list c.stamps_hold inputs)
         (trusted m entries g asked c.by_list q.farm gathered inputs has) h).fine)
     farm-cause (remote_causes.BadResult fault) (inr h) n =
-        absurd ((right-there m entries g gathered asked.accept_cached (ends.Failed (remote_causes.BadResult fault)) (files-listed m entries g asked gathered c.by_list c.stamps_hold inputs)
+        absurd ((right-there m entries g gathered asked.accept_cached None (ends.Failed (remote_causes.BadResult fault)) (files-listed m entries g asked gathered c.by_list c.stamps_hold inputs)
         (trusted m entries g asked c.by_list q.farm gathered inputs has) h).fine)
 
   -- the failures that are told of a remote attempt that was alone
   fails-alone : (gathered : Gathered) (local : Option (End Outcome Cause)) (remote : Option (End Outcome RemoteCause)) → HasGathered m g asked gathered
       → IsQuietThere m g.before g.after entries (asked_of asked) → gathered.plan ≡ plans.RemoteOnly
-      → HasRemote m gathered asked.accept_cached g.before g.after remote → is_some local ≡ false → is_some remote ≡ true
+      → HasRemote m gathered asked.accept_cached None g.before g.after remote → is_some local ≡ false → is_some remote ≡ true
       → won_remote plans.RemoteOnly remote ≡ None → AreTellable (listed_local (kept_of local) ++ listed_remote (kept_of remote))
       → MayFail strategies.Remote (flat_map failure_of (listed_local (kept_of local) ++ listed_remote (kept_of remote)))
   fails-alone gathered (Some end) remote inputs q plan h here there none tellable = absurd (false-true (sym here))
@@ -160,11 +175,16 @@ module _ {P W B : Type 0} (m : Meanings P W B) (entries : List SourceEntry) (g :
       → MayFail strategies.Remote (flat_map failure_of kept)
   fails-there kept h q plan =
       let run = h.run in
-      let remote = run.attempts.remote in
-      let none = both-none (outcome_of run.attempts.local) (won_remote run.gathered.plan remote) h.none_won in
-      rw run.ends_are
-      (fails-alone run.gathered run.attempts.local remote run.inputs q plan run.made.remote
-      (rw plan at run.made.started_here) (rw plan at run.made.started_there) (rw plan at none.1) (rw run.ends_are at h.tellable))
+      let attempts = run.attempts in
+      let none = both-none attempts.first (outcome_of attempts.local) (won_remote run.gathered.plan attempts.remote) h.none_won in
+      let turn = run.made.in_turn (ap has_both plan) in
+      let here : List Ended = listed_local (kept_of attempts.local) in
+      let there : List Ended = listed_remote (kept_of attempts.remote) in
+      let ordered : kept ≡ here ++ there = run.ends_are ∙ ap (λ x. in_order x here there) turn.first_is in
+      subst (λ x. MayFail strategies.Remote (flat_map failure_of x)) (sym ordered)
+      (fails-alone run.gathered attempts.local attempts.remote run.inputs q plan
+      (subst (λ x. HasRemote m run.gathered asked.accept_cached x g.before g.after attempts.remote) turn.told_remote_is run.made.remote)
+      (rw plan at turn.started_here) (rw plan at turn.started_there) (rw plan at none.1) (subst AreTellable ordered h.tellable))
 
   -- what a quiet session tells of its failures, by its strategy
   fails-by : (strategy : Strategy) (kept : List Ended) → asked.strategy ≡ strategy → (h : HasLost m g asked kept) → IsPlanOf strategy h.run.gathered.plan → MayFail strategy (flat_map failure_of kept)

@@ -1,16 +1,18 @@
 -- What is said of a source tree and of a farm's client is said of any object that tells the same.
 use Rattle.std.proofs.Common.{◌≡◌, ◌∙◌, Bool, List, ap, inl, inr, refl, subst, sym}
+use Rattle.std.specs.Prelude.{Option}
 use Rattle.rx_base.specs.declared.digests.Digest.{Digest}
 use Rattle.rx_exec_messages.specs.declared.callers.Caller as callers
 use Rattle.rx_exec_messages.specs.declared.exchanges.Exchange.{Exchange}
 use Rattle.rx_exec_messages.specs.Calls.{Stays}
-use Rattle.rx_exec_messages.specs.Exchanged.{Exchanged, HasExchanged}
+use Rattle.rx_exec_messages.specs.Exchanged.{HasExchanged}
 use Rattle.rx_remote.specs.Actions.{Work}
 use Rattle.rx_remote.specs.Reading.{HasRead}
-use Rattle.rx_remote.specs.Runs.{EndsBy, EndsOr, IsRightFor, key_under}
+use Rattle.rx_remote.specs.Runs.{EndsOr, IsRightFor, key_under}
 use Rattle.rx_scan.specs.declared.gathering.Gathered.{Gathered}
 use Rattle.rx_world.specs.declared.attempts.End.{End}
 use Rattle.rx_world.specs.declared.commands.Command.{Command}
+use Rattle.rx_world.specs.declared.decisions.Decision.{Decision}
 use Rattle.rx_world.specs.declared.input_files.InputFile.{InputFile}
 use Rattle.rx_world.specs.declared.outcomes.Outcome.{Outcome}
 use Rattle.rx_world.specs.declared.remote_causes.RemoteCause.{RemoteCause}
@@ -154,9 +156,9 @@ module _ {C D S T W : Type 0} (w : world.Ghosts W) (c : callers.Ghosts C W) (d :
     source_is = v.faults ∙ h.source_is ∙ sym u.faults;
   }
 
-  run-mirrored : (gathered : Gathered) (accepts : Bool) (end : End Outcome RemoteCause) → HasRunThere w c s gathered accepts farm_old farm_new old new end
-      → HasRunThere w d t gathered accepts client_old client_new tree_old tree_new end
-  run-mirrored gathered accepts end h = record {
+  run-mirrored : (gathered : Gathered) (accepts : Bool) (told : Option Decision) (end : End Outcome RemoteCause) → HasRunThere w c s gathered accepts told farm_old farm_new old new end
+      → HasRunThere w d t gathered accepts told client_old client_new tree_old tree_new end
+  run-mirrored gathered accepts told end h = record {
     root = h.root;
     directories = h.directories;
     tree = h.tree;
@@ -165,10 +167,11 @@ module _ {C D S T W : Type 0} (w : world.Ghosts W) (c : callers.Ghosts C W) (d :
     sound = h.sound;
     stays = exchanged-mirrored w c d farm_old farm_new client_old client_new m n _ h.stays;
     own = rw (u.faults, v.faults) (reads-mirrored w s t old new tree_old tree_new u v gathered.files _ h.own);
+    stopped = h.stopped;
     unchanged = λ k. rw u.listed (h.unchanged (u.kept k));
   }
 
-  pub there-mirrored : (gathered : Gathered) (accepts : Bool) (end : End Outcome RemoteCause) → EndsThere w c s gathered accepts farm_old farm_new old new end
-      → EndsThere w d t gathered accepts client_old client_new tree_old tree_new end
-  there-mirrored gathered accepts end (inl h) = inl (h.0, idle-mirrored h.1)
-  there-mirrored gathered accepts end (inr h) = inr (run-mirrored gathered accepts end h)
+  pub there-mirrored : (gathered : Gathered) (accepts : Bool) (told : Option Decision) (end : End Outcome RemoteCause) → EndsThere w c s gathered accepts told farm_old farm_new old new end
+      → EndsThere w d t gathered accepts told client_old client_new tree_old tree_new end
+  there-mirrored gathered accepts told end (inl h) = inl (h.0, h.1, idle-mirrored h.2)
+  there-mirrored gathered accepts told end (inr h) = inr (run-mirrored gathered accepts told end h)

@@ -8,6 +8,7 @@ use Rattle.rx_world.specs.declared.attempts.End.{End}
 use Rattle.rx_exec_messages.specs.declared.callers.Caller as callers
 use Rattle.rx_world.specs.declared.benches.Bench as benches
 use Rattle.rx_world.specs.declared.benches.BenchMaker as makers
+use Rattle.rx_world.specs.declared.decisions.Decision.{Decision}
 use Rattle.rx_world.specs.declared.outcomes.Outcome.{Outcome}
 use Rattle.rx_world.specs.declared.remote_causes.RemoteCause.{RemoteCause}
 use Rattle.rx_world.specs.declared.sources.Given.{Given}
@@ -79,9 +80,9 @@ module _ {W I O T L M B R C : Type 0} (w : world.Ghosts W) (i : inputs.Ghosts I)
     returned_is = h.returned_is;
   }
 
-  ended-here_same : (p q r s : Parts I O T L M R C) (gathered : Gathered) (end : End Outcome Cause) → HasEndedHere (meanings w i o t l k b v z) gathered p q end
-      → HasEndedHere (meanings w i o t l k b v z) gathered (record r { tree_local = p.tree_local; benches = p.benches }) (record s { tree_local = q.tree_local; benches = q.benches }) end
-  ended-here_same p q r s gathered end h =
+  ended-here_same : (p q r s : Parts I O T L M R C) (gathered : Gathered) (told : Option Decision) (end : End Outcome Cause) → HasEndedHere (meanings w i o t l k b v z) gathered told p q end
+      → HasEndedHere (meanings w i o t l k b v z) gathered told (record r { tree_local = p.tree_local; benches = p.benches }) (record s { tree_local = q.tree_local; benches = q.benches }) end
+  ended-here_same p q r s gathered told end h =
       let a = h.attempted in
       record {
         attempted = record {
@@ -98,7 +99,7 @@ module _ {W I O T L M B R C : Type 0} (w : world.Ghosts W) (i : inputs.Ghosts I)
         };
         proper = h.proper;
         within = h.within;
-        unstopped = h.unstopped;
+        stopped = h.stopped;
         from = h.from;
       }
 
@@ -108,16 +109,16 @@ module _ {W I O T L M B R C : Type 0} (w : world.Ghosts W) (i : inputs.Ghosts I)
         four (λ x u y d. IsIdleHere (meanings w i o t l k b v z) (record r { tree_local = x; benches = y }) (record s { tree_local = u; benches = d }))
         p.tree_local r.tree_local q.tree_local s.tree_local p.benches r.benches q.benches s.benches e.tree_local f.tree_local e.benches f.benches (idle-here_same p q r s h)
 
-    ended-here-move : (gathered : Gathered) (end : End Outcome Cause) → IsSameHere p r → IsSameHere q s
-        → HasEndedHere (meanings w i o t l k b v z) gathered p q end → HasEndedHere (meanings w i o t l k b v z) gathered r s end
-    ended-here-move gathered end e f h =
-        four (λ x u y d. HasEndedHere (meanings w i o t l k b v z) gathered (record r { tree_local = x; benches = y }) (record s { tree_local = u; benches = d }) end)
-        p.tree_local r.tree_local q.tree_local s.tree_local p.benches r.benches q.benches s.benches e.tree_local f.tree_local e.benches f.benches (ended-here_same p q r s gathered end h)
+    ended-here-move : (gathered : Gathered) (told : Option Decision) (end : End Outcome Cause) → IsSameHere p r → IsSameHere q s
+        → HasEndedHere (meanings w i o t l k b v z) gathered told p q end → HasEndedHere (meanings w i o t l k b v z) gathered told r s end
+    ended-here-move gathered told end e f h =
+        four (λ x u y d. HasEndedHere (meanings w i o t l k b v z) gathered told (record r { tree_local = x; benches = y }) (record s { tree_local = u; benches = d }) end)
+        p.tree_local r.tree_local q.tree_local s.tree_local p.benches r.benches q.benches s.benches e.tree_local f.tree_local e.benches f.benches (ended-here_same p q r s gathered told end h)
 
-    pub local-move : (gathered : Gathered) (end : Option (End Outcome Cause)) → IsSameHere p r → IsSameHere q s
-        → HasLocal (meanings w i o t l k b v z) gathered p q end → HasLocal (meanings w i o t l k b v z) gathered r s end
-    local-move gathered None e f h = idle-here-move e f h
-    local-move gathered (Some end) e f h = ended-here-move gathered end e f h
+    pub local-move : (gathered : Gathered) (told : Option Decision) (end : Option (End Outcome Cause)) → IsSameHere p r → IsSameHere q s
+        → HasLocal (meanings w i o t l k b v z) gathered told p q end → HasLocal (meanings w i o t l k b v z) gathered told r s end
+    local-move gathered told None e f h = idle-here-move e f h
+    local-move gathered told (Some end) e f h = ended-here-move gathered told end e f h
 
     -- ---- the remote attempt
 
@@ -127,11 +128,11 @@ module _ {W I O T L M B R C : Type 0} (w : world.Ghosts W) (i : inputs.Ghosts I)
     tree-move : (x y : Parts I O T L M R C) → IsSameThere x y → IsSource (meanings w i o t l k b v z).tree_remote (meanings w i o t l k b v z).tree_remote x y
     tree-move x y e = source-same v (λ (a : Parts I O T L M R C). a.tree_remote) x y e.tree_remote
 
-    pub remote-move : (gathered : Gathered) (accepts : Bool) (end : Option (End Outcome RemoteCause)) → IsSameThere p r → IsSameThere q s
-        → HasRemote (meanings w i o t l k b v z) gathered accepts p q end → HasRemote (meanings w i o t l k b v z) gathered accepts r s end
-    remote-move gathered accepts None e f h = idle-mirrored w _ _ _ _ p q r s p q r s (farm-move p r e) (farm-move q s f) (tree-move p r e) (tree-move q s f) h
-    remote-move gathered accepts (Some end) e f h =
-        there-mirrored w _ _ _ _ p q r s p q r s (farm-move p r e) (farm-move q s f) (tree-move p r e) (tree-move q s f) gathered accepts end h
+    pub remote-move : (gathered : Gathered) (accepts : Bool) (told : Option Decision) (end : Option (End Outcome RemoteCause)) → IsSameThere p r → IsSameThere q s
+        → HasRemote (meanings w i o t l k b v z) gathered accepts told p q end → HasRemote (meanings w i o t l k b v z) gathered accepts told r s end
+    remote-move gathered accepts told None e f h = idle-mirrored w _ _ _ _ p q r s p q r s (farm-move p r e) (farm-move q s f) (tree-move p r e) (tree-move q s f) h
+    remote-move gathered accepts told (Some end) e f h =
+        there-mirrored w _ _ _ _ p q r s p q r s (farm-move p r e) (farm-move q s f) (tree-move p r e) (tree-move q s f) gathered accepts told end h
 
     -- ---- both
 
@@ -144,8 +145,8 @@ module _ {W I O T L M B R C : Type 0} (w : world.Ghosts W) (i : inputs.Ghosts I)
     pub attempts-move : (gathered : Gathered) (accepts : Bool) (attempts : Attempts) → IsSame p r → IsSame q s
         → HasAttempts (meanings w i o t l k b v z) gathered accepts p q attempts → HasAttempts (meanings w i o t l k b v z) gathered accepts r s attempts
     attempts-move gathered accepts attempts e f h = record {
-      local = local-move gathered attempts.local e.here f.here h.local;
-      remote = remote-move gathered accepts attempts.remote e.there f.there h.remote;
-      started_here = h.started_here;
-      started_there = h.started_there;
+      local = local-move gathered attempts.told_local attempts.local e.here f.here h.local;
+      remote = remote-move gathered accepts attempts.told_remote attempts.remote e.there f.there h.remote;
+      in_turn = h.in_turn;
+      raced = h.raced;
     }

@@ -25,10 +25,13 @@ use Rattle.rx_world.specs.Inputs.{IsAsListed}
 use Rattle.rx_engine.specs.declared.answered.Answered.{Answered}
 use Rattle.rx_engine.specs.declared.attempts.Won.{Won}
 use Rattle.rx_engine.specs.declared.desk.Parts.{Parts}
+use Rattle.rx_engine.specs.declared.pending.Stage.{Stage}
+use Rattle.rx_engine.specs.declared.pending.Stage.TheVariants as stages
 use Rattle.rx_engine.specs.Answers.{Answers, HasRun, HasWon, IsRefused, IsUnrun, MayHaveRun, asked_of, grounds}
 use Rattle.rx_engine.specs.Meanings.{meanings}
+use Rattle.rx_engine.specs.Pending.{IsStageOf}
 use Rattle.rx_engine.specs.Ready.{IsReadyAs}
-use Rattle.rx_engine.specs.Session.{Replies, RepliesTo, WasHandled}
+use Rattle.rx_engine.specs.Session.{IsUntouched, Replies, RepliesTo, WasHandled}
 use Rattle.rx_engine.proofs.Moves.{IsSame, attempts-move, idle-move}
 
 -- but for the streams the second pair of states is the first, and the input is in the same state at the end
@@ -46,6 +49,10 @@ module _ {W I O T L M B R C : Type 0} (w : world.Ghosts W) (i : inputs.Ghosts I)
     idle = idle-move w i o t l k b v z p q r s same.before same.after h.idle;
     ends_are = h.ends_are;
   }
+
+  -- nothing was asked, and no attempt was made
+  pub untouched-move : (ends : List Ended) → IsUntouched (meanings w i o t l k b v z) (grounds p q xs ls vs) ends → IsUntouched (meanings w i o t l k b v z) (grounds r s xs ls vs) ends
+  untouched-move ends h = record { answers_are = h.answers_are; lists_are = h.lists_are; unrun = unrun-move ends h.unrun }
 
   listed-move : (gathered : Gathered) → (w.stamps_honest → t.keeps p.tree → IfSome (t.listed p.tree) (λ entries. All (IsAsListed entries) gathered.files))
       → w.stamps_honest → t.keeps r.tree → IfSome (t.listed r.tree) (λ entries. All (IsAsListed entries) gathered.files)
@@ -112,8 +119,7 @@ module _ {W I O T L M B R C : Type 0} (w : world.Ghosts W) (i : inputs.Ghosts I)
   handled-move (Some asked) ends h = may-move asked ends h
 
   replies-move : (root read : List ℕ) (request : Option Request) (receipt : Option Receipt) (ends : List Ended) (answer : Reply) → Replies (meanings w i o t l k b v z) root (grounds p q xs ls vs) read request receipt ends answer → Replies (meanings w i o t l k b v z) root (grounds r s xs ls vs) read request receipt ends answer
-  replies-move root read request receipt ends (reply.BadRequest bad) h =
-      (h.0, h.1, record { answers_are = h.2.answers_are; lists_are = h.2.lists_are; unrun = unrun-move ends h.2.unrun }, h.3, λ cut. at-end (h.4 cut))
+  replies-move root read request receipt ends (reply.BadRequest bad) h = (h.0, h.1, untouched-move ends h.2, h.3, λ cut. at-end (h.4 cut))
   replies-move root read request receipt ends reply.NoMemory h = (h.0, handled-move request ends h.1, h.2)
   replies-move root read request receipt ends (reply.Done exit stdout stderr from number placed) h = to-move root read request receipt ends (reply.Done exit stdout stderr from number placed) h
   replies-move root read request receipt ends (reply.PlaceFault number placed) h = to-move root read request receipt ends (reply.PlaceFault number placed) h
@@ -129,3 +135,11 @@ module _ {W I O T L M B R C : Type 0} (w : world.Ghosts W) (i : inputs.Ghosts I)
   pub ready-move : (root read : List ℕ) (request : Option Request) (ends : List Ended) (answered : Option Answered) → IsReadyAs (meanings w i o t l k b v z) root (grounds p q xs ls vs) read request ends answered → IsReadyAs (meanings w i o t l k b v z) root (grounds r s xs ls vs) read request ends answered
   ready-move root read request ends None h = (h.0, handled-move request ends h.1)
   ready-move root read request ends (Some a) h = (h.0, replies-move root read request a.receipt ends a.reply h.1)
+
+  -- the stage of a request
+  pub stage-move : (request : Request) (stage : Stage) → IsStageOf (meanings w i o t l k b v z) (grounds p q xs ls vs) request stage → IsStageOf (meanings w i o t l k b v z) (grounds r s xs ls vs) request stage
+  unfolding run-move
+  stage-move request stages.Lost h = absurd h
+  stage-move request (stages.Refused None) h = (may-move request [] h.0, h.1)
+  stage-move request (stages.Refused (Some a)) h = ((h.0.0, answers-move request a.receipt [] a.reply h.0.1), h.1)
+  stage-move request (stages.Attempted attempted) h = record { run = run-move request attempted.ends h.run; won_is = h.won_is }

@@ -1,5 +1,5 @@
 -- Replies with their frames, as they are made ready.
-use Rattle.std.specs.Prelude.{◌≡◌, ◌<◌, None, Some, List, length}
+use Rattle.std.specs.Prelude.{◌≡◌, ◌≢◌, ◌<◌, None, Some, List, length}
 use Rattle.std.specs.List.{flat_map}
 use Rattle.rx_session.specs.declared.bad.Bad.{Bad}
 use Rattle.rx_session.specs.declared.replies.Reply.{Reply}
@@ -24,6 +24,11 @@ pub record IsPlain (answer : Reply) (answered : Answered) : Type 0 where
   pub reply_is : answered.reply ≡ answer
   pub frame : answered.frame.items ≡ frame_of answered.reply
   pub receipt_is : answered.receipt ≡ None
+
+-- the answer tells of no publication
+pub record IsUnpublished (answered : Answered) : Type 0 where
+  pub receipt_is : answered.receipt ≡ None
+  pub not_full : answered.reply ≢ reply.JournalFull
 
 -- the reply where nothing was gathered
 abbrev pub AnswersFault : GatherFault → Answered → Type 0

@@ -1,8 +1,11 @@
 -- The attempts of a session: which a plan has, how they ended, and what is published of them.
-use Rattle.std.specs.Prelude.{◌≡◌, ◌≢◌, ◌⊎◌, ◌≤◌, ◌||◌, ◌&&◌, ◌==◌, ℤ, Bool, true, false, not, List, [], ◌∷◌, ◌++◌, Option, None, Some, Result, Ok, Err, All, IfErr, IfOk, if◌then◌else◌, is_some, negsuc, pos}
+use Rattle.std.specs.Prelude.{◌≡◌, ◌≢◌, ◌⊎◌, ◌≤◌, ◌||◌, ◌&&◌, Bool, true, false, not, List, [], ◌∷◌, ◌++◌, Option, None, Some, Result, Ok, Err, All, IfOk, if◌then◌else◌, is_some}
 use Rattle.rx_local.specs.Limits.{IsWithinLimits}
-use Rattle.rx_local.specs.Local.{HasAttempted, IsStopped, Job, job}
+use Rattle.rx_local.specs.Local.{HasAttempted, HasTold, Job, job}
+use Rattle.rx_race.specs.Publishing.{is_remote_only, is_zero}
 use Rattle.rx_scan.specs.declared.gathering.Gathered.{Gathered}
+use Rattle.rx_world.specs.declared.attempts.Attempt.{Attempt}
+use Rattle.rx_world.specs.declared.attempts.Attempt.TheVariants as whose
 use Rattle.rx_world.specs.declared.attempts.Cause.{Cause}
 use Rattle.rx_world.specs.declared.attempts.Cause.TheVariants as causes
 use Rattle.rx_world.specs.declared.attempts.End.{End}
@@ -16,6 +19,7 @@ use Rattle.rx_world.specs.declared.attempts.Plan.{Plan}
 use Rattle.rx_world.specs.declared.attempts.Plan.TheVariants.{Both, Fallback, LocalOnly, RemoteOnly}
 use Rattle.rx_world.specs.declared.benches.Bench as benches
 use Rattle.rx_world.specs.declared.benches.BenchMaker as makers
+use Rattle.rx_world.specs.declared.decisions.Decision.{Decision}
 use Rattle.rx_world.specs.declared.outcomes.KeptOutcome.{KeptOutcome}
 use Rattle.rx_world.specs.declared.outcomes.Outcome.{Outcome}
 use Rattle.rx_world.specs.declared.remote_causes.RemoteCause.{RemoteCause}
@@ -28,6 +32,7 @@ use Rattle.rx_engine.specs.declared.attempts.Attempted.{Attempted}
 use Rattle.rx_engine.specs.declared.attempts.Won.{Won}
 use Rattle.rx_engine.specs.declared.held.Held.{Held}
 use Rattle.rx_engine.specs.Meanings.{Meanings}
+use Rattle.rx_engine.specs.Racing.{HaveRaced}
 use Rattle.rx_engine.specs.RemoteAttempts.{EndsThere, IsIdleThere}
 
 -- ---- plans
@@ -44,18 +49,23 @@ has_remote RemoteOnly = true
 has_remote Fallback = true
 has_remote Both = true
 
-abbrev pub is_remote_only : Plan → Bool
-is_remote_only RemoteOnly = true
-is_remote_only LocalOnly = false
-is_remote_only Fallback = false
-is_remote_only Both = false
+-- both at once
+abbrev pub has_both : Plan → Bool
+has_both LocalOnly = false
+has_both RemoteOnly = false
+has_both Fallback = false
+has_both Both = true
 
 -- ---- ends
 
--- how each attempt that was started ended, with the whole outcome
+-- How each attempt that was started ended, with the whole outcome; the decision that each was told of while it ran; and whose outcome is
+-- published before that of the other.
 pub record Attempts : Type 0 where
   pub local : Option (End Outcome Cause)
   pub remote : Option (End Outcome RemoteCause)
+  pub told_local : Option Decision
+  pub told_remote : Option Decision
+  pub first : Attempt
 
 abbrev pub kept_end : {C : Type 0} → End Outcome C → End KeptOutcome C
 kept_end (ends.Done outcome origin) = ends.Done (kept outcome) origin
@@ -74,15 +84,21 @@ abbrev pub listed_remote : Option (End KeptOutcome RemoteCause) → List Ended
 listed_remote None = []
 listed_remote (Some end) = ended.Remote end ∷ []
 
--- the ends as a transcript keeps them: local before remote
+-- an end, where there is one
+abbrev pub listed : Option Ended → List Ended
+listed None = []
+listed (Some end) = end ∷ []
+
+-- of the local and the remote one, what is of the first attempt comes first
+abbrev pub in_order : Attempt → List Ended → List Ended → List Ended
+in_order whose.Local here there = here ++ there
+in_order whose.Remote here there = there ++ here
+
+-- the ends as a transcript keeps them
 abbrev pub kept_ends : Attempts → List Ended
-kept_ends attempts = listed_local (kept_of attempts.local) ++ listed_remote (kept_of attempts.remote)
+kept_ends attempts = in_order attempts.first (listed_local (kept_of attempts.local)) (listed_remote (kept_of attempts.remote))
 
 -- ---- what is published
-
-abbrev pub is_zero : ℤ → Bool
-is_zero (pos n) = n == 0
-is_zero (negsuc n) = false
 
 -- the outcome of an attempt, where it has one
 abbrev pub outcome_of : {C : Type 0} → Option (End Outcome C) → Option Won
@@ -105,9 +121,14 @@ abbrev pub first_won : Option Won → Option Won → Option Won
 first_won (Some won) other = Some won
 first_won None other = other
 
+-- of what the local and the remote attempt have to publish, that of the first attempt, or else that of the other
+abbrev pub won_by : Attempt → Option Won → Option Won → Option Won
+won_by whose.Local here there = first_won here there
+won_by whose.Remote here there = first_won there here
+
 -- the outcome that is published, where there is one
 abbrev pub winner : Plan → Attempts → Option Won
-winner plan attempts = first_won (outcome_of attempts.local) (won_remote plan attempts.remote)
+winner plan attempts = won_by attempts.first (outcome_of attempts.local) (won_remote plan attempts.remote)
 
 -- the first outcome among ends that are kept
 abbrev pub first_done : List Ended → Option KeptOutcome
@@ -150,17 +171,17 @@ abbrev pub IsFromHere : End Outcome Cause → Type 0
 IsFromHere (ends.Done outcome origin) = origin ≡ origins.Local
 IsFromHere (ends.Failed cause) = Unit {0}
 
--- The local attempt was made on what was gathered, and ended so. It runs alone, and nothing stops it.
+-- The local attempt was made on what was gathered, and ended so. It is stopped exactly by the decision that it was told of.
 pub record HasRunHere {M B T W : Type 0} (w : world.Ghosts W) (m : makers.Ghosts M W B) (b : benches.Ghosts B W) (s : sources.Ghosts T W)
-    (gathered : Gathered) (benches_before benches_after : M) (before after : T) (end : End Outcome Cause) : Type 0 where
+    (gathered : Gathered) (told : Option Decision) (benches_before benches_after : M) (before after : T) (end : End Outcome Cause) : Type 0 where
   pub attempted : HasAttempted w m b s (job_of gathered) benches_before benches_after before after (result_of end)
   pub proper : IfOk (result_of end) (IsProper gathered.command)
   pub within : IfOk (result_of end) IsWithinLimits
-  pub unstopped : IfErr (result_of end) (λ cause. IsStopped cause → ⊥)
+  pub stopped : HasTold None told (result_of end)
   pub from : IsFromHere end
 
-abbrev pub HasEndedHere : {P W B : Type 0} → Meanings P W B → Gathered → P → P → End Outcome Cause → Type 0
-HasEndedHere m gathered before after end = HasRunHere m.world m.benches m.bench m.tree_local gathered before after before after end
+abbrev pub HasEndedHere : {P W B : Type 0} → Meanings P W B → Gathered → Option Decision → P → P → End Outcome Cause → Type 0
+HasEndedHere m gathered told before after end = HasRunHere m.world m.benches m.bench m.tree_local gathered told before after before after end
 
 -- no local attempt was made: the source tree that it reads answered nothing, no bench was made, and no count changed
 pub record IsIdleHere {P W B : Type 0} (m : Meanings P W B) (before after : P) : Type 0 where
@@ -174,23 +195,40 @@ pub record IsIdle {P W B : Type 0} (m : Meanings P W B) (before after : P) : Typ
   pub here : IsIdleHere m before after
   pub there : IsIdleThere m.world m.farm m.tree_remote before after before after
 
-abbrev pub HasLocal : {P W B : Type 0} → Meanings P W B → Gathered → P → P → Option (End Outcome Cause) → Type 0
-HasLocal m gathered before after None = IsIdleHere m before after
-HasLocal m gathered before after (Some end) = HasEndedHere m gathered before after end
+abbrev pub HasLocal : {P W B : Type 0} → Meanings P W B → Gathered → Option Decision → P → P → Option (End Outcome Cause) → Type 0
+HasLocal m gathered told before after None = IsIdleHere m before after
+HasLocal m gathered told before after (Some end) = HasEndedHere m gathered told before after end
 
-abbrev pub HasRemote : {P W B : Type 0} → Meanings P W B → Gathered → Bool → P → P → Option (End Outcome RemoteCause) → Type 0
-HasRemote m gathered accepts before after None = IsIdleThere m.world m.farm m.tree_remote before after before after
-HasRemote m gathered accepts before after (Some end) =
-    EndsThere m.world m.farm m.tree_remote gathered accepts before after before after end
+abbrev pub HasRemote : {P W B : Type 0} → Meanings P W B → Gathered → Bool → Option Decision → P → P → Option (End Outcome RemoteCause) → Type 0
+HasRemote m gathered accepts told before after None = IsIdleThere m.world m.farm m.tree_remote before after before after
+HasRemote m gathered accepts told before after (Some end) =
+    EndsThere m.world m.farm m.tree_remote gathered accepts told before after before after end
 
--- The attempts of the plan were made, and these are their ends: the remote one where the plan has one, and the local one where it starts
--- after that.
+-- The attempts of a plan without both at once: the remote one where the plan has one, and the local one where it starts after that. Neither
+-- was told of a decision.
+pub record AreInTurn (plan : Plan) (attempts : Attempts) : Type 0 where
+  pub started_here : is_some attempts.local ≡ starts_here plan attempts.remote
+  pub started_there : is_some attempts.remote ≡ has_remote plan
+  pub told_local_is : attempts.told_local ≡ None
+  pub told_remote_is : attempts.told_remote ≡ None
+  pub first_is : attempts.first ≡ whose.Local
+
+-- the attempts came so, and neither was told of a decision
+pub record HasTurns {P W B : Type 0} (m : Meanings P W B) (gathered : Gathered) (accepts : Bool) (before after : P)
+    (local : Option (End Outcome Cause)) (remote : Option (End Outcome RemoteCause)) : Type 0 where
+  pub here : HasLocal m gathered None before after local
+  pub there : HasRemote m gathered accepts None before after remote
+  pub started_here : is_some local ≡ starts_here gathered.plan remote
+  pub started_there : is_some remote ≡ has_remote gathered.plan
+
+-- The attempts of the plan were made, and these are their ends: both in a race where the plan has both at once, and else in turn.
 pub record HasAttempts {P W B : Type 0} (m : Meanings P W B) (gathered : Gathered) (accepts : Bool) (before after : P)
     (attempts : Attempts) : Type 0 where
-  pub local : HasLocal m gathered before after attempts.local
-  pub remote : HasRemote m gathered accepts before after attempts.remote
-  pub started_here : is_some attempts.local ≡ starts_here gathered.plan attempts.remote
-  pub started_there : is_some attempts.remote ≡ has_remote gathered.plan
+  pub local : HasLocal m gathered attempts.told_local before after attempts.local
+  pub remote : HasRemote m gathered accepts attempts.told_remote before after attempts.remote
+  pub in_turn : has_both gathered.plan ≡ false → AreInTurn gathered.plan attempts
+  pub raced : has_both gathered.plan ≡ true →
+      HaveRaced gathered.plan attempts.told_local attempts.local attempts.told_remote attempts.remote attempts.first
 
 -- the same, and what is kept and published of them
 pub record HasMade {P W B : Type 0} (m : Meanings P W B) (gathered : Gathered) (accepts : Bool) (before after : P) (made : Attempted) : Type 0 where
@@ -200,9 +238,10 @@ pub record HasMade {P W B : Type 0} (m : Meanings P W B) (gathered : Gathered) (
   pub won_is : made.won ≡ winner gathered.plan attempts
 
 -- of these ends that is kept and published
-pub record IsMadeOf (plan : Plan) (local : Option (End Outcome Cause)) (remote : Option (End Outcome RemoteCause)) (made : Attempted) : Type 0 where
-  pub ends_are : made.ends ≡ listed_local (kept_of local) ++ listed_remote (kept_of remote)
-  pub won_is : made.won ≡ first_won (outcome_of local) (won_remote plan remote)
+pub record IsMadeOf (plan : Plan) (first : Attempt) (local : Option (End Outcome Cause)) (remote : Option (End Outcome RemoteCause))
+    (made : Attempted) : Type 0 where
+  pub ends_are : made.ends ≡ in_order first (listed_local (kept_of local)) (listed_remote (kept_of remote))
+  pub won_is : made.won ≡ won_by first (outcome_of local) (won_remote plan remote)
 
 -- no count of a part that attempts have fell
 pub record AreLaterThan {P W B : Type 0} (m : Meanings P W B) (before after : P) : Type 0 where

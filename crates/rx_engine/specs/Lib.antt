@@ -4,12 +4,17 @@ pub mod Answers
 pub mod Attempts
 pub mod Cuts
 pub mod Fronts
+pub mod Gates
 pub mod Gathers
 pub mod Honest
 pub mod Journal
+pub mod Kept
 pub mod Meanings
+pub mod Pending
 pub mod Proxy
 pub mod Quiet
+pub mod RacedAttempts
+pub mod Racing
 pub mod Ready
 pub mod RemoteAttempts
 pub mod Serves

@@ -1,26 +1,19 @@
 -- Answers that are ready to be written, and what writing them makes of a transcript.
-use Rattle.std.specs.Prelude.{◌≡◌, ◌⊎◌, ℕ, List, [], Option, None, Some, Result, Ok, Err, IfSome, take}
+use Rattle.std.specs.Prelude.{◌≡◌, ℕ, List, [], Option, None, Some, Result, Ok, Err, IfSome, take}
 use Rattle.rx_board.specs.Board.{State}
-use Rattle.rx_session.specs.declared.bad.Bad.{Bad}
-use Rattle.rx_session.specs.declared.bad.SessionFault.{SessionFault}
-use Rattle.rx_session.specs.declared.bad.SessionFault.TheVariants as faults
 use Rattle.rx_session.specs.declared.requests.Request.{Request}
-use Rattle.rx_session.specs.Bad.{Decodes}
-use Rattle.rx_session.specs.Frames.{EndsRead, request_of}
+use Rattle.rx_session.specs.Frames.{request_of}
 use Rattle.rx_session.specs.Replies.{frame_of}
-use Rattle.rx_scan.specs.Lists.{Listing, Tells}
 use Rattle.rx_world.specs.declared.attempts.Ended.{Ended}
-use Rattle.rx_world.specs.declared.looks.Look.{Look}
 use Rattle.rx_world.specs.declared.places.Place as places
-use Rattle.rx_world.specs.declared.sources.Given.{Given}
 use Rattle.rx_engine.specs.declared.answered.Answered.{Answered}
-use Rattle.rx_engine.specs.declared.answers.Handled.{Handled}
-use Rattle.rx_engine.specs.declared.sessions.Ready.{Ready}
+use Rattle.rx_engine.specs.declared.concluding.Handled.{Handled}
+use Rattle.rx_engine.specs.declared.concluding.Ready.{Ready}
 use Rattle.rx_engine.specs.declared.transcripts.Ending.{Ending}
 use Rattle.rx_engine.specs.declared.transcripts.Ending.TheVariants.{NoMemory, Replied, SinkLost, SourceLost}
 use Rattle.rx_engine.specs.declared.transcripts.Transcript.{Transcript}
-use Rattle.rx_engine.specs.Answered.{IsPlain, bad_request, reply_no_memory}
-use Rattle.rx_engine.specs.Answers.{Answers, Grounds, MayHaveRun, grounds}
+use Rattle.rx_engine.specs.Answered.{IsPlain, reply_no_memory}
+use Rattle.rx_engine.specs.Answers.{Answers, Grounds, MayHaveRun}
 use Rattle.rx_engine.specs.Journal.{EntersBoard, files_of}
 use Rattle.rx_engine.specs.Meanings.{Meanings}
 use Rattle.rx_engine.specs.Session.{Replies, WasHandled}
@@ -36,31 +29,11 @@ AnswersAs m g request ends None = MayHaveRun m g request ends
 AnswersAs m g request ends (Some answered) =
     (answered.frame.items ≡ frame_of answered.reply) × Answers m g request answered.receipt ends answered.reply
 
--- Between two states of the parts a request was answered.
-pub record HasHandled {P W B : Type 0} (m : Meanings P W B) (request : Request) (before after : P) (handled : Handled) : Type 0 where
-  pub answers : List Given
-  pub lists : List Listing
-  pub view : List (List ℕ × Look)
-  pub looked : Tells m.world m.tree before after answers lists
-  pub answered : AnswersAs m (grounds before after answers lists view) request handled.ends handled.answered
-
 -- what is ready is a reply to these bytes
 abbrev pub IsReadyAs : {P W B : Type 0} → Meanings P W B → List ℕ → Grounds P → List ℕ → Option Request → List Ended → Option Answered → Type 0
 IsReadyAs m root g read request ends None = IfSome request (λ asked. request_of root read ≡ Ok asked) × WasHandled m g request ends
 IsReadyAs m root g read request ends (Some answered) =
     (answered.frame.items ≡ frame_of answered.reply) × Replies m root g read request answered.receipt ends answered.reply
-
-abbrev pub IsReady : {P W B : Type 0} → Meanings P W B → List ℕ → Grounds P → List ℕ → Ready → Type 0
-IsReady m root g read ready = IsReadyAs m root g read ready.request ready.handled.ends ready.handled.answered
-
--- Between two states of the parts an answer was made ready to what was read, which is this request or none.
-pub record HasReadied {P W B : Type 0} (m : Meanings P W B) (asked : Result Request SessionFault) (before after : P) (ready : Ready) : Type 0 where
-  pub answers : List Given
-  pub lists : List Listing
-  pub view : List (List ℕ × Look)
-  pub looked : Tells m.world m.tree before after answers lists
-  pub is_ready : (root read : List ℕ) → Decodes (λ request. request) asked (request_of root read) → EndsRead (m.input.left after) asked →
-      IsReady m root (grounds before after answers lists view) read ready
 
 -- what an answer enters into the journal, and nothing where there is none
 abbrev pub EntersAs : {P : Type 0} → places.Ghosts P → State P → State P → ℕ → List Ended → Option Answered → Type 0
@@ -110,23 +83,3 @@ Finishes number read ready t = FinishesAs number read ready.request ready.handle
 -- the input was lost, and nothing was done
 abbrev pub IsLost : ℕ → List ℕ → Transcript → Type 0
 IsLost number read t = IsBare number read None [] SourceLost t
-
--- the answer to bytes that are no request, unless memory ran out for it
-pub record IsBadReady (bad : Bad) (ready : Ready) : Type 0 where
-  pub request_is : ready.request ≡ None
-  pub ends_are : ready.handled.ends ≡ []
-  pub answered : IfSome ready.handled.answered (λ a. IsPlain (bad_request bad) a ⊎ IsPlain reply_no_memory a)
-
--- the answer where memory ran out while the bytes were read
-pub record IsUnread (ready : Ready) : Type 0 where
-  pub request_is : ready.request ≡ None
-  pub ends_are : ready.handled.ends ≡ []
-  pub answered : IfSome ready.handled.answered (IsPlain reply_no_memory)
-
--- the same by what was read
-abbrev pub IsRefusalOf : SessionFault → Option Ready → Type 0
-IsRefusalOf (faults.Bad bad) None = ⊥
-IsRefusalOf (faults.Bad bad) (Some ready) = IsBadReady bad ready
-IsRefusalOf faults.NoMemory None = ⊥
-IsRefusalOf faults.NoMemory (Some ready) = IsUnread ready
-IsRefusalOf faults.ReadFault ready = ready ≡ None

@@ -1,5 +1,5 @@
 -- The remote attempt of a session: the tree that it is about, and how it ended.
-use Rattle.std.specs.Prelude.{◌≡◌, ◌⊎◌, Bool, List, [], Option, None, Some, All, IfSome, map}
+use Rattle.std.specs.Prelude.{◌≡◌, ◌⊎◌, Bool, List, [], Option, None, All, IfSome, map}
 use Rattle.rx_action.specs.OutputPaths.{AreBelow}
 use Rattle.rx_base.specs.Digests.{digest_of}
 use Rattle.rx_base.specs.SortedPaths.{AreSorted, HasSameMembers}
@@ -8,6 +8,7 @@ use Rattle.rx_exec_messages.specs.declared.callers.Caller as callers
 use Rattle.rx_exec_messages.specs.Calls.{Stays}
 use Rattle.rx_exec_messages.specs.Exchanged.{HasExchanged}
 use Rattle.rx_remote.specs.Actions.{Work}
+use Rattle.rx_remote.specs.Ends.{StopTellsEnd}
 use Rattle.rx_remote.specs.Fine.{IsEndOf}
 use Rattle.rx_remote.specs.Reading.{HasRead, IsOwnCause, IsUnchanged}
 use Rattle.rx_remote.specs.Runs.{EndsOr, IsRightFor, IsSoundEnd}
@@ -20,6 +21,7 @@ use Rattle.rx_tree.specs.Trees.{all_bytes, tree, tree_bytes}
 use Rattle.rx_tree.specs.WorldTrees.{IsRootOfCopies}
 use Rattle.rx_world.specs.declared.attempts.End.{End}
 use Rattle.rx_world.specs.declared.attempts.End.TheVariants as ends
+use Rattle.rx_world.specs.declared.decisions.Decision.{Decision}
 use Rattle.rx_world.specs.declared.outcomes.Outcome.{Outcome}
 use Rattle.rx_world.specs.declared.remote_causes.RemoteCause.{RemoteCause}
 use Rattle.rx_world.specs.declared.remote_causes.RemoteCause.TheVariants as causes
@@ -69,9 +71,9 @@ pub record IsIdleThere {C T W : Type 0} (w : world.Ghosts W) (c : callers.Ghosts
   pub source_is : s.faults after ≡ s.faults before
 
 -- The remote attempt was made on what was gathered, and ended so: by a legal history on the tree of that, or for want of memory. Where the
--- farm's client is genuine and vouches for the clean run, an outcome is that. It runs alone, so no decision is told to it.
+-- farm's client is genuine and vouches for the clean run, an outcome is that. It is stopped exactly by the decision that it was told of.
 pub record HasRunThere {C T W : Type 0} (w : world.Ghosts W) (c : callers.Ghosts C W) (s : sources.Ghosts T W) (gathered : Gathered)
-    (accepts : Bool) (farm_before farm_after : C) (before after : T) (end : End Outcome RemoteCause) : Type 0 where
+    (accepts : Bool) (told : Option Decision) (farm_before farm_after : C) (before after : T) (end : End Outcome RemoteCause) : Type 0 where
   pub root : Digest
   pub directories : List Directory
   pub tree : IsTreeOf gathered root directories
@@ -80,12 +82,13 @@ pub record HasRunThere {C T W : Type 0} (w : world.Ghosts W) (c : callers.Ghosts
   pub sound : IsSoundEnd gathered.command end
   pub stays : HasExchanged c farm_before farm_after (λ part. Unit {0})
   pub own : HasRead w s gathered.files before after (λ answers.
-      IsEndOf (IsOwnCause gathered.files answers (s.faults before) (s.faults after) None) end)
+      IsEndOf (IsOwnCause gathered.files answers (s.faults before) (s.faults after) told) end)
+  pub stopped : StopTellsEnd None told end
   pub unchanged : s.keeps before → IfSome (s.listed before) (λ entries. All (IsAsListed entries) gathered.files → IsEndOf IsUnchanged end)
 
 -- that, or memory ran out before anything was asked
-abbrev pub EndsThere : {C T W : Type 0} → world.Ghosts W → callers.Ghosts C W → sources.Ghosts T W → Gathered → Bool → C → C → T → T
-    → End Outcome RemoteCause → Type 0
-EndsThere w c s gathered accepts farm_before farm_after before after end =
-    ((end ≡ ends.Failed causes.NoMemory) × IsIdleThere w c s farm_before farm_after before after)
-    ⊎ HasRunThere w c s gathered accepts farm_before farm_after before after end
+abbrev pub EndsThere : {C T W : Type 0} → world.Ghosts W → callers.Ghosts C W → sources.Ghosts T W → Gathered → Bool → Option Decision
+    → C → C → T → T → End Outcome RemoteCause → Type 0
+EndsThere w c s gathered accepts told farm_before farm_after before after end =
+    ((end ≡ ends.Failed causes.NoMemory) × (told ≡ None) × IsIdleThere w c s farm_before farm_after before after)
+    ⊎ HasRunThere w c s gathered accepts told farm_before farm_after before after end

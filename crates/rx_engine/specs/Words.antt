@@ -1,5 +1,5 @@
 -- The words of the command line: `exec` or `serve`, and options in any order, each once at most.
-use Rattle.std.specs.Prelude.{ℕ, List, [], ◌∷◌, Bool, false, not, ◌&&◌, ◌||◌, Option, None, Some, is_some, option_map, String, codes, if◌then◌else◌, length, nat_lt, string_bytes}
+use Rattle.std.specs.Prelude.{ℕ, List, [], ◌∷◌, Bool, not, ◌&&◌, Option, None, Some, is_some, option_map, String, codes, if◌then◌else◌, length, nat_lt, string_bytes}
 use Rattle.std.specs.Option.{option_and_then, unwrap_or}
 use Rattle.std.specs.Str.{bytes_eq}
 use Rattle.rx_engine.specs.Addresses.{is_address, is_listening_address}

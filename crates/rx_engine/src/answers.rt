@@ -1,76 +1,67 @@
-//! From a request to its reply: what its command runs on, the attempts, the publication.
+//! From a request to the attempts that are made of it: what its command runs on, and the attempts.
+//! Nothing here publishes.
 
-ghost use Rattle.std.specs.Prelude.{◌≡◌, ◌≤◌, [], IfErr, IfOk, vec_capacity};
+ghost use Rattle.std.specs.Prelude.{◌≡◌, IfErr, IfOk};
 ghost use Rattle.rx_engine.specs.Answers.{HasOutputsBelow};
-ghost use Rattle.rx_engine.specs.Attempts.{AreLaterThan};
-ghost use Rattle.rx_engine.specs.Gathers.{HasGatheredFor, HasNotGathered, HasRunAndPublished};
-ghost use Rattle.rx_engine.specs.Journal.{IsBoardAfter};
+ghost use Rattle.rx_engine.specs.Attempts.{AreLaterThan, HasMade};
+ghost use Rattle.rx_engine.specs.Gathers.{HasGatheredFor, HasNotGathered};
 ghost use Rattle.rx_engine.specs.Meanings.{meanings};
-ghost use Rattle.rx_engine.specs.Ready.{EntersHandled, HasHandled};
+ghost use Rattle.rx_engine.specs.Pending.{HasAnswered};
 ghost use Rattle.rx_engine.specs.RemoteAttempts.{FitsFarm};
 
-use crate::answered::{Answered, fail, or_give_up, refuse_gathering};
-use crate::attempts::{Attempted, Job, make_attempts, make_room};
+use crate::answered::{or_give_up, refuse_gathering};
+use crate::attempts::{Attempted, Job, Room, make_attempts};
 use crate::desk::{Desk, Parts};
-use crate::publishing::publish;
-use crate::sessions::Shared;
-use rx_base::Items;
+use crate::pending::Stage;
+use rx_blobs::Presence;
 use rx_digest_cache::DigestCache;
 use rx_scan::{GatherFault, Gathered, gather};
 use rx_session::{Request, command_for, declared_inputs};
-use rx_world::{Ended, Place, World};
+use rx_world::World;
 use std::alloc::Global;
 use std::sync::Wait;
+use std::thread::Threads;
 
-/// What was done of a request: how its attempts ended, and the answer. Without an answer, memory ran
-/// out even for the one which says so.
-#[derive(Drop)]
-pub(crate) struct Handled {
-    pub ends: Items<Ended>,
-    pub answered: Option<Answered>,
-}
-
-/// What the command of a request runs on, and room for the ends of its attempts.
+/// What the command of a request runs on, and the memory that its attempts take.
 struct Prepared {
     gathered: Gathered,
     /// Whether a result of the farm's action cache is taken.
     accept_cached: bool,
-    room: Vec<Ended>,
-    ghost empty: { room.items ≡ [] },
-    ghost enough: { 2 ≤ vec_capacity room },
+    room: Room,
 }
 
-/// Answers a request: gathers what its command runs on from the one source tree, and lets each
-/// attempt read it from its own.
-pub(crate) fn answer<W: World, D: Desk<W>, P: Place>(
-    rt: &impl Wait,
+/// Gathers what the command of a request runs on from the one source tree, and makes the attempts,
+/// each of which reads it from its own.
+pub(crate) fn answer<W: World + Send, D: Desk<W>, R: Threads + Wait + Sync>(
+    rt: &R,
     alloc: Global,
-    session: u32,
     request: &Request,
-    parts: &mut Parts<D::I, D::O, D::T, D::L, D::B, D::R, D::C>,
-    shared: &mut Shared<W, P>,
-) -> Handled
+    parts: Parts<D::I, D::O, D::T, D::L, D::B, D::R, D::C>,
+    cache: &DigestCache<W>,
+    presence: &Presence,
+) -> (Stage, Parts<D::I, D::O, D::T, D::L, D::B, D::R, D::C>)
     requires { HasOutputsBelow request.now }
-    ensures handled { HasHandled
+    ensures answered { HasAnswered
         (meanings W.World D.I.Source D.O.Sink D.T.Sources D.L.Sources D.B.BenchMaker D.B.B.Bench
         D.R.Sources D.C.Caller)
-        request.now parts.old parts.new result }
-    ensures journal { EntersHandled P.Place shared.old.board shared.new.board session result }
-    ensures board { IsBoardAfter P.Place shared.old.board shared.new.board }
-    ensures root { shared.new.root ≡ shared.old.root }
+        request.now parts result.1 result.0 }
     ensures later { AreLaterThan
         (meanings W.World D.I.Source D.O.Sink D.T.Sources D.L.Sources D.B.BenchMaker D.B.B.Bench
         D.R.Sources D.C.Caller)
-        parts.old parts.new }
-    ensures input { parts.new.input ≡ parts.old.input }
-    ensures output { parts.new.output ≡ parts.old.output }
+        parts result.1 }
+    ensures input { result.1.input ≡ parts.input }
+    ensures output { result.1.output ≡ parts.output }
 {
-    match prepare::<W, D>(rt, alloc, request, parts, &shared.cache) {
-        Ok(prepared) => { run_and_publish::<W, D, P>(rt, alloc, session, prepared, parts, shared) }
-        Err(fault) => Handled {
-            ends: Items::new(alloc),
-            answered: or_give_up(alloc, refuse_gathering(alloc, fault)),
-        },
+    let mut parts = parts;
+    match prepare::<W, D>(rt, alloc, request, &mut parts, cache) {
+        Ok(prepared) => {
+            let (attempted, parts) = run::<W, D, R>(rt, alloc, prepared, parts, presence);
+            (Stage::Attempted { attempted }, parts)
+        }
+        Err(fault) => {
+            let answered = or_give_up(alloc, refuse_gathering(alloc, fault));
+            (Stage::Refused { answered }, parts)
+        }
     }
 }
 
@@ -100,7 +91,7 @@ fn prepare<W: World, D: Desk<W>>(
     ensures tree_remote { parts.new.tree_remote ≡ parts.old.tree_remote }
     ensures farm { parts.new.farm ≡ parts.old.farm }
 {
-    let room = make_room(alloc)?;
+    let room = Room::new(alloc)?;
     let command = command_for(alloc, request)?;
     let inputs = declared_inputs(alloc, request)?;
     let gathered = gather::<W, D::T>(
@@ -120,30 +111,26 @@ fn prepare<W: World, D: Desk<W>>(
     })
 }
 
-/// Makes the attempts on what was gathered, and publishes the outcome that won.
-fn run_and_publish<W: World, D: Desk<W>, P: Place>(
-    rt: &impl Wait,
+/// Makes the attempts on what was gathered.
+fn run<W: World + Send, D: Desk<W>, R: Threads + Wait + Sync>(
+    rt: &R,
     alloc: Global,
-    session: u32,
     prepared: Prepared,
-    parts: &mut Parts<D::I, D::O, D::T, D::L, D::B, D::R, D::C>,
-    shared: &mut Shared<W, P>,
-) -> Handled
+    parts: Parts<D::I, D::O, D::T, D::L, D::B, D::R, D::C>,
+    presence: &Presence,
+) -> (Attempted, Parts<D::I, D::O, D::T, D::L, D::B, D::R, D::C>)
     requires { FitsFarm prepared.gathered }
-    ensures handled { HasRunAndPublished
+    ensures made { HasMade
         (meanings W.World D.I.Source D.O.Sink D.T.Sources D.L.Sources D.B.BenchMaker D.B.B.Bench
         D.R.Sources D.C.Caller)
-        prepared.gathered prepared.accept_cached parts.old parts.new result }
-    ensures journal { EntersHandled P.Place shared.old.board shared.new.board session result }
-    ensures board { IsBoardAfter P.Place shared.old.board shared.new.board }
-    ensures root { shared.new.root ≡ shared.old.root }
+        prepared.gathered prepared.accept_cached parts result.1 result.0 }
     ensures later { AreLaterThan
         (meanings W.World D.I.Source D.O.Sink D.T.Sources D.L.Sources D.B.BenchMaker D.B.B.Bench
         D.R.Sources D.C.Caller)
-        parts.old parts.new }
-    ensures input { parts.new.input ≡ parts.old.input }
-    ensures output { parts.new.output ≡ parts.old.output }
-    ensures tree { parts.new.tree ≡ parts.old.tree }
+        parts result.1 }
+    ensures input { result.1.input ≡ parts.input }
+    ensures output { result.1.output ≡ parts.output }
+    ensures tree { result.1.tree ≡ parts.tree }
 {
     let Prepared {
         gathered,
@@ -151,17 +138,10 @@ fn run_and_publish<W: World, D: Desk<W>, P: Place>(
         room,
     } = prepared;
     let job = Job {
+        alloc,
         gathered: &gathered,
         accept_cached,
-        presence: &shared.presence,
+        presence,
     };
-    let Attempted { ends, won } = make_attempts::<W, D>(rt, alloc, &job, room, parts);
-    let answered = match won {
-        Some(won) => publish(alloc, session, won, &mut shared.board),
-        None => fail(alloc, ends.as_slice()),
-    };
-    Handled {
-        answered: or_give_up(alloc, answered),
-        ends,
-    }
+    make_attempts::<W, D, R>(rt, &job, room, parts)
 }

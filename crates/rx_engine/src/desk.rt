@@ -5,6 +5,7 @@ ghost use Rattle.rx_world.specs.Causes.{HasCause};
 ghost use Rattle.rx_engine.specs.declared.desk.Parts.{Parts};
 ghost use Rattle.rx_engine.specs.Fronts.{GivesNext};
 
+use crate::transcripts::Transcript;
 use rx_exec_messages::Caller;
 use rx_world::{BenchMaker, Failed, Sink, Source, Sources, World};
 
@@ -35,13 +36,13 @@ pub trait Desk<W: World>: Sized {
 
     type T: Sources<W> + Send;
 
-    type L: Sources<W> + Send;
+    type L: Sources<W> + Send + Drop;
 
-    type B: BenchMaker<W> + Send;
+    type B: BenchMaker<W> + Send + Drop;
 
-    type R: Sources<W> + Send;
+    type R: Sources<W> + Send + Drop;
 
-    type C: Caller<W> + Send;
+    type C: Caller<W> + Send + Drop;
 
     /// The parts.
     ghost parts: { Self → Parts Self.I Self.O Self.T Self.L Self.B Self.R Self.C };
@@ -58,10 +59,10 @@ impl<
     I: Source + Send,
     O: Sink + Send,
     T: Sources<W> + Send,
-    L: Sources<W> + Send,
-    B: BenchMaker<W> + Send,
-    R: Sources<W> + Send,
-    C: Caller<W> + Send,
+    L: Sources<W> + Send + Drop,
+    B: BenchMaker<W> + Send + Drop,
+    R: Sources<W> + Send + Drop,
+    C: Caller<W> + Send + Drop,
 > Desk<W> for Parts<I, O, T, L, B, R, C> {
     type I = I;
 
@@ -92,7 +93,7 @@ impl<
 
 /// Gives desks, one for each session.
 pub trait Front<W: World> {
-    type D: Desk<W> + Send;
+    type D: Desk<W> + Send + Drop;
 
     /// The desks that are still to come, where told.
     ghost coming: { Self → Option (List Self.D) };
@@ -105,4 +106,9 @@ pub trait Front<W: World> {
         ensures next { IfOk result (GivesNext (coming self.old) (coming self.new)) }
         ensures kept { OnErr result (coming self.new ≡ coming self.old) }
         ensures cause { HasCause (faults self.old) (faults self.new) result };
+}
+
+/// Hears what each session did, right after it.
+pub trait Log {
+    fn hear(&self, transcript: &Transcript);
 }

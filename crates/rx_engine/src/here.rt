@@ -1,35 +1,35 @@
-//! The local attempt of a session: made on what was gathered, with nothing that stops it.
+//! The local attempt of a session: made on what was gathered, until its end or what stops it.
 
-ghost use Rattle.std.specs.Prelude.{◌≡◌};
+ghost use Rattle.std.specs.Prelude.{◌≡◌, None};
 ghost use Rattle.rx_engine.specs.Attempts.{HasRunHere, end_of, whole_end};
 
 use crate::ends::hold;
 use crate::held::Held;
 use rx_local::{LocalJob, run_local};
 use rx_scan::Gathered;
-use rx_world::{Attempt, BenchMaker, Cause, End, Origin, Outcome, Sources, Unstopped, World};
+use rx_world::{BenchMaker, Cause, End, Origin, Outcome, Sources, Stop, World};
 use std::alloc::Global;
 
 /// Makes the local attempt on what was gathered. An outcome that can't be kept for want of memory
 /// isn't published, and the attempt's end is then want of memory.
-pub(crate) fn run_here<W: World, B: BenchMaker<W>, S: Sources<W>>(
+pub(crate) fn run_here<W: World, B: BenchMaker<W>, S: Sources<W>, T: Stop>(
     alloc: Global,
     gathered: &Gathered,
     benches: &mut B,
     sources: &mut S,
+    stop: &mut T,
 ) -> End<Held, Cause>
-    ensures { HasRunHere W.World B.BenchMaker B.B.Bench S.Sources gathered.now
-        benches.old benches.new sources.old sources.new (whole_end result) }
+    requires { T.told stop.old ≡ None }
+    ensures ran { HasRunHere W.World B.BenchMaker B.B.Bench S.Sources gathered.now
+        (T.told stop.new) benches.old benches.new sources.old sources.new (whole_end result) }
+    ensures attempt { T.attempt stop.new ≡ T.attempt stop.old }
 {
     let job = LocalJob {
         command: &gathered.command,
         files: gathered.files.as_slice(),
         directories: gathered.dirs.as_slice(),
     };
-    let mut stop = Unstopped {
-        attempt: Attempt::Local,
-    };
-    let ended = run_local::<W, B, S, Unstopped>(alloc, &job, benches, sources, &mut stop);
+    let ended = run_local::<W, B, S, T>(alloc, &job, benches, sources, stop);
     hold(alloc, end_of(ended), Cause::NoMemory)
 }
 

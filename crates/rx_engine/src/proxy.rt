@@ -19,6 +19,7 @@ use rx_digest_cache::{DIGEST_CACHE_LIMIT, DigestCache};
 use rx_world::{Place, World};
 use std::alloc::Global;
 use std::sync::Wait;
+use std::thread::Threads;
 
 /// Why no more desks are asked for.
 #[derive(Clone, Copy, Debug, PartialEq, Eq)]
@@ -49,8 +50,8 @@ pub struct Ran<W: World, F: Front<W>, P> {
 }
 
 /// Serves the desks of a front, one after the other.
-fn serve_all<W: World, F: Front<W>, P: Place>(
-    rt: &impl Wait,
+fn serve_all<W: World + Send, F: Front<W>, P: Place, R: Threads + Wait + Sync>(
+    rt: &R,
     alloc: Global,
     front: &mut F,
     shared: &mut Shared<W, P>,
@@ -80,7 +81,7 @@ fn serve_all<W: World, F: Front<W>, P: Place>(
             Ok(None) => return Stop::Ended,
             Err(_) => return Stop::FrontLost,
             Ok(Some(desk)) => {
-                let (transcript, desk) = serve_session::<W, F::D, P>(
+                let (transcript, desk) = serve_session::<W, F::D, P, R>(
                     rt,
                     alloc,
                     served + 1,
@@ -133,7 +134,7 @@ fn status_over(otherwise: u8, transcripts: &[Transcript]) -> u8
     otherwise
 }
 
-fn status_of(stop: Stop, transcripts: &[Transcript]) -> u8
+pub(crate) fn status_of(stop: Stop, transcripts: &[Transcript]) -> u8
     ensures { result ≡ status_of stop transcripts.now }
 {
     match stop {
@@ -145,8 +146,8 @@ fn status_of(stop: Stop, transcripts: &[Transcript]) -> u8
 }
 
 /// Serves where the words are known, and answers the status.
-fn serve_words<W: World, F: Front<W>, P: Place>(
-    rt: &impl Wait,
+fn serve_words<W: World + Send, F: Front<W>, P: Place, R: Threads + Wait + Sync>(
+    rt: &R,
     alloc: Global,
     root: &str,
     front: &mut F,
@@ -177,7 +178,7 @@ fn serve_words<W: World, F: Front<W>, P: Place>(
         cache,
         presence: Presence::new(alloc, PRESENCE_LIMIT),
     };
-    let stop = serve_all::<W, F, P>(rt, alloc, front, &mut shared, transcripts, desks);
+    let stop = serve_all::<W, F, P, R>(rt, alloc, front, &mut shared, transcripts, desks);
     let status = status_of(stop, transcripts);
     let Shared {
         root: _,
@@ -190,8 +191,8 @@ fn serve_words<W: World, F: Front<W>, P: Place>(
 
 /// Serves the desks of a front, one after the other, and hands everything back. The words are
 /// those of `exec` or of `serve`.
-pub fn run_proxy<W: World, F: Front<W>, P: Place>(
-    rt: &impl Wait,
+pub fn run_proxy<W: World + Send, F: Front<W>, P: Place, R: Threads + Wait + Sync>(
+    rt: &R,
     alloc: Global,
     words: &[String],
     front: F,
@@ -238,7 +239,7 @@ pub fn run_proxy<W: World, F: Front<W>, P: Place>(
         };
     };
     let board = Board::new(alloc, place, JOURNAL_LIMIT);
-    let (status, board) = serve_words::<W, F, P>(
+    let (status, board) = serve_words::<W, F, P, R>(
         rt,
         alloc,
         root,

@@ -1,7 +1,7 @@
-//! The remote attempt of a session: the tree of what was gathered, and the attempt on it, with
-//! nothing that stops it.
+//! The remote attempt of a session: the tree of what was gathered, and the attempt on it, until its end
+//! or what stops it.
 
-ghost use Rattle.std.specs.Prelude.{IfOk};
+ghost use Rattle.std.specs.Prelude.{◌≡◌, IfOk, None};
 ghost use Rattle.rx_remote.specs.Actions.{AreNamed};
 ghost use Rattle.rx_tree.specs.Refusals.{CanBeBuilt};
 ghost use Rattle.rx_engine.specs.RemoteAttempts.{EndsThere, FitsFarm, IsTreeOf};
@@ -15,24 +15,27 @@ use rx_exec_messages::Caller;
 use rx_remote::{RemoteJob, run_remote};
 use rx_scan::Gathered;
 use rx_tree::{Built, TreeFault, build};
-use rx_world::{Attempt, End, RemoteCause, Sources, Unstopped, World};
+use rx_world::{End, RemoteCause, Sources, Stop, World};
 use std::alloc::{AllocError, Global};
 use std::sync::Wait;
 
 /// Makes the remote attempt on what was gathered. Want of memory is an end of it, also where its tree
 /// can't be built or its outcome can't be kept for that.
-pub(crate) fn run_there<W: World, C: Caller<W>, S: Sources<W>>(
+pub(crate) fn run_there<W: World, C: Caller<W>, S: Sources<W>, T: Stop>(
     rt: &impl Wait,
-    alloc: Global,
     job: &Job<'_>,
     farm: &mut C,
     sources: &mut S,
+    stop: &mut T,
 ) -> End<Held, RemoteCause>
-    requires { FitsFarm job.now.gathered.now }
-    ensures { EndsThere W.World C.Caller S.Sources job.now.gathered.now
-        job.now.accept_cached farm.old farm.new sources.old sources.new (whole_end result) }
+    requires fits { FitsFarm job.now.gathered.now }
+    requires untold { T.told stop.old ≡ None }
+    ensures ended { EndsThere W.World C.Caller S.Sources job.now.gathered.now
+        job.now.accept_cached (T.told stop.new)
+        farm.old farm.new sources.old sources.new (whole_end result) }
+    ensures attempt { T.attempt stop.new ≡ T.attempt stop.old }
 {
-    let Ok(tree) = tree_of(alloc, job.gathered) else {
+    let Ok(tree) = tree_of(job.alloc, job.gathered) else {
         return End::Failed {
             cause: RemoteCause::NoMemory,
         };
@@ -44,11 +47,8 @@ pub(crate) fn run_there<W: World, C: Caller<W>, S: Sources<W>>(
         files: job.gathered.files.as_slice(),
         presence: job.presence,
     };
-    let mut stop = Unstopped {
-        attempt: Attempt::Remote,
-    };
-    let end = run_remote::<W, C, S, Unstopped, _>(rt, alloc, &remote, farm, sources, &mut stop);
-    hold(alloc, end, RemoteCause::NoMemory)
+    let end = run_remote::<W, C, S, T, _>(rt, job.alloc, &remote, farm, sources, stop);
+    hold(job.alloc, end, RemoteCause::NoMemory)
 }
 
 /// The tree of what was gathered, of which nothing is to be refused.

@@ -34,6 +34,6 @@ pub struct Transcript {
     pub reply: Option<Reply>,
     /// Where the session published.
     pub receipt: Option<Receipt>,
-    /// How each attempt that was started ended.
+    /// How each attempt that was started ended: local before remote, but an end that won a race first.
     pub ends: Items<Ended>,
 }

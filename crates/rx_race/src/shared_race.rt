@@ -1,6 +1,6 @@
 //! A race behind a lock, for attempts in threads of their own.
 
-ghost use Rattle.std.specs.Prelude.{◌≡◌, ◌≢◌, false, true, IfErr, IfNone, IfOk, IfSome};
+ghost use Rattle.std.specs.Prelude.{◌≡◌, ◌≢◌, [], false, true, IfErr, IfNone, IfOk, IfSome};
 ghost use Rattle.rx_race.specs.declared.events.Verdict.TheVariants.{Late as late, Noted as noted, Won as won};
 ghost use Rattle.rx_race.specs.declared.slips.Seat.TheVariants.{Canceller as canceller, Of as of_attempt};
 ghost use Rattle.rx_race.specs.declared.slips.Slip.TheVariants.{Refused as refused, Stopped as stopped};
@@ -41,7 +41,19 @@ impl<K: Contest> SharedRace<K> {
         ensures local { IfOk result (λ made. made.2.attempt ≡ local_attempt) }
         ensures remote { IfOk result (λ made. made.3.attempt ≡ remote_attempt) }
     {
-        let race = Race::new(alloc, plan)?;
+        Ok(SharedRace::of(Race::new(alloc, plan)?, blanks))
+    }
+
+    /// The same of a race that has its memory, and in which nothing happened yet.
+    pub fn of(
+        race: Race,
+        blanks: Blanks,
+    ) -> (SharedRace<K>, CancelPass<K>, StartPass<K>, StartPass<K>)
+        requires race { race ≡ record { plan = K.plan; events = [] } }
+        requires blanks { AreBlank blanks K.local K.remote K.cancel }
+        ensures local { result.2.attempt ≡ local_attempt }
+        ensures remote { result.3.attempt ≡ remote_attempt }
+    {
         let (desk, local, remote, cancel) = SlipDesk::open(blanks);
         let shared = SharedRace {
             held: Mutex::new(Held::open(race, desk)),
@@ -55,7 +67,7 @@ impl<K: Contest> SharedRace<K> {
             attempt: Attempt::Remote,
             ticket: remote,
         };
-        Ok((shared, CancelPass { ticket: cancel }, local, remote))
+        (shared, CancelPass { ticket: cancel }, local, remote)
     }
 
     /// Starts an attempt, where it may start. An attempt of the plan that doesn't fall back is

@@ -49,6 +49,7 @@ pub(crate) fn begin<W: World, C: Caller<W>, T: Stop>(
     ensures own { IfErr result (IsEndOf (IsOwnCause [] [] 0 0 (T.told stop.new))) }
     ensures same { OnOk result (T.told stop.new ≡ T.told stop.old) }
     ensures stop { IfErr result (StopTellsEnd (T.told stop.old) (T.told stop.new)) }
+    ensures attempt { T.attempt stop.new ≡ T.attempt stop.old }
 {
     let mut state = RemoteState::new(alloc, task);
     loop {
@@ -85,6 +86,7 @@ fn first_turn<W: World, C: Caller<W>, T: Stop>(
     ensures stop { IfErr result (λ end. (task : AnyTask) (old : C) →
         IsAsking W.World C.Caller task old caller.old state →
         StopTellsEnd (T.told stop.old) (T.told stop.new) end) }
+    ensures attempt { T.attempt stop.new ≡ T.attempt stop.old }
 {
     let heard = first_heard::<W, C, T>(caller, stop);
     let told = told_in(&heard);
@@ -110,6 +112,7 @@ fn first_heard<W: World, C: Caller<W>, T: Stop>(caller: &mut C, stop: &mut T) ->
     ensures told { TellsOwn C.Caller caller.old (told_in result) }
     ensures own { HeardGives (IsOwnCause [] [] 0 0 (T.told stop.new)) result }
     ensures stop { StopTells (T.told stop.old) (T.told stop.new) (stop_heard result) }
+    ensures attempt { T.attempt stop.new ≡ T.attempt stop.old }
 {
     if let Some(decision) = stop.seen() {
         return Heard::Stopped(decision);

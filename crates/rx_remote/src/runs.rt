@@ -52,6 +52,8 @@ pub fn run_remote<W: World, C: Caller<W>, S: Sources<W>, T: Stop, R: Wait>(
     // A stop that was asked tells the decision of the end, where that is Stopped, and else what it
     // told before: no decision that was told is passed over.
     ensures told { StopTellsEnd (T.told stop.old) (T.told stop.new) result }
+    // It stays the stop of the same attempt.
+    ensures attempt { T.attempt stop.new ≡ T.attempt stop.old }
     // And no file changes that is as the source tree lists it.
     ensures unchanged { S.keeps sources.old → IfSome (S.listed sources.old) (λ entries.
         All (IsAsListed entries) job.now.files.now → IsEndOf IsUnchanged result) }
@@ -89,6 +91,7 @@ fn go_on<W: World, C: Caller<W>, S: Sources<W>, T: Stop, R: Wait>(
         IsEndOf (IsOwnCause job.now.files.now answers
         (S.faults sources.old) (S.faults sources.new) (T.told stop.new)) result) }
     ensures stop { StopTellsEnd (T.told stop.old) (T.told stop.new) result }
+    ensures attempt { T.attempt stop.new ≡ T.attempt stop.old }
 {
     let Begun { going, told } = begun;
     let Ok(key) = action_of(alloc, job.command, &job.tree.root, told.dialect()) else {
@@ -130,6 +133,7 @@ fn run_on<W: World, C: Caller<W>, S: Sources<W>, T: Stop, R: Wait>(
         (λ answers. IsEndOf (IsOwnCause action.now.job.files.now answers
         (S.faults sources.old) (S.faults sources.new) (T.told stop.new)) result) }
     ensures stop { StopTellsEnd (T.told stop.old) (T.told stop.new) result }
+    ensures attempt { T.attempt stop.new ≡ T.attempt stop.old }
 {
     let mut going = going;
     loop {

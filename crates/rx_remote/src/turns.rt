@@ -65,6 +65,7 @@ pub(crate) fn turn<W: World, C: Caller<W>, S: Sources<W>, T: Stop, R: Wait>(
         (S.faults sources.old) (S.faults sources.new) (T.told stop.new)))) }
     ensures same { OnOk result (T.told stop.new ≡ T.told stop.old) }
     ensures told { IfErr result (StopTellsEnd (T.told stop.old) (T.told stop.new)) }
+    ensures attempt { T.attempt stop.new ≡ T.attempt stop.old }
 {
     let Going { state, ask } = going;
     let heard = listen::<W, C, S, T, R>(rt, alloc, action, caller, sources, stop, &ask);
@@ -99,6 +100,7 @@ fn listen<W: World, C: Caller<W>, S: Sources<W>, T: Stop, R: Wait>(
         (λ answers. HeardGives (IsOwnCause action.now.job.files.now answers
         (S.faults sources.old) (S.faults sources.new) (T.told stop.new)) result) }
     ensures told { StopTells (T.told stop.old) (T.told stop.new) (stop_heard result) }
+    ensures attempt { T.attempt stop.new ≡ T.attempt stop.old }
 {
     if let Some(decision) = stop.seen() {
         return Heard::Stopped(decision);

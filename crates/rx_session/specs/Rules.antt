@@ -122,8 +122,7 @@ bad_field raw =
 -- the least field whose value isn't served yet
 unfoldable pub unbuilt_field : RawRequest → Option ℕ
 unbuilt_field raw =
-    if raw.strategy == 4 then Some 6
-    else if not (raw.watch == 0) then Some 13
+    if not (raw.watch == 0) then Some 13
     else None
 
 -- ---- the request

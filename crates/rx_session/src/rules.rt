@@ -121,9 +121,6 @@ fn bad_last_field(raw: &RawRequest) -> Option<u32>
 fn unbuilt_field(raw: &RawRequest) -> Option<u32>
     ensures { result ≡ unbuilt_field raw.now }
 {
-    if raw.strategy == RACING {
-        return Some(request::STRATEGY);
-    }
     if raw.watch != 0 {
         return Some(request::WATCH);
     }

@@ -1,7 +1,7 @@
 use Rattle.std.proofs.Common.{subst, ◌∙◌}
 use Rattle.std.proofs.lemmas.Result.{err_from_is_err_and}
 use Rattle.rx_scan.specs.Gathering.{IsOrderly}
-use Rattle.rx_engine.proofs.AnswerLemmas.{asked-is, gathered-for, none-gathered}
+use Rattle.rx_engine.proofs.AnswerLemmas.{asked-is, gathered-for, none-gathered, not-gathered}
 use Rattle.rx_engine.proofs.AttemptLemmas.{fits-farm}
 use Rattle.rx_engine.proofs.answers.prepare.Goals as goal
 
@@ -19,6 +19,12 @@ pub returns-in_err-inputs-clause-err : goal.returns-in_err-inputs-clause-err
 returns-in_err-inputs-clause-err g c =
     let p = err_from_is_err_and c.from_residual-in_err-inputs.result c.from_residual-in_err-inputs.ensures.1 in
     rw (p.1, p.2) (none-gathered _ _ _ _ _ _ _ _ _ c.args.parts.now c.args.request.now)
+
+pub returns-in_err-gathered-clause-err : goal.returns-in_err-gathered-clause-err
+returns-in_err-gathered-clause-err g c =
+    let p = err_from_is_err_and c.from_residual-in_err-gathered.result c.from_residual-in_err-gathered.ensures.1 in
+    let asked = asked-is c.in_ok-command.command c.as_slice.result.now c.args.request.now c.in_ok-command.ensures (c.as_slice.ensures ∙ c.in_ok-inputs.ensures) in
+    rw (p.1, p.2) (not-gathered _ _ _ _ _ _ _ _ _ c.args.parts.now c.gather.new.sources _ c.args.request.now c.in_err-gathered.field-0.0 asked c.in_err-gathered.ensures.gathered)
 
 pub returns-clause-ok : goal.returns-clause-ok
 returns-clause-ok g c =

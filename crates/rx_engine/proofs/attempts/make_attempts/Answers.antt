@@ -1,13 +1,16 @@
-use Rattle.std.proofs.Common.{◌∙◌}
+use Rattle.std.proofs.Common.{sym, ◌∙◌}
 use Rattle.rx_engine.specs.Attempts.{whole}
-use Rattle.rx_engine.proofs.AttemptLemmas.{both-made}
+use Rattle.rx_engine.proofs.MadeLemmas.{made-in-turn, made-raced}
 use Rattle.rx_engine.proofs.attempts.make_attempts.Goals as goal
+
+pub returns-then-has_both-clause-made : goal.returns-then-has_both-clause-made
+returns-then-has_both-clause-made g c =
+    made-raced _ c.args.job.now.gathered.now c.args.job.now.accept_cached c.args.parts c.race_both-raced.result.1
+    (whole c.race_both-raced.result.0.here) (whole c.race_both-raced.result.0.there) c.kept_and_won.result c.race_both-raced.result.0.first
+    (sym c.has_both.ensures ∙ c.if-has_both.true) c.race_both-raced.ensures.raced c.kept_and_won.ensures
 
 pub returns-clause-made : goal.returns-clause-made
 returns-clause-made g c =
-    let there = c.start_there-there.ensures in
-    let here = c.start_here-here.ensures in
-    both-made _ _ _ _ _ _ _ _ _ c.args.parts.now c.start_there-there.new.parts c.start_here-here.new.parts c.args.job.now.gathered.now c.args.job.now.accept_cached
-    (whole c.start_here-here.result) (whole c.start_there-there.result) c.kept_and_won.result
-    (record { tree_local = there.tree_local; benches = there.benches }) (record { tree_remote = here.tree_remote; farm = here.farm })
-    there.ended there.started here.ended (here.started ∙ c.starts_here-starts.ensures) c.kept_and_won.ensures
+    made-in-turn _ c.args.job.now.gathered.now c.args.job.now.accept_cached c.args.parts c.take_turns-here.new.parts
+    (whole c.take_turns-here.result.here) (whole c.take_turns-here.result.there) c.kept_and_won-2.result
+    (sym c.has_both.ensures ∙ c.if-has_both.false) c.take_turns-here.ensures.turns c.kept_and_won-2.ensures

@@ -9,7 +9,7 @@ use Rattle.rx_remote.proofs.StopTold.{ends-since}
 use Rattle.rx_remote.proofs.begins.begin.Goals as goal
 
 pub loop-end-init : goal.loop-end-init
-loop-end-init g c = (asked-start g.W.World g.C.Caller c.args.task c.args.caller.now c.new-state.result c.requires c.new-state.ensures, refl)
+loop-end-init g c = (asked-start g.W.World g.C.Caller c.args.task c.args.caller.now c.new-state.result c.requires c.new-state.ensures, refl, refl)
 
 pub first_turn-requires : goal.first_turn-requires
 first_turn-requires g c = c.loop-end.invariant.0.sorted
@@ -50,6 +50,7 @@ loop-end-preserved g c = (
       (first-none g.W.World g.C.Caller c.args.task c.args.caller.now c.first_turn.new.caller c.loop-end.state c.in-Ok.first.told c.in-Ok.first.going c.in-None.is
       (c.in-Ok.ensures.goes_on c.args.task c.args.caller.now c.loop-end.invariant.0.asking)).0),
   c.in-Ok.ensures.same c.args.task c.args.caller.now c.loop-end.invariant.0.asking ∙ c.loop-end.invariant.1,
+  c.in-Ok.ensures.attempt ∙ c.loop-end.invariant.2,
 )
 
 pub loop-end-smaller : goal.loop-end-smaller
@@ -57,3 +58,9 @@ loop-end-smaller g c =
     subst (λ (s : RemoteState). turns_left s.marks phases.Capabilities < turns_left c.loop-end.state.marks phases.Capabilities) (sym c.state_of-state.ensures)
     (first-none g.W.World g.C.Caller c.args.task c.args.caller.now c.first_turn.new.caller c.loop-end.state c.in-Ok.first.told c.in-Ok.first.going c.in-None.is
     (c.in-Ok.ensures.goes_on c.args.task c.args.caller.now c.loop-end.invariant.0.asking)).1
+
+pub returns-in-Err-clause-attempt : goal.returns-in-Err-clause-attempt
+returns-in-Err-clause-attempt g c = c.in-Err.ensures.attempt ∙ c.loop-end.invariant.2
+
+pub returns-in-Some-clause-attempt : goal.returns-in-Some-clause-attempt
+returns-in-Some-clause-attempt g c = c.in-Ok.ensures.attempt ∙ c.loop-end.invariant.2

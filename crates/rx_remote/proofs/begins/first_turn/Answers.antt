@@ -65,6 +65,7 @@ returns-in_default-now g c = record {
       (next-is task a.history Capabilities c.in-Ok.now c.first_heard-heard.result c.in-Ok.next r.going.ask_is (c.in-Ok.ensures.step task a.history r.going.state_is))
       (not-ended c.in-Ok.now c.in_default-now.not-End));
   stop = tt;
+  attempt = c.first_heard-heard.ensures.attempt;
 }
 
 pub returns-in_default-clause-exchanged : goal.returns-in_default-clause-exchanged

@@ -9,6 +9,7 @@ loop-end-init g c = (
   gone-start g.W.World g.C.Caller g.S.Sources c.args.action.now.digest (stored_of c.args.action.now) c.args.action.now.job.files.now
       c.args.caller.now c.args.sources.now c.args.going c.requires.begun,
   refl,
+  refl,
 )
 
 pub turn-requires-clause-begun : goal.turn-requires-clause-begun
@@ -20,6 +21,7 @@ loop-end-preserved g c = (
       c.args.caller.now c.loop-end.caller c.turn.new.caller c.args.sources.now c.loop-end.sources c.turn.new.sources c.args.going c.loop-end.going c.in-Ok.next
       c.loop-end.invariant.0 c.in-Ok.ensures.goes_on c.in-Ok.ensures.exchanged c.in-Ok.ensures.reads,
   c.in-Ok.ensures.same ∙ c.loop-end.invariant.1,
+  c.in-Ok.ensures.attempt ∙ c.loop-end.invariant.2,
 )
 
 pub loop-end-smaller : goal.loop-end-smaller
@@ -46,3 +48,6 @@ returns-in-Err-clause-own g c =
 pub returns-in-Err-clause-stop : goal.returns-in-Err-clause-stop
 returns-in-Err-clause-stop g c =
     ends-since (g.T.Stop.told c.args.stop.now) (g.T.Stop.told c.loop-end.stop) (g.T.Stop.told c.turn.new.stop) c.in-Err.end c.loop-end.invariant.1 c.in-Err.ensures.told
+
+pub returns-in-Err-clause-attempt : goal.returns-in-Err-clause-attempt
+returns-in-Err-clause-attempt g c = c.in-Err.ensures.attempt ∙ c.loop-end.invariant.2

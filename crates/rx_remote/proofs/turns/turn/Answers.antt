@@ -79,4 +79,5 @@ returns g c = record {
       (next-is b.task b.under.history c.args.going.ask c.in-Ok.now c.listen-heard.result c.in-Ok.next b.under.running.going.ask_is s)
       (not-ended c.in-Ok.now c.in_default-now.not-End));
   told = tt;
+  attempt = c.listen-heard.ensures.attempt;
 }

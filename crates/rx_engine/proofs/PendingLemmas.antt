@@ -1,0 +1,159 @@
+-- What a session comes to before anything is published.
+use Rattle.std.proofs.Common.{◌≡◌, ◌⊎◌, ◌≤◌, ℕ, List, [], ap, arith, inl, inr, refl, subst, sym}
+use Rattle.std.specs.Prelude.{Err, IfOk, IfSome, None, Ok, Option, Result, Some}
+use Rattle.std.specs.Io.KnownBytes.{Consumes, IsAtEnd}
+use Rattle.rx_board.specs.declared.journal.Receipt.{Receipt}
+use Rattle.rx_session.specs.declared.bad.Bad.{Bad}
+use Rattle.rx_session.specs.declared.bad.BadReason.TheVariants.{CutShort}
+use Rattle.rx_session.specs.declared.bad.SessionFault.{SessionFault}
+use Rattle.rx_session.specs.declared.bad.SessionFault.TheVariants as faults
+use Rattle.rx_session.specs.declared.replies.Reply.{Reply}
+use Rattle.rx_session.specs.declared.replies.Reply.TheVariants as reply
+use Rattle.rx_session.specs.declared.requests.Request.{Request}
+use Rattle.rx_session.specs.Bad.{Decodes}
+use Rattle.rx_session.specs.Frames.{EndsRead, request_of}
+use Rattle.rx_session.proofs.DecodedLemmas.{outputs-below}
+use Rattle.rx_world.specs.declared.attempts.Ended.{Ended}
+use Rattle.rx_exec_messages.specs.declared.callers.Caller as callers
+use Rattle.rx_world.specs.declared.benches.Bench as benches
+use Rattle.rx_world.specs.declared.benches.BenchMaker as makers
+use Rattle.rx_world.specs.declared.sources.Sources as sources
+use Rattle.rx_world.specs.declared.streams.Sink as sinks
+use Rattle.rx_world.specs.declared.streams.Source as inputs
+use Rattle.rx_world.specs.declared.world.World as world
+use Rattle.rx_world.specs.Causes.{Rose}
+use Rattle.rx_engine.specs.declared.answered.Answered.{Answered}
+use Rattle.rx_engine.specs.declared.desk.Parts.{Parts}
+use Rattle.rx_engine.specs.declared.pending.Stage.{Stage}
+use Rattle.rx_engine.specs.declared.pending.Stage.TheVariants as stages
+use Rattle.rx_engine.specs.Answered.{IsPlain, bad_request, reply_no_memory}
+use Rattle.rx_engine.specs.Answers.{Answers, Grounds, HasOutputsBelow, IsUnrun, grounds}
+use Rattle.rx_engine.specs.Attempts.{AreLaterThan}
+use Rattle.rx_engine.specs.Meanings.{Meanings, meanings}
+use Rattle.rx_engine.specs.Pending.{HasAnswered, IsPending, IsRefusalOf, IsStage, IsStageOf}
+use Rattle.rx_engine.specs.Ready.{AnswersAs, IsReadyAs}
+use Rattle.rx_engine.specs.Session.{IsAsked, IsUntouched, Replies}
+use Rattle.rx_engine.proofs.AnswerLemmas.{tells-none}
+use Rattle.rx_engine.proofs.AttemptLemmas.{idle-none}
+use Rattle.rx_engine.proofs.Moves.{idle-move, same-none, tells-in, tells-move}
+use Rattle.rx_engine.proofs.ReplyMoves.{AreSame, stage-move}
+use Rattle.rx_engine.proofs.Unpublished.{bad, given-up as given-up-unpublished}
+
+module _ {P W B : Type 0} (m : Meanings P W B) (root : List ℕ) (g : Grounds P) (read : List ℕ) where
+  replies-asked : (asked : Request) (receipt : Option Receipt) (ends : List Ended) (answer : Reply)
+      → IsAsked m root g read (Some asked) asked → Answers m g asked receipt ends answer → Replies m root g read (Some asked) receipt ends answer
+  replies-asked asked receipt ends (reply.Done exit stdout stderr from number placed) i a = (asked, i, a)
+  replies-asked asked receipt ends (reply.PlaceFault number placed) i a = (asked, i, a)
+  replies-asked asked receipt ends (reply.NotRemotable why) i a = (asked, i, a)
+  replies-asked asked receipt ends (reply.InputMissing path) i a = (asked, i, a)
+  replies-asked asked receipt ends (reply.InputChanged input) i a = (asked, i, a)
+  replies-asked asked receipt ends (reply.SourceFault path) i a = (asked, i, a)
+  replies-asked asked receipt ends (reply.TooLarge limit n path) i a = (asked, i, a)
+  replies-asked asked receipt ends (reply.AllFailed failures) i a = (asked, i, a)
+  replies-asked asked receipt ends reply.JournalFull i a = (asked, i, a)
+  replies-asked asked receipt ends (reply.Blocked path) i a = (asked, i, a)
+  replies-asked asked receipt ends (reply.BadRequest bad) i a = absurd a
+  replies-asked asked receipt ends reply.NoMemory i a = (i.decoded, a.0, a.1)
+
+  pub ready-asked : (asked : Request) (ends : List Ended) (answered : Option Answered) → IsAsked m root g read (Some asked) asked → AnswersAs m g asked ends answered
+      → IsReadyAs m root g read (Some asked) ends answered
+  ready-asked asked ends None i h = (i.decoded, h)
+  ready-asked asked ends (Some a) i h = (h.0, replies-asked asked a.receipt ends a.reply i h.1)
+
+  -- where memory ran out there is nothing to be ready, or the reply that says so
+  given-up : (ends : List Ended) (answered : Option Answered) → IsUnrun m g ends → IfSome answered (IsPlain reply_no_memory) → IsReadyAs m root g read None ends answered
+  given-up ends None u h = (tt, u)
+  given-up ends (Some a) u h = (h.frame, rw h.reply_is (tt, u, h.receipt_is))
+
+  ready-bad : (bad : Bad) (ends : List Ended) (answered : Option Answered)
+      → request_of root read ≡ Err bad → IsUntouched m g ends → (bad.reason ≡ CutShort → IsAtEnd (m.input.left g.after))
+      → IfSome answered (λ a. IsPlain (bad_request bad) a ⊎ IsPlain reply_no_memory a)
+      → IsReadyAs m root g read None ends answered
+  ready-bad bad ends None d u cut h = (tt, u.unrun)
+  ready-bad bad ends (Some a) d u cut (inl h) = (h.frame, rw h.reply_is (d, refl, u, h.receipt_is, cut))
+  ready-bad bad ends (Some a) d u cut (inr h) = given-up ends (Some a) u.unrun h
+
+  -- what was made of a request
+  pub stage-asked : (asked : Request) (stage : Stage) → IsAsked m root g read (Some asked) asked → IsStageOf m g asked stage → IsStage m root g read (Some asked) stage
+  stage-asked asked stages.Lost i h = absurd h
+  stage-asked asked (stages.Refused answered) i h = (ready-asked asked [] answered i h.0, h.1)
+  stage-asked asked (stages.Attempted attempted) i h = (asked, i, h)
+
+  -- what was made of bytes that are no request
+  pub stage-refused : (fault : SessionFault) (stage : Stage) → IsUntouched m g [] → Decodes (λ x. x) (Err fault) (request_of root read) → EndsRead (m.input.left g.after) (Err fault)
+      → (fault ≡ faults.ReadFault → Rose (m.input.faults g.before) (m.input.faults g.after)) → IsRefusalOf fault stage → IsStage m root g read None stage
+  stage-refused (faults.Bad why) (stages.Refused answered) u d end rose h = (ready-bad why [] answered d u end h, bad answered why h)
+  stage-refused (faults.Bad why) stages.Lost u d end rose h = absurd h
+  stage-refused (faults.Bad why) (stages.Attempted attempted) u d end rose h = absurd h
+  stage-refused faults.NoMemory (stages.Refused answered) u d end rose h = (given-up [] answered u.unrun h, given-up-unpublished answered h)
+  stage-refused faults.NoMemory stages.Lost u d end rose h = absurd h
+  stage-refused faults.NoMemory (stages.Attempted attempted) u d end rose h = absurd h
+  stage-refused faults.ReadFault stages.Lost u d end rose h = (refl, u, rose refl)
+  stage-refused faults.ReadFault (stages.Refused answered) u d end rose h = absurd h
+  stage-refused faults.ReadFault (stages.Attempted attempted) u d end rose h = absurd h
+
+-- a request that was read has its outputs below its working directory
+pub read-outputs : (root read : List ℕ) (asked : Result Request SessionFault) → Decodes (λ request. request) asked (request_of root read) → IfOk asked HasOutputsBelow
+read-outputs root read (Ok request) h = outputs-below root read request h
+read-outputs root read (Err fault) h = tt
+
+module _ {W I O T L M B R C : Type 0} (w : world.Ghosts W) (i : inputs.Ghosts I) (o : sinks.Ghosts O) (t : sources.Ghosts T W) (l : sources.Ghosts L W) (k : makers.Ghosts M W B) (b : benches.Ghosts B W)
+    (v : sources.Ghosts R W) (z : callers.Ghosts C W) where
+  -- a request was read, and this was made of it
+  pub pending-request : (root : List ℕ) (p q : Parts I O T L M R C) (source : I) (read : List ℕ) (request : Request) (stage : Stage)
+      → q.input ≡ source → q.output ≡ p.output → Consumes (i.left p.input) (i.left source) read
+      → Decodes (λ x. x) (Ok request) (request_of root read) → EndsRead (i.left source) (Ok request) → i.faults p.input ≤ i.faults source
+      → HasAnswered (meanings w i o t l k b v z) request (record p { input = source }) q stage → AreLaterThan (meanings w i o t l k b v z) (record p { input = source }) q
+      → IsPending (meanings w i o t l k b v z) root p q (record { read = read; request = Some request; stage = stage })
+  pending-request root p q source read request stage same_in same_out consumed decodes ended risen answered later =
+      let first : Parts I O T L M R C = record p { input = source } in
+      let same : AreSame first q p q = record { tree_before = refl; tree_after = refl; before = record { here = record { tree_local = refl; benches = refl }; there = record { tree_remote = refl; farm = refl } }; after = same-none q; input_after = refl } in
+      record {
+        answers = answered.answers;
+        lists = answered.lists;
+        view = answered.view;
+        read = subst (λ x. Consumes (i.left p.input) (i.left x) read) (sym same_in) consumed;
+        looked = tells-move w i o t l k b v z first q p q answered.answers answered.lists refl refl answered.looked;
+        stage = stage-asked (meanings w i o t l k b v z) root _ read request stage
+            (record { request_is = refl; decoded = decodes; ended = subst (λ x. EndsRead (i.left x) (Ok request)) (sym same_in) ended })
+            (stage-move w i o t l k b v z first q p q same answered.answers answered.lists answered.view request stage answered.stage_is);
+        unwritten = ap o.taken same_out;
+        uncounted = ap o.faults same_out;
+        later = record {
+          input = subst (λ x. i.faults p.input ≤ i.faults x) (sym same_in) risen;
+          output = subst (λ x. o.faults p.output ≤ o.faults x) (sym same_out) (omega arith);
+          tree = answered.looked.gives.later;
+          attempts = record { tree_local = later.tree_local; benches = later.benches; tree_remote = later.tree_remote; farm = later.farm };
+        };
+      }
+
+  -- the bytes are no request
+  pub pending-refusal : (root : List ℕ) (p : Parts I O T L M R C) (source : I) (read : List ℕ) (fault : SessionFault) (stage : Stage)
+      → Consumes (i.left p.input) (i.left source) read
+      → Decodes (λ x. x) (Err fault) (request_of root read) → EndsRead (i.left source) (Err fault) → i.faults p.input ≤ i.faults source
+      → (fault ≡ faults.ReadFault → Rose (i.faults p.input) (i.faults source)) → IsRefusalOf fault stage
+      → IsPending (meanings w i o t l k b v z) root p (record p { input = source }) (record { read = read; request = None; stage = stage })
+  pending-refusal root p source read fault stage consumed decodes ended risen rose refused =
+      let last : Parts I O T L M R C = record p { input = source } in
+      record {
+        answers = [];
+        lists = [];
+        view = [];
+        read = consumed;
+        looked = tells-move w i o t l k b v z p p p last [] [] refl refl (tells-in w t (λ (x : Parts I O T L M R C). x.tree) p p [] [] (tells-none w t p.tree));
+        stage = stage-refused (meanings w i o t l k b v z) root (grounds p last [] [] []) read fault stage
+            (record {
+              answers_are = refl;
+              lists_are = refl;
+              unrun = record { idle = idle-move w i o t l k b v z p p p last (same-none p) (record { here = record { tree_local = refl; benches = refl }; there = record { tree_remote = refl; farm = refl } }) (idle-none w i o t l k b v z p); ends_are = refl };
+            })
+            decodes ended rose refused;
+        unwritten = refl;
+        uncounted = refl;
+        later = record {
+          input = risen;
+          output = omega arith;
+          tree = omega arith;
+          attempts = record { tree_local = omega arith; benches = omega arith; tree_remote = omega arith; farm = omega arith };
+        };
+      }

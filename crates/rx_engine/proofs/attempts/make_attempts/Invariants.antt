@@ -1,0 +1,8 @@
+use Rattle.rx_world.specs.declared.attempts.Plan.TheVariants.{Both}
+use Rattle.rx_engine.proofs.attempts.make_attempts.Given as goal
+
+abbrev pub ghosts-race_both-K-Seats : goal.ghosts-race_both-K-Seats
+ghosts-race_both-K-Seats g a = record { local = a.blanks.local.name; remote = a.blanks.remote.name; cancel = a.blanks.cancel.name }
+
+abbrev pub ghosts-race_both-K-Contest : goal.ghosts-race_both-K-Contest
+ghosts-race_both-K-Contest g a = record { plan = Both }

@@ -1,5 +1,0 @@
-use Rattle.rx_engine.proofs.ReadyLemmas.{read-outputs}
-use Rattle.rx_engine.proofs.sessions.read_asked.Goals as goal
-
-pub returns-clause-outputs : goal.returns-clause-outputs
-returns-clause-outputs g c = read-outputs c.args.root.now _ c.read_request.result c.read_request.ensures.request

@@ -1,0 +1,163 @@
+//! A session from its attempts to its transcript: the winner is published, and the reply written.
+//! Nothing here reads or runs.
+
+ghost use Rattle.std.specs.Prelude.{◌≡◌, ◌≤◌, IfSome};
+ghost use Rattle.std.specs.Io.KnownBytes.{Appends};
+ghost use Rattle.rx_world.specs.Causes.{Rose};
+ghost use Rattle.rx_engine.specs.Gathers.{AnswersMade};
+ghost use Rattle.rx_engine.specs.Journal.{IsBoardAfter};
+ghost use Rattle.rx_engine.specs.Meanings.{meanings};
+ghost use Rattle.rx_engine.specs.Pending.{IsConcluded, IsFirstWon};
+ghost use Rattle.rx_engine.specs.Ready.{EntersHandled, Finishes, IsLost};
+
+use crate::answered::{Answered, fail, or_give_up};
+use crate::attempts::Attempted;
+use crate::desk::{Desk, Parts};
+use crate::pending::{Pending, Stage};
+use crate::publishing::publish;
+use crate::transcripts::{Ending, Transcript};
+use rx_base::{Bytes, Items};
+use rx_board::Board;
+use rx_session::{Request, write_frame};
+use rx_world::{Ended, Place, Sink, World};
+use std::alloc::Global;
+
+/// What was done of a request: how its attempts ended, and the answer. Without an answer, memory ran
+/// out even for the one which says so.
+#[derive(Drop)]
+pub(crate) struct Handled {
+    pub ends: Items<Ended>,
+    pub answered: Option<Answered>,
+}
+
+/// The request, and what was done of it.
+#[derive(Drop)]
+pub(crate) struct Ready {
+    pub request: Option<Request>,
+    pub handled: Handled,
+}
+
+/// Publishes what won, if anything did, and writes the reply.
+pub(crate) fn conclude<W: World, D: Desk<W>, P: Place>(
+    alloc: Global,
+    number: u32,
+    pending: Pending,
+    parts: &mut Parts<D::I, D::O, D::T, D::L, D::B, D::R, D::C>,
+    board: &mut Board<P>,
+) -> Transcript
+    ensures concluded { IsConcluded
+        (meanings W.World D.I.Source D.O.Sink D.T.Sources D.L.Sources D.B.BenchMaker D.B.B.Bench
+        D.R.Sources D.C.Caller)
+        P.Place pending parts.old parts.new board.old board.new result }
+    ensures number { result.number ≡ number }
+    ensures board { IsBoardAfter P.Place board.old board.new }
+{
+    let Pending {
+        read,
+        request,
+        stage,
+    } = pending;
+    let handled = match stage {
+        Stage::Lost => return lost(alloc, number, read),
+        Stage::Refused { answered } => Handled {
+            ends: Items::new(alloc),
+            answered,
+        },
+        Stage::Attempted { attempted } => settle(alloc, number, attempted, board),
+    };
+    let ready = Ready { request, handled };
+    finish(alloc, number, read, ready, &mut parts.output)
+}
+
+/// Publishes the outcome that won, and makes the answer ready.
+fn settle<P: Place>(
+    alloc: Global,
+    session: u32,
+    attempted: Attempted,
+    board: &mut Board<P>,
+) -> Handled
+    ensures ends { result.ends ≡ attempted.ends }
+    ensures answered { IfSome result.answered (AnswersMade attempted.won attempted.ends) }
+    ensures journal { IsFirstWon attempted →
+        EntersHandled P.Place board.old board.new session result }
+    ensures board { IsBoardAfter P.Place board.old board.new }
+{
+    let Attempted { ends, won } = attempted;
+    let answered = match won {
+        Some(won) => publish(alloc, session, won, board),
+        None => fail(alloc, ends.as_slice()),
+    };
+    Handled {
+        answered: or_give_up(alloc, answered),
+        ends,
+    }
+}
+
+/// Writes the answer that was made ready, if there is one, and keeps what the session did.
+fn finish<O: Sink>(
+    alloc: Global,
+    number: u32,
+    read: Bytes,
+    ready: Ready,
+    output: &mut O,
+) -> Transcript
+    ensures written { Appends (O.taken output.old) (O.taken output.new) result.written }
+    ensures finished { Finishes number read ready result }
+    ensures later { O.faults output.old ≤ O.faults output.new }
+    ensures sink { result.ending ≡ Ending.SinkLost →
+        Rose (O.faults output.old) (O.faults output.new) }
+{
+    let Ready { request, handled } = ready;
+    let Handled { ends, answered } = handled;
+    match answered {
+        None => Transcript {
+            number,
+            ending: Ending::NoMemory,
+            read,
+            written: Bytes::new(alloc),
+            request,
+            reply: None,
+            receipt: None,
+            ends,
+        },
+        Some(answered) => {
+            let Answered {
+                reply,
+                frame,
+                receipt,
+            } = answered;
+            let mut frame = frame;
+            let (count, outcome) = write_frame(output, &frame);
+            frame.truncate(count);
+            Transcript {
+                number,
+                ending: match outcome {
+                    Ok(()) => Ending::Replied,
+                    Err(_) => Ending::SinkLost,
+                },
+                read,
+                written: Bytes::from_vec(frame),
+                request,
+                reply: Some(reply),
+                receipt,
+                ends,
+            }
+        }
+    }
+}
+
+/// The transcript of a session whose input was lost.
+fn lost(alloc: Global, number: u32, read: Bytes) -> Transcript
+    ensures { IsLost number read result }
+{
+    Transcript {
+        number,
+        ending: Ending::SourceLost,
+        read,
+        written: Bytes::new(alloc),
+        request: None,
+        reply: None,
+        receipt: None,
+        ends: Items::new(alloc),
+    }
+}
