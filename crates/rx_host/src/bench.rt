@@ -3,10 +3,10 @@
 ghost use Rattle.std.specs.Prelude.{◌≡◌, None, IfOk, IfSome};
 
 use crate::below::Below;
-use crate::faults::Faults;
 use crate::looks::is_executable;
 use crate::world::HostWorld;
 use rx_base::{Bytes, RelPath, TryClone};
+use rx_streams::Faults;
 use rx_world::{Bench, Command, Exit, Failed, FileOut, Refused};
 use std::fs::Files;
 use std::io::{Error, ErrorKind};

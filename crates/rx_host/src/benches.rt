@@ -3,9 +3,9 @@
 ghost use Rattle.std.specs.Prelude.{◌≡◌, None, IfOk};
 
 use crate::bench::HostBench;
-use crate::faults::Faults;
 use crate::names::FreshNames;
 use crate::world::HostWorld;
+use rx_streams::Faults;
 use rx_world::{BenchMaker, Failed};
 use std::fs::{DirBuilder, Files};
 use std::io::{Error, ErrorKind};

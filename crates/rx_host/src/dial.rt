@@ -2,8 +2,8 @@
 
 ghost use Rattle.std.specs.Prelude.{◌≡◌, IfOk, false};
 
-use crate::faults::Faults;
 use crate::link::HostLink;
+use rx_streams::Faults;
 use rx_world::{Dial, Failed};
 use std::io;
 use std::io::{Eprint, Error, ErrorKind};

@@ -4,10 +4,10 @@ ghost use Rattle.std.specs.Prelude.{◌≡◌, [], None, IfOk};
 ghost use Rattle.rx_world.specs.Sources.{HasBytes};
 
 use crate::below::Below;
-use crate::faults::Faults;
 use crate::looks::{content_mark, look_with, time_mark};
 use crate::world::HostWorld;
 use rx_base::{Bytes, Items, RelPath};
+use rx_streams::Faults;
 use rx_world::{Failed, Found, Look, Refused, Sources};
 use std::fs::{Files, Metadata};
 use std::io;

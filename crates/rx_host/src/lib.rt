@@ -8,7 +8,6 @@ mod bench;
 mod benches;
 mod dial;
 mod farm;
-mod faults;
 mod files;
 mod link;
 #[cfg(test)]
@@ -17,11 +16,8 @@ mod listener;
 mod listing;
 mod looks;
 mod names;
-mod pieces;
 mod place;
 mod seeds;
-mod sockets;
-mod streams;
 #[cfg(test)]
 mod tests;
 mod world;
@@ -34,7 +30,6 @@ pub use files::HostSources;
 pub use link::HostLink;
 pub use listener::HostListener;
 pub use place::HostPlace;
+pub use rx_streams::{HostSink, HostSource, SocketSink, SocketSource};
 pub use seeds::draw_seed;
-pub use sockets::{SocketSink, SocketSource};
-pub use streams::{HostSink, HostSource};
 pub use world::HostWorld;

@@ -2,8 +2,7 @@
 
 ghost use Rattle.std.specs.Prelude.{◌≡◌, IfOk, None, false};
 
-use crate::faults::Faults;
-use crate::pieces::{read_some, write_some};
+use rx_streams::{Faults, read_some, write_some};
 use rx_world::{Failed, Link};
 use std::io;
 use std::net::TcpStream;

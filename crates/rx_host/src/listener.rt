@@ -3,8 +3,7 @@
 ghost use Rattle.std.specs.Prelude.{◌≡◌, ◌≤◌, ℕ};
 ghost use Rattle.rx_world.specs.Causes.{HasCause, Rose};
 
-use crate::faults::Faults;
-use crate::sockets::{Socket, SocketSink, SocketSource, ends_of};
+use rx_streams::{Faults, Socket, SocketSink, SocketSource, ends_of};
 use rx_world::Failed;
 use std::fs::{Files, Permissions};
 use std::io::{Eprint, Error, ErrorKind};
@@ -12,7 +11,12 @@ use std::marker::Model;
 use std::net::{Net, TcpListener, TcpStream};
 use std::os::unix::fs::{FileTypeExt, PermissionsExt};
 use std::os::unix::net::{UnixListener, UnixStream};
+use std::time::Duration;
 use std::{fs, io};
+
+/// How long a client may send nothing while its request is read, or take nothing of its reply. Then
+/// its session is lost, so that a client that hangs doesn't hold up the others for longer.
+const CLIENT_SILENCE_SECONDS: u64 = 60;
 
 /// The mode of the socket's file: its owner alone may connect.
 const SOCKET_MODE: u32 = 0o600;
@@ -118,6 +122,7 @@ fn accept_one(listening: &Listening) -> io::Result<(SocketSource, SocketSink)> {
             Socket::tcp(stream)?
         }
     };
+    socket.limit_silence(Duration::from_secs(CLIENT_SILENCE_SECONDS))?;
     ends_of(socket)
 }
 

@@ -3,9 +3,9 @@
 ghost use Rattle.std.specs.Prelude.{◌≡◌, None};
 
 use crate::below::Below;
-use crate::faults::Faults;
 use crate::names::FreshNames;
 use rx_base::RelPath;
+use rx_streams::Faults;
 use rx_world::{Failed, Place};
 use std::fs::Files;
 use std::io::{Error, ErrorKind};

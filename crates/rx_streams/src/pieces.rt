@@ -11,7 +11,7 @@ use std::io::{Error, ErrorKind, Print, Read, Write};
 const TRIES: u32 = 4096;
 
 /// One read.
-pub(crate) fn read_some<I: Read>(input: &mut I, into: &mut [u8]) -> io::Result<usize>
+pub fn read_some<I: Read>(input: &mut I, into: &mut [u8]) -> io::Result<usize>
     ensures bound { ReadsAtMost result into.new }
     ensures bytes { ReadConsumes (I.remaining input.old) (I.remaining input.new) result into.new }
 {
@@ -26,7 +26,7 @@ pub(crate) fn read_some<I: Read>(input: &mut I, into: &mut [u8]) -> io::Result<u
 }
 
 /// One write of a printer, which takes something of a piece that has something.
-pub(crate) fn print_some(output: &impl Print, piece: &[u8]) -> io::Result<usize>
+pub fn print_some(output: &impl Print, piece: &[u8]) -> io::Result<usize>
     ensures bound { WritesAtMost result piece.now }
     ensures some { IfOk result (λ count. count ≡ 0 → piece.now ≡ []) }
 {
@@ -45,7 +45,7 @@ pub(crate) fn print_some(output: &impl Print, piece: &[u8]) -> io::Result<usize>
 }
 
 /// One write of a writer, which takes something of a piece that has something.
-pub(crate) fn write_some<W: Write>(output: &mut W, piece: &[u8]) -> io::Result<usize>
+pub fn write_some<W: Write>(output: &mut W, piece: &[u8]) -> io::Result<usize>
     ensures bound { WritesAtMost result piece.now }
     ensures some { IfOk result (λ count. count ≡ 0 → piece.now ≡ []) }
 {

@@ -1,6 +1,6 @@
-//! Connections of clients: streams over a Unix socket or over TCP. Nothing is told of their bytes.
+//! Connections between a client and a proxy: streams over a Unix socket or over TCP of this machine. Nothing is told of their bytes.
 
-ghost use Rattle.std.specs.Prelude.{◌≡◌, ℕ, IfOk, None, []};
+ghost use Rattle.std.specs.Prelude.{◌≡◌, ◌<◌, ◌↔◌, ℕ, IfOk, IsTrue, None, []};
 ghost use Rattle.std.specs.Io.{ReadsAtMost, WritesAtMost};
 
 use crate::faults::Faults;
@@ -9,24 +9,33 @@ use rx_world::{Failed, Sink, Source};
 use std::io;
 use std::io::{Error, ErrorKind};
 use std::marker::Model;
-use std::net::TcpStream;
+use std::net::{Ipv4Addr, Net, Shutdown, SocketAddr, TcpStream};
 use std::os::unix::net::UnixStream;
 use std::time::Duration;
 
-/// How long a client may send nothing while its request is read, or take nothing of its reply. Then
-/// its session is lost, so that a client that hangs doesn't hold up the others for longer.
-pub(crate) const CLIENT_SILENCE_SECONDS: u64 = 60;
-
 /// A stream over either kind of socket.
 #[derive(Debug, Drop)]
-pub(crate) enum Socket {
+pub enum Socket {
     Unix { stream: UnixStream },
     Tcp { stream: TcpStream },
 }
 
 impl Socket {
+    /// A connection to the socket of a file.
+    pub fn connect_file(net: &impl Net, path: &str) -> io::Result<Socket> {
+        Ok(Socket::Unix {
+            stream: UnixStream::connect(net, path)?,
+        })
+    }
+
+    /// A connection to a port of 127.0.0.1.
+    pub fn connect_port<R: Net<Stream = TcpStream>>(net: &R, port: u16) -> io::Result<Socket> {
+        let address = SocketAddr::from((Ipv4Addr::LOCALHOST, port));
+        Socket::tcp(TcpStream::connect(net, address)?)
+    }
+
     /// A stream over TCP. What is written leaves at once.
-    pub(crate) fn tcp(stream: TcpStream) -> io::Result<Socket> {
+    pub fn tcp(stream: TcpStream) -> io::Result<Socket> {
         stream.set_nodelay(true)?;
         Ok(Socket::Tcp { stream })
     }
@@ -43,8 +52,10 @@ impl Socket {
         }
     }
 
-    fn limit_silence(&self) -> io::Result<()> {
-        let limit = Some(Duration::from_secs(CLIENT_SILENCE_SECONDS));
+    /// How long the other side may send nothing while bytes are awaited, or take nothing. Without
+    /// it there is no end to that.
+    pub fn limit_silence(&self, limit: Duration) -> io::Result<()> {
+        let limit = Some(limit);
         match self {
             Socket::Unix { stream } => {
                 stream.set_read_timeout(limit)?;
@@ -54,6 +65,14 @@ impl Socket {
                 stream.set_read_timeout(limit)?;
                 stream.set_write_timeout(limit)
             }
+        }
+    }
+
+    /// Closes the sending side of all handles of the stream.
+    fn end_sending(&self) -> io::Result<()> {
+        match self {
+            Socket::Unix { stream } => stream.shutdown(Shutdown::Write),
+            Socket::Tcp { stream } => stream.shutdown(Shutdown::Write),
         }
     }
 
@@ -105,8 +124,9 @@ impl Model for SocketSink {
 }
 
 /// The two directions of a connection.
-pub(crate) fn ends_of(socket: Socket) -> io::Result<(SocketSource, SocketSink)> {
-    socket.limit_silence()?;
+pub fn ends_of(socket: Socket) -> io::Result<(SocketSource, SocketSink)>
+    ensures { IfOk result (λ ends. (ends.0 ≡ 0) × (ends.1 ≡ 0)) }
+{
     let other = socket.try_clone()?;
     let source = SocketSource {
         socket: Some(socket),
@@ -124,6 +144,21 @@ fn closed() -> Error {
 }
 
 impl SocketSource {
+    /// Tells the other side that nothing more comes from this one. Where that fails the connection is
+    /// lost, which the next read tells.
+    pub fn end_sending(&self) {
+        if let Some(socket) = &self.socket {
+            let _ = socket.end_sending();
+        }
+    }
+
+    /// Whether a call failed.
+    pub fn has_failed(&self) -> bool
+        ensures { IsTrue result ↔ (0 < self.now) }
+    {
+        self.faults.count > 0
+    }
+
     /// Closes this direction. What is told of it stays.
     pub fn close(self) -> SocketSource
         ensures { result ≡ self }
@@ -136,6 +171,13 @@ impl SocketSource {
 }
 
 impl SocketSink {
+    /// Whether a call failed.
+    pub fn has_failed(&self) -> bool
+        ensures { IsTrue result ↔ (0 < self.now) }
+    {
+        self.faults.count > 0
+    }
+
     /// Closes this direction. What is told of it stays.
     pub fn close(self) -> SocketSink
         ensures { result ≡ self }

@@ -10,20 +10,20 @@ use std::io::ErrorKind;
 
 /// How often a call failed. It stops at its end.
 #[derive(Debug, Drop)]
-pub(crate) struct Faults {
-    pub(crate) count: u64,
+pub struct Faults {
+    pub count: u64,
 }
 
 impl Faults {
     /// No fault yet.
-    pub(crate) fn new() -> Faults
+    pub fn new() -> Faults
         ensures { result.count ≡ 0 }
     {
         Faults { count: 0 }
     }
 
     /// Counts a fault.
-    pub(crate) fn raise(&mut self)
+    pub fn raise(&mut self)
         ensures later { self.old.count ≤ self.new.count }
         ensures rose { Rose self.old.count self.new.count }
     {
@@ -33,7 +33,7 @@ impl Faults {
     }
 
     /// Counts a fault, whatever the error was.
-    pub(crate) fn failed(&mut self, _error: io::Error) -> Failed
+    pub fn failed(&mut self, _error: io::Error) -> Failed
         ensures later { self.old.count ≤ self.new.count }
         ensures rose { Rose self.old.count self.new.count }
     {
@@ -42,7 +42,7 @@ impl Faults {
     }
 
     /// Counts a fault, unless the error is want of memory.
-    pub(crate) fn refused(&mut self, error: io::Error) -> Refused
+    pub fn refused(&mut self, error: io::Error) -> Refused
         ensures later { self.old.count ≤ self.new.count }
         ensures counted { result ≡ failed → Rose self.old.count self.new.count }
     {
