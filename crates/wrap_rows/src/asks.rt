@@ -63,7 +63,7 @@ fn write_errand(errand: &Errand, answer: &mut Answer) -> Result<(), AllocError> 
     }
 }
 
-fn write_address(address: &Address, answer: &mut Answer) -> Result<(), AllocError> {
+pub(crate) fn write_address(address: &Address, answer: &mut Answer) -> Result<(), AllocError> {
     match address {
         Address::Unix(path) => {
             answer.word("unix")?;

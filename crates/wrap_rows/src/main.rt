@@ -1,19 +1,23 @@
-//! Words, environments and configuration files of `rewrapper`, as rows: see the headings of `stdin`.
+//! Words, environments and configuration files of `rewrapper`, and the whole client, as rows: see the headings of `stdin`.
 #![tactic(auto)]
 
 mod arguments;
 mod asks;
+mod clients;
 mod flags;
+mod outside;
 
+use crate::clients::Scene;
 use rx_rows::{Answer, Calls, Row, RowFault, TableFault, answer_rows};
 use std::alloc::Global;
 use std::io;
 use std::io::BufReader;
 
-/// The calls of the rows. Nothing is kept from row to row.
+/// The calls of the rows, and what the next client meets, which is all that is kept from row to row.
 #[derive(Drop)]
 struct Wraps {
     alloc: Global,
+    scene: Scene,
 }
 
 impl Calls for Wraps {
@@ -26,6 +30,10 @@ impl Calls for Wraps {
             b"flags" => flags::answer_flags(alloc, row, answer),
             b"asked" => asks::answer_asked(alloc, row, answer),
             b"payload" => asks::answer_payload(alloc, row, answer),
+            b"config" => self.scene.config(row, answer),
+            b"proxy" => self.scene.proxy(row, answer),
+            b"full" => self.scene.full(row, answer),
+            b"client" => self.scene.client(row, answer),
             _ => Err(RowFault::NoCall),
         }
     }
@@ -34,6 +42,9 @@ impl Calls for Wraps {
 fn main(rt: HostRuntime) -> Result<(), TableFault> {
     let alloc = rt.alloc();
     let input = BufReader::new(alloc, rt.reader())?;
-    let mut wraps = Wraps { alloc };
+    let mut wraps = Wraps {
+        alloc,
+        scene: Scene::new(alloc),
+    };
     answer_rows(alloc, input, &mut io::writer(&rt), &mut wraps)
 }

@@ -1,0 +1,11 @@
+pub mod Answering
+pub mod Asking
+pub mod Connections
+pub mod Conversing
+pub mod Heard
+pub mod Invoked
+pub mod Lines
+pub mod Said
+pub mod StillTold
+pub mod Telling
+pub mod Wrapping

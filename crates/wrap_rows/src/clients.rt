@@ -1,0 +1,173 @@
+//! A whole client: what it writes, says to the proxy and ends with.
+
+use crate::arguments::{read_text, read_texts, read_variables};
+use crate::asks::write_address;
+use crate::outside::{MemoryConfigs, MemoryConnect, Proxy};
+use rx_base::{Bytes, Text};
+use rx_client::{Invocation, Wrapped, wrap};
+use rx_fakes::{MemorySink, Script};
+use rx_rows::{Answer, Row, RowFault};
+use rx_world::Pair;
+use std::alloc::{AllocError, Global};
+use std::collections::VecDeque;
+use std::mem::replace;
+
+/// What the next client meets.
+#[derive(Debug, Drop)]
+pub(crate) struct Scene {
+    alloc: Global,
+    file: Option<(Text, Bytes)>,
+    proxies: VecDeque<Proxy>,
+    out_fails: Vec<u64>,
+    err_fails: Vec<u64>,
+}
+
+impl Scene {
+    /// No file and no proxy; the streams take all.
+    pub(crate) fn new(alloc: Global) -> Scene {
+        Scene {
+            alloc,
+            file: None,
+            proxies: VecDeque::new(alloc),
+            out_fails: Vec::new(alloc),
+            err_fails: Vec::new(alloc),
+        }
+    }
+
+    /// `config PATH TEXT`: the next client's configuration file.
+    pub(crate) fn config(
+        &mut self,
+        row: &mut Row<'_>,
+        answer: &mut Answer,
+    ) -> Result<(), RowFault> {
+        let path = read_text(self.alloc, row)?;
+        let bytes = Bytes::from_vec(row.text(self.alloc)?);
+        self.file = Some((path, bytes));
+        Ok(answer.word("met")?)
+    }
+
+    /// `proxy BYTES [reads|writes NUMBER]`: one more connection, on which the proxy says this, and
+    /// the client's read or write of this number fails.
+    pub(crate) fn proxy(&mut self, row: &mut Row<'_>, answer: &mut Answer) -> Result<(), RowFault> {
+        let mut proxy = Proxy {
+            bytes: row.bytes(self.alloc)?,
+            reads: Vec::new(self.alloc),
+            writes: Vec::new(self.alloc),
+        };
+        if !row.is_done() {
+            match row.word()? {
+                b"reads" => proxy.reads.push(row.number()?)?,
+                b"writes" => proxy.writes.push(row.number()?)?,
+                _ => return Err(RowFault::BadCall),
+            }
+        }
+        self.proxies.push_back(proxy)?;
+        Ok(answer.word("met")?)
+    }
+
+    /// `full out|err`: the next client's standard output or standard error takes nothing.
+    pub(crate) fn full(&mut self, row: &mut Row<'_>, answer: &mut Answer) -> Result<(), RowFault> {
+        match row.word()? {
+            b"out" => self.out_fails.push(1)?,
+            b"err" => self.err_fails.push(1)?,
+            _ => return Err(RowFault::BadCall),
+        }
+        Ok(answer.word("met")?)
+    }
+
+    /// `client DIRECTORY COUNT NAME VALUE .. WORD ..`: its status and answer, what it wrote, the
+    /// addresses that it called and what it said on each connection. The scene is empty then.
+    pub(crate) fn client(
+        &mut self,
+        row: &mut Row<'_>,
+        answer: &mut Answer,
+    ) -> Result<(), RowFault> {
+        let alloc = self.alloc;
+        let directory = read_text(alloc, row)?;
+        let variables = read_variables(alloc, row)?;
+        let words = read_texts(alloc, row)?;
+        let scene = replace(self, Scene::new(alloc));
+        run(scene, &directory, &variables, &words, answer)
+    }
+}
+
+/// Runs a client in a scene.
+fn run(
+    scene: Scene,
+    directory: &Text,
+    variables: &[Pair],
+    words: &[Text],
+    answer: &mut Answer,
+) -> Result<(), RowFault> {
+    let Scene {
+        alloc,
+        file,
+        proxies,
+        out_fails,
+        err_fails,
+    } = scene;
+    let (path, bytes) = match file {
+        Some(file) => file,
+        None => (Text::new(alloc), Bytes::new(alloc)),
+    };
+    let mut configs = MemoryConfigs {
+        alloc,
+        path,
+        bytes,
+        script: Script::empty(alloc),
+    };
+    let mut connect = MemoryConnect {
+        alloc,
+        ahead: proxies,
+        back: Some(Vec::new(alloc)),
+        called: Some(Vec::new(alloc)),
+        script: Script::empty(alloc),
+    };
+    let mut out = MemorySink::new(alloc, Script::new(out_fails));
+    let mut err = MemorySink::new(alloc, Script::new(err_fails));
+    let invocation = Invocation {
+        words,
+        environment: variables,
+        directory: directory.as_str(),
+    };
+    let wrapped = wrap(
+        alloc,
+        &invocation,
+        &mut configs,
+        &mut connect,
+        &mut out,
+        &mut err,
+    );
+    write_wrapped(&wrapped, &out, &err, answer)?;
+    write_connections(&connect, answer)?;
+    Ok(())
+}
+
+fn write_wrapped(
+    wrapped: &Wrapped,
+    out: &MemorySink,
+    err: &MemorySink,
+    answer: &mut Answer,
+) -> Result<(), AllocError> {
+    answer.number(u64::from(wrapped.status))?;
+    answer.value(&wrapped.answer)?;
+    answer.word("out")?;
+    answer.text(&out.bytes)?;
+    answer.word("err")?;
+    answer.text(&err.bytes)
+}
+
+fn write_connections(connect: &MemoryConnect, answer: &mut Answer) -> Result<(), RowFault> {
+    let (Some(called), Some(back)) = (&connect.called, &connect.back) else {
+        return Err(RowFault::NoMemory);
+    };
+    for address in called {
+        answer.word("called")?;
+        write_address(address, answer)?;
+    }
+    for (_, output) in back {
+        answer.word("said")?;
+        answer.bytes(&output.bytes)?;
+    }
+    Ok(())
+}
