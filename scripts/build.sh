@@ -99,3 +99,14 @@ build_reproxy() {
     build_program "$1" reproxy "$2" --help || return 1
     reproxy=$program
 }
+
+# build_rewrapper TOP LOG: the same of rewrapper, and REWRAPPER.
+build_rewrapper() {
+    if [ -n "${REWRAPPER:-}" ]; then
+        rewrapper=$REWRAPPER
+        [ -x "$rewrapper" ] || { echo "REWRAPPER names no program: $rewrapper" >&2; return 1; }
+        return 0
+    fi
+    build_program "$1" rewrapper "$2" --help || return 1
+    rewrapper=$program
+}
