@@ -20,6 +20,6 @@ trap 'rm -rf "$work"' EXIT
     sed -n '/^#include <\.\.\.>/,/^End of search list/s/^ \(.*\/c++\/.*\)$/\1/p' |
     while read -r folder; do find "$folder" -type f; done | sort -u > "$work/files"
 
-cd "$top/crates/lex_bench"
-"$rt" run < "$work/files" > "$work/log" 2>&1 || { tail -n 20 "$work/log" >&2; exit 1; }
+cd "$top/crates/bench"
+"$rt" run -- lex < "$work/files" > "$work/log" 2>&1 || { tail -n 20 "$work/log" >&2; exit 1; }
 grep 'MB/s' "$work/log"

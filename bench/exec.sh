@@ -1,13 +1,15 @@
 #!/usr/bin/env bash
-# What reproxy adds to a command: the time of `reproxy exec` on the command `true` beside the time of `true` alone, as a ratio.
+# What reproxy adds to a command: the time of `reproxy exec` on the command `true` beside the time of `true` alone, as a ratio; and what
+# the strategy racing adds to the strategy local.
 #
 #   bash bench/exec.sh [ROUNDS] [CALLS]
 #
-# Run by hand, on a machine that does nothing else. Both are measured in one run and by turns: each of ROUNDS rounds (20) times
-# CALLS calls (50) of `true` alone, and then as many of `reproxy exec`, which reads the same Request frame from a file each time.
-# Both are started by this shell, with their streams on files, so that each has the cost of one start in it. The script prints the
-# median over the rounds of the time per call, and the median of the rounds' ratios. The request has no inputs and no outputs, so
-# this measures two processes, a sandbox made and removed, and the frames. The first round warms up and doesn't count.
+# Run by hand, on a machine that does nothing else. All are measured in one run and by turns: each of ROUNDS rounds (20) times
+# CALLS calls (50) of `true` alone, and then as many of `reproxy exec` with each strategy, which reads the same Request frame from
+# a file each time. All are started by this shell, with their streams on files, so that each has the cost of one start in it. The
+# script prints the median over the rounds of the time per call, and the medians of the rounds' ratios and differences. The request
+# has no inputs and no outputs, so this measures two processes, a sandbox made and removed, and the frames; racing has threads and
+# locks besides, and a farm that none of its calls reaches. The first round warms up and doesn't count.
 set -eu
 export LC_ALL=C
 
@@ -16,6 +18,7 @@ rounds=${1:-20}
 calls=${2:-50}
 . "$top/scripts/frames.sh"
 . "$top/scripts/build.sh"
+. "$top/bench/times.sh"
 build_reproxy "$top" "${TMPDIR:-/tmp}/reproxy-build.log"
 
 work=$(mktemp -d /tmp/reproxy-bench.XXXXXX)
@@ -24,53 +27,40 @@ root=$work/root
 mkdir "$root"
 alone=$(type -P true)
 
+# request STRATEGY: its number
 request() {
     number 1 1 # version
     text 2 "$root"
     text 3 "$alone" # words
-    number 6 1      # strategy: local
-    number 7 1      # kind: tool
+    number 6 "$1"
+    number 7 1 # kind: tool
 }
-request > "$work/payload"
-frame 1 "$work/payload" > "$work/request"
-
-# microseconds since 1970
-now() {
-    echo "${EPOCHREALTIME/[.,]/}"
-}
+local=1
+racing=4
+for strategy in "$local" "$racing"; do
+    request "$strategy" > "$work/payload"
+    frame 1 "$work/payload" > "$work/request-$strategy"
+done
 
 run_alone() {
     "$alone" < /dev/null > "$work/out"
 }
 
 run_exec() {
-    "$reproxy" exec --root "$root" < "$work/request" > "$work/out"
+    "$reproxy" exec --root "$root" < "$work/request-$1" > "$work/out" 2> "$work/log"
 }
 
-# a command's time for CALLS calls, in microseconds
-time_of() {
-    local begin end call
-    begin=$(now)
-    for ((call = 0; call < calls; call++)); do
-        "$1"
-    done
-    end=$(now)
-    echo $((end - begin))
-}
-
-# the middle one of the lines
-median() {
-    sort -g | awk '{ line[NR] = $1 } END { print (line[int((NR + 1) / 2)] + line[int((NR + 2) / 2)]) / 2 }'
-}
-
-run_exec
-reply_in_words "$work/out" | grep -qx 'kind: Done' || { echo "the reply is no Done" >&2; exit 1; }
+for strategy in "$local" "$racing"; do
+    run_exec "$strategy"
+    reply_in_words "$work/out" | grep -qx 'kind: Done' || { echo "the reply is no Done" >&2; exit 1; }
+done
 
 for ((round = 0; round <= rounds; round++)); do
     of_alone=$(time_of run_alone)
-    of_exec=$(time_of run_exec)
+    of_local=$(time_of run_exec "$local")
+    of_racing=$(time_of run_exec "$racing")
     if ((round > 0)); then
-        echo "$of_alone $of_exec"
+        echo "$of_alone $of_local $of_racing"
     fi
 done > "$work/times"
 
@@ -78,3 +68,4 @@ echo "$rounds rounds of $calls calls each, by turns"
 echo "$alone alone: $(awk -v n="$calls" '{ print $1 / n }' "$work/times" | median) microseconds a call"
 echo "reproxy exec: $(awk -v n="$calls" '{ print $2 / n }' "$work/times" | median) microseconds a call"
 echo "ratio: $(awk '{ print $2 / $1 }' "$work/times" | median)"
+echo "racing adds: $(awk -v n="$calls" '{ print ($3 - $2) / n }' "$work/times" | median) microseconds a call"

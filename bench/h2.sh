@@ -3,7 +3,7 @@
 #
 #   bash bench/h2.sh [REPEATS]
 #
-# Run by hand. The program h2_bench does each work REPEATS times (5). The script prints the median by the processor's time in
+# Run by hand. The program bench does each work REPEATS times (5). The script prints the median by the processor's time in
 # user mode, so that other programs on the machine count little. DATA comes in frames of 16,384 bytes and pieces of 8,192, and
 # after each piece the events and the output are taken.
 set -eu
@@ -12,14 +12,14 @@ export LC_ALL=C
 top=$(cd "$(dirname "$0")/.." && pwd)
 repeats=${1:-5}
 . "$top/scripts/build.sh"
-build_program "$top" h2_bench "${TMPDIR:-/tmp}/h2-bench-build.log" data 2
+build_program "$top" bench "${TMPDIR:-/tmp}/bench-build.log" h2 data 2
 bench=$program
 
 # median WORK ROUNDS: seconds of the processor
 median() {
     local turn TIMEFORMAT=%U
     for ((turn = 0; turn < repeats; turn++)); do
-        { time "$bench" "$1" "$2" > /dev/null; } 2>&1
+        { time "$bench" h2 "$1" "$2" > /dev/null; } 2>&1
     done | sort -g | awk '{ line[NR] = $1 } END { print (line[int((NR + 1) / 2)] + line[int((NR + 2) / 2)]) / 2 }'
 }
 

@@ -4,7 +4,7 @@
 #
 #   bash bench/tree.sh [ROUNDS]
 #
-# Run by hand, on a machine that does nothing else. The program tree_bench makes each key ROUNDS times (9) and times each round by the
+# Run by hand, on a machine that does nothing else. The program bench makes each key ROUNDS times (9) and times each round by the
 # clock; the script prints the medians. The files lie in a hundred directories whose paths have three to six names, and come in an order
 # of their own; the command is a compile step of sixty words. List and command are made before the first round, so that `build` and
 # `action_of` alone are measured.
@@ -14,7 +14,7 @@ export LC_ALL=C
 top=$(cd "$(dirname "$0")/.." && pwd)
 rounds=${1:-9}
 . "$top/scripts/build.sh"
-build_program "$top" tree_bench "${TMPDIR:-/tmp}/tree-bench-build.log" 10 1
+build_program "$top" bench "${TMPDIR:-/tmp}/bench-build.log" tree 10 1
 bench=$program
 
 # median FIELD BY: the middle one of these fields of the lines, divided
@@ -24,7 +24,7 @@ median() {
 }
 
 for files in 1000 10000 50000; do
-    rounds_of=$("$bench" "$files" "$rounds" 2>&1 > /dev/null)
+    rounds_of=$("$bench" tree "$files" "$rounds" 2>&1 > /dev/null)
     tree=$(echo "$rounds_of" | median 1 "${files}000")
     key=$(echo "$rounds_of" | median 2 1000000)
     echo "$files files: the tree $tree microseconds a file, the key $key milliseconds"

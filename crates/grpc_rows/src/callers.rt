@@ -76,7 +76,7 @@ fn write_digest(digest: Digest, answer: &mut Answer) -> Result<(), AllocError> {
 }
 
 /// Writes a fault.
-fn write_fault(fault: CallFault, answer: &mut Answer) -> Result<(), AllocError> {
+pub(crate) fn write_fault(fault: CallFault, answer: &mut Answer) -> Result<(), AllocError> {
     let CallFault::BlobRefused(digest, code) = fault else {
         return answer.value(&fault);
     };
@@ -131,7 +131,7 @@ fn write_texts(texts: Items<Bytes>, answer: &mut Answer) -> Result<(), AllocErro
 }
 
 /// Writes the name of an execution, and `runs`, or `done` with the exit code and the raw output.
-fn write_operation(operation: Operation, answer: &mut Answer) -> Result<(), AllocError> {
+pub(crate) fn write_operation(operation: Operation, answer: &mut Answer) -> Result<(), AllocError> {
     let Operation { name, done } = operation;
     answer.text(name.as_str().as_bytes())?;
     match done {

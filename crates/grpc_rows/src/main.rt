@@ -8,11 +8,13 @@ mod farms;
 mod headers;
 mod links;
 mod messages;
+mod recorded;
 
 use crate::callers::Callers;
 use crate::events::{bytes_event, list_event, number_32, read_last};
 use crate::headers::read_headers;
 use crate::links::Links;
+use crate::recorded::run_recorded;
 use rx_grpc::Answers;
 use rx_h2conn::ConnEvent;
 use rx_rows::{Answer, Calls, Row, RowFault, TableFault, answer_rows};
@@ -121,6 +123,7 @@ impl Calls for Grpc {
             b"cut_answer" => self.callers.answer(row, 1, answer),
             b"client" => self.callers.client(row, answer),
             b"farm" => self.callers.call(row, answer),
+            b"recorded" => run_recorded(self.alloc, answer),
             _ => Err(RowFault::NoCall),
         }
     }

@@ -5,21 +5,21 @@ use Rattle.std.specs.Option.{option_to_list}
 use Rattle.rx_board.specs.declared.journal.Entry.{Entry}
 use Rattle.rx_engine.specs.declared.transcripts.Transcript.{Transcript}
 use Rattle.rx_engine.specs.Meanings.{Meanings}
-use Rattle.rx_engine.specs.Proxy.{HasStatus, IsLegal}
+use Rattle.rx_engine.specs.Proxy.{HasServingStatus, HasStatus, IsLegal}
 use Rattle.rx_engine.specs.Serves.{RunsDone}
 use Rattle.rx_engine.specs.Words.{Options, options_in, root_in}
 use Rattle.reproxy.specs.Serves.{ServesClients, ServesDesk}
 
 -- where a root was found its desk was made, and the run was over that desk
-pub serves-desk : {P W B : Type 0} (m : Meanings P W B) (Is : P → Type 0) (found : Option (List ℕ)) (limit faults : ℕ) (made : Option P) (desk : P)
-    (left : Option P) (status : ℕ) (journal : List Entry) (handed : List P) (ts : List Transcript)
+pub serves-desk : {D P W B : Type 0} (m : Meanings P W B) (parts : D → P) (Is : D → Type 0) (found : Option (List ℕ)) (limit faults : ℕ) (made : Option D) (desk : D)
+    (left : Option D) (status : ℕ) (journal : List Entry) (handed : List D) (ts : List Transcript)
     → made ≡ Some desk → Is desk
-    → IfSome found (λ root. RunsDone (Some (option_to_list made)) (Some (option_to_list left)) m (λ parts. parts) root limit journal faults handed ts)
+    → IfSome found (λ root. RunsDone (Some (option_to_list made)) (Some (option_to_list left)) m parts root limit journal faults handed ts)
     → IsLegal 1 journal ts
     → IfSome found (λ root. HasStatus (Some (option_to_list made)) (Some (option_to_list left)) 0 0 status ts)
-    → IfSome found (λ root. ServesDesk m Is root limit faults left status journal handed ts)
-serves-desk m Is None limit faults made desk left status journal handed ts made-is is runs legal has = tt
-serves-desk m Is (Some root) limit faults made desk left status journal handed ts made-is is runs legal has = record {
+    → IfSome found (λ root. ServesDesk m parts Is root limit faults left status journal handed ts)
+serves-desk m parts Is None limit faults made desk left status journal handed ts made-is is runs legal has = tt
+serves-desk m parts Is (Some root) limit faults made desk left status journal handed ts made-is is runs legal has = record {
   desk = desk;
   is = is;
   sessions = rw made-is at runs;
@@ -28,25 +28,25 @@ serves-desk m Is (Some root) limit faults made desk left status journal handed t
 }
 
 -- where the words are known a desk was made, and the run was over that desk
-pub serves-made : {P W B A : Type 0} (m : Meanings P W B) (Is : P → Type 0) (words : List (String A)) (options : Option Options) (limit faults : ℕ) (made left : Option P)
-    (status : ℕ) (journal : List Entry) (handed : List P) (ts : List Transcript)
+pub serves-made : {D P W B A : Type 0} (m : Meanings P W B) (parts : D → P) (Is : D → Type 0) (words : List (String A)) (options : Option Options) (limit faults : ℕ) (made left : Option D)
+    (status : ℕ) (journal : List Entry) (handed : List D) (ts : List Transcript)
     → options ≡ options_in words → MatchOption made (options ≡ None) Is
-    → IfSome (root_in words) (λ root. RunsDone (Some (option_to_list made)) (Some (option_to_list left)) m (λ parts. parts) root limit journal faults handed ts)
+    → IfSome (root_in words) (λ root. RunsDone (Some (option_to_list made)) (Some (option_to_list left)) m parts root limit journal faults handed ts)
     → IsLegal 1 journal ts
     → IfSome (root_in words) (λ root. HasStatus (Some (option_to_list made)) (Some (option_to_list left)) 0 0 status ts)
-    → IfSome (root_in words) (λ root. ServesDesk m Is root limit faults left status journal handed ts)
-serves-made m Is words options limit faults None left status journal handed ts known none runs legal has =
-    subst (λ (o : Option Options). IfSome (option_map (λ (x : Options). x.root) o) (λ root. ServesDesk m Is root limit faults left status journal handed ts))
+    → IfSome (root_in words) (λ root. ServesDesk m parts Is root limit faults left status journal handed ts)
+serves-made m parts Is words options limit faults None left status journal handed ts known none runs legal has =
+    subst (λ (o : Option Options). IfSome (option_map (λ (x : Options). x.root) o) (λ root. ServesDesk m parts Is root limit faults left status journal handed ts))
     (sym none ∙ known) tt
-serves-made m Is words options limit faults (Some desk) left status journal handed ts known is runs legal has =
-    serves-desk m Is (root_in words) limit faults (Some desk) desk left status journal handed ts refl is runs legal has
+serves-made m parts Is words options limit faults (Some desk) left status journal handed ts known is runs legal has =
+    serves-desk m parts Is (root_in words) limit faults (Some desk) desk left status journal handed ts refl is runs legal has
 
 -- where the words are known, the run was over the desks of clients
 pub serves-clients : {D P W B : Type 0} (m : Meanings P W B) (parts : D → P) (found : Option (List ℕ)) (limit faults before after status : ℕ)
     (journal : List Entry) (handed : List D) (ts : List Transcript)
     → IfSome found (λ root. RunsDone None None m parts root limit journal faults handed ts)
     → IsLegal 1 journal ts
-    → IfSome found (λ root. HasStatus {D = D} None None before after status ts)
+    → IfSome found (λ root. HasServingStatus before after status ts)
     → IfSome found (λ root. ServesClients m parts root limit faults before after status journal handed ts)
 serves-clients m parts None limit faults before after status journal handed ts runs legal has = tt
 serves-clients m parts (Some root) limit faults before after status journal handed ts runs legal has = record {

@@ -4,15 +4,15 @@ use Rattle.std.specs.Option.{option_to_list}
 use Rattle.rx_board.specs.declared.journal.Entry.{Entry}
 use Rattle.rx_engine.specs.declared.transcripts.Transcript.{Transcript}
 use Rattle.rx_engine.specs.Meanings.{Meanings}
-use Rattle.rx_engine.specs.Proxy.{HasStatus, IsLegal}
+use Rattle.rx_engine.specs.Proxy.{HasServingStatus, HasStatus, IsLegal}
 use Rattle.rx_engine.specs.Serves.{RunsDone}
 
 -- A desk of which this holds was there; what left the front was served, its entries are the journal, and the status has its cause.
-pub record ServesDesk {P W B : Type 0} (m : Meanings P W B) (Is : P → Type 0) (root : List ℕ) (limit faults : ℕ)
-    (left : Option P) (status : ℕ) (journal : List Entry) (handed : List P) (transcripts : List Transcript) : Type 0 where
-  pub desk : P
+pub record ServesDesk {D P W B : Type 0} (m : Meanings P W B) (parts : D → P) (Is : D → Type 0) (root : List ℕ) (limit faults : ℕ)
+    (left : Option D) (status : ℕ) (journal : List Entry) (handed : List D) (transcripts : List Transcript) : Type 0 where
+  pub desk : D
   pub is : Is desk
-  pub sessions : RunsDone (Some (desk ∷ [])) (Some (option_to_list left)) m (λ parts. parts) root limit
+  pub sessions : RunsDone (Some (desk ∷ [])) (Some (option_to_list left)) m parts root limit
       journal faults handed transcripts
   pub legal : IsLegal 1 journal transcripts
   pub status_is : HasStatus (Some (desk ∷ [])) (Some (option_to_list left)) 0 0 status transcripts
@@ -23,4 +23,4 @@ pub record ServesClients {D P W B : Type 0} (m : Meanings P W B) (parts : D → 
     (status : ℕ) (journal : List Entry) (handed : List D) (transcripts : List Transcript) : Type 0 where
   pub sessions : RunsDone None None m parts root limit journal faults handed transcripts
   pub legal : IsLegal 1 journal transcripts
-  pub status_is : HasStatus {D = D} None None before after status transcripts
+  pub status_is : HasServingStatus before after status transcripts

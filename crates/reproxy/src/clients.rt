@@ -2,26 +2,28 @@
 
 ghost use Rattle.std.specs.Prelude.{◌≡◌, None};
 
-use crate::desk::{HostParts, parts_over};
+use crate::desk::{Host, HostParts, parts_over};
+use crate::halts::HostHalt;
 use rx_engine::{Desk, Front, Options, Parts};
 use rx_host::{
-    HostBenches, HostFarm, HostListener, HostSources, HostWorld, SocketSink, SocketSource,
-    draw_seed,
+    Halting, Hands, HostBenches, HostFarm, HostListener, HostSources, HostWorld, SocketSink,
+    SocketSource, draw_seed,
 };
 use rx_world::Failed;
 use std::io;
 
 /// The parts of a client's session.
-pub(crate) type ClientParts = HostParts<HostRuntime, SocketSource, SocketSink>;
+pub(crate) type ClientParts<H> = HostParts<H, SocketSource, SocketSink>;
 
 /// The desk of a client. Where it is put together again, at the end of its session, its connections
 /// are closed: to the client, and to the farm.
 #[derive(Drop)]
-pub(crate) struct ClientDesk {
-    pub(crate) parts: ClientParts,
+pub(crate) struct ClientDesk<H: Hands> {
+    pub(crate) parts: ClientParts<H>,
+    pub(crate) halt: HostHalt<H>,
 }
 
-impl Desk<HostWorld> for ClientDesk {
+impl<H: Hands + Send + Sync> Desk<HostWorld> for ClientDesk<H> {
     type I = SocketSource;
 
     type O = SocketSink;
@@ -30,19 +32,25 @@ impl Desk<HostWorld> for ClientDesk {
 
     type L = HostSources<HostRuntime>;
 
-    type B = HostBenches<HostRuntime>;
+    type B = HostBenches<H>;
 
     type R = HostSources<HostRuntime>;
 
-    type C = HostFarm<HostRuntime>;
+    type C = HostFarm<H>;
+
+    type H = HostHalt<H>;
 
     ghost parts = { λ desk. desk.parts };
 
-    fn split(self) -> ClientParts {
+    fn halter(&self) -> HostHalt<H> {
+        self.halt.share()
+    }
+
+    fn split(self) -> ClientParts<H> {
         self.parts
     }
 
-    fn unite(of: ClientParts) -> ClientDesk
+    fn unite(of: ClientParts<H>) -> ClientDesk<H>
         ensures { result.parts ≡ of }
     {
         let Parts {
@@ -64,31 +72,32 @@ impl Desk<HostWorld> for ClientDesk {
                 tree_remote,
                 farm: farm.hang_up(),
             },
+            halt: HostHalt::of_none(),
         }
     }
 }
 
 /// Gives a desk for each client.
 #[derive(Drop)]
-pub(crate) struct ClientFront<'a> {
-    pub(crate) rt: HostRuntime,
+pub(crate) struct ClientFront<'a, H> {
+    pub(crate) host: &'a Host<H>,
     pub(crate) listener: HostListener,
     pub(crate) options: Options<'a>,
 }
 
-impl<'a> Front<HostWorld> for ClientFront<'a> {
-    type D = ClientDesk;
+impl<'a, H: Hands + Send + Sync> Front<HostWorld> for ClientFront<'a, H> {
+    type D = ClientDesk<H>;
 
     ghost coming = { λ f. None };
 
     ghost faults = { λ f. f.listener };
 
-    fn next(&mut self) -> Result<Option<ClientDesk>, Failed> {
-        let (input, output) = self.listener.accept(&self.rt)?;
-        match desk_over(self.rt, &self.options, input, output) {
+    fn next(&mut self) -> Result<Option<ClientDesk<H>>, Failed> {
+        let (input, output) = self.listener.accept(&self.host.rt)?;
+        match desk_over(self.host, &self.options, input, output) {
             Ok(desk) => Ok(Some(desk)),
             Err(error) => {
-                let _ = eprintln!(self.rt; "reproxy: no more clients: {error}");
+                let _ = eprintln!(self.host.rt; "reproxy: no more clients: {error}");
                 Err(self.listener.fail())
             }
         }
@@ -96,14 +105,15 @@ impl<'a> Front<HostWorld> for ClientFront<'a> {
 }
 
 /// The desk of a client with these ends.
-fn desk_over(
-    rt: HostRuntime,
+fn desk_over<H: Hands>(
+    host: &Host<H>,
     options: &Options<'_>,
     input: SocketSource,
     output: SocketSink,
-) -> io::Result<ClientDesk> {
-    let seed = draw_seed(&rt)?;
-    Ok(ClientDesk {
-        parts: parts_over(rt, options, seed, input, output)?,
-    })
+) -> io::Result<ClientDesk<H>> {
+    let seed = draw_seed(&host.rt)?;
+    let halting = Halting::new(host.rt.alloc())?;
+    let parts = parts_over(host, options, seed, &halting, input, output)?;
+    let halt = HostHalt::new(host.hands, halting);
+    Ok(ClientDesk { parts, halt })
 }

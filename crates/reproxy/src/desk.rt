@@ -1,76 +1,127 @@
-//! The desks of sessions over the machine, and the one of `exec`, over the standard streams.
+//! The parts of sessions over the machine, and the one desk of `exec`, over the standard streams.
 
 ghost use Rattle.std.specs.Prelude.{◌≡◌, IfOk, Some};
 ghost use Rattle.std.specs.Option.{option_to_list};
 
 use crate::farm::farm_for;
-use rx_engine::{Front, Options, Parts};
-use rx_host::{HostBenches, HostFarm, HostSink, HostSource, HostSources, HostWorld};
+use crate::halts::HostHalt;
+use rx_engine::{Desk, Front, Options, Parts};
+use rx_host::{
+    Children, Halting, Hands, HostBenches, HostFarm, HostSink, HostSource, HostSources, HostWorld,
+};
 use rx_world::{Failed, Sink, Source};
 use std::alloc::AllocError;
-use std::fs::Files;
 use std::io::{Print, Read};
 use std::process;
-use std::process::Processes;
+
+/// What the desks of a run share.
+#[derive(Drop)]
+pub(crate) struct Host<H> {
+    pub(crate) rt: HostRuntime,
+    /// Starts threads and waits.
+    pub(crate) hands: H,
+    /// The programs that run, over all sessions.
+    pub(crate) children: Children,
+}
 
 /// The parts of a session over the machine, with these ends of its conversation.
-pub(crate) type HostParts<R, I, O> = Parts<
+pub(crate) type HostParts<H, I, O> = Parts<
     I,
     O,
-    HostSources<R>,
-    HostSources<R>,
-    HostBenches<R>,
-    HostSources<R>,
-    HostFarm<HostRuntime>,
+    HostSources<HostRuntime>,
+    HostSources<HostRuntime>,
+    HostBenches<H>,
+    HostSources<HostRuntime>,
+    HostFarm<H>,
 >;
 
-/// The one desk of `exec`.
-pub(crate) type HostDesk<R, I, O> = HostParts<R, HostSource<I>, HostSink<O>>;
-
-/// The directory below which commands are staged.
-const SCRATCH: &str = "/tmp";
-
-/// The parts of a session with these ends.
-pub(crate) fn parts_over<I: Source + Drop, O: Sink + Drop>(
-    rt: HostRuntime,
+/// The parts of a session with these ends, whose waits are ended by `halting`.
+pub(crate) fn parts_over<H: Hands, I: Source + Drop, O: Sink + Drop>(
+    host: &Host<H>,
     options: &Options<'_>,
     seed: [u8; 32],
+    halting: &Halting,
     input: I,
     output: O,
-) -> Result<HostParts<HostRuntime, I, O>, AllocError>
+) -> Result<HostParts<H, I, O>, AllocError>
     ensures { IfOk result (λ parts. parts.input ≡ input) }
 {
+    let (rt, hands) = (host.rt, host.hands);
     let alloc = rt.alloc();
     let process = process::id(rt.process());
+    let children = host.children.share()?;
+    let scratch = String::from_str(alloc, options.scratch)?;
     Ok(Parts {
         input,
         output,
         tree: HostSources::new(rt, String::from_str(alloc, options.root)?),
         tree_local: HostSources::new(rt, String::from_str(alloc, options.root)?),
-        benches: HostBenches::new(rt, String::from_str(alloc, SCRATCH)?, process),
+        benches: HostBenches::new(rt, hands, scratch, process, halting.share()?, children),
         tree_remote: HostSources::new(rt, String::from_str(alloc, options.root)?),
-        farm: farm_for(rt, options, seed)?,
+        farm: farm_for(host, options, seed, halting.share()?)?,
     })
+}
+
+/// The one desk of `exec`.
+#[derive(Drop)]
+pub(crate) struct HostDesk<H: Hands, I, O> {
+    pub(crate) parts: HostParts<H, HostSource<I>, HostSink<O>>,
+    pub(crate) halt: HostHalt<H>,
+}
+
+impl<H: Hands + Send + Sync, I: Read + Send + Drop, O: Print + Send + Drop> Desk<HostWorld>
+    for HostDesk<H, I, O> {
+    type I = HostSource<I>;
+
+    type O = HostSink<O>;
+
+    type T = HostSources<HostRuntime>;
+
+    type L = HostSources<HostRuntime>;
+
+    type B = HostBenches<H>;
+
+    type R = HostSources<HostRuntime>;
+
+    type C = HostFarm<H>;
+
+    type H = HostHalt<H>;
+
+    ghost parts = { λ desk. desk.parts };
+
+    fn halter(&self) -> HostHalt<H> {
+        self.halt.share()
+    }
+
+    fn split(self) -> HostParts<H, HostSource<I>, HostSink<O>> {
+        self.parts
+    }
+
+    fn unite(of: HostParts<H, HostSource<I>, HostSink<O>>) -> HostDesk<H, I, O>
+        ensures { result.parts ≡ of }
+    {
+        HostDesk {
+            parts: of,
+            halt: HostHalt::of_none(),
+        }
+    }
 }
 
 /// Gives its desk, if it has one, and then no more. It never fails.
 #[derive(Drop)]
-pub(crate) struct HostFront<R, I, O> {
-    pub(crate) desk: Option<HostDesk<R, I, O>>,
+pub(crate) struct HostFront<H: Hands, I, O> {
+    pub(crate) desk: Option<HostDesk<H, I, O>>,
 }
 
-impl<
-    R: Files + Processes + AllocGlobal + Clone + Drop + Send,
-    I: Read + Send + Drop,
-    O: Print + Send + Drop,
-> Front<HostWorld> for HostFront<R, I, O> {
-    type D = HostDesk<R, I, O>;
+impl<H: Hands + Send + Sync, I: Read + Send + Drop, O: Print + Send + Drop> Front<HostWorld>
+    for HostFront<H, I, O> {
+    type D = HostDesk<H, I, O>;
 
     ghost coming = { λ f. Some (option_to_list f.desk) };
 
     ghost faults = { λ f. 0 };
 
-    fn next(&mut self) -> Result<Option<HostDesk<R, I, O>>, Failed> {
+    fn next(&mut self) -> Result<Option<HostDesk<H, I, O>>, Failed> {
         Ok(self.desk.take())
     }
 }

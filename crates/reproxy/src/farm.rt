@@ -1,22 +1,24 @@
-//! The farm's client of the one desk, by the command line.
+//! The farm's client of a desk, by the command line.
 
+use crate::desk::Host;
 use rx_base::Text;
 use rx_engine::Options;
 use rx_grpc::GrpcCaller;
-use rx_host::{HostDial, HostFarm};
+use rx_host::{Halting, Hands, HostDial, HostFarm};
 use std::alloc::AllocError;
 
 /// The most bytes that the name of a farm may have.
 const MOST_AUTHORITY: usize = 4_294_967_295;
 
 /// A client of the farm that the options name, or of none: then each of its calls is a fault. The names of its
-/// uploads are drawn from `seed`.
-pub(crate) fn farm_for(
-    rt: HostRuntime,
+/// uploads are drawn from `seed`. It is halted by `halting`.
+pub(crate) fn farm_for<H: Hands>(
+    host: &Host<H>,
     options: &Options<'_>,
     seed: [u8; 32],
-) -> Result<HostFarm<HostRuntime>, AllocError> {
-    let alloc = rt.alloc();
+    halting: Halting,
+) -> Result<HostFarm<H>, AllocError> {
+    let alloc = host.rt.alloc();
     let address = match options.remote {
         Some(address) => Some(String::from_str(alloc, address)?),
         None => None,
@@ -28,6 +30,6 @@ pub(crate) fn farm_for(
     let Ok(instance) = Text::copy_of(alloc, options.instance) else {
         return Err(AllocError);
     };
-    let dial = HostDial::new(rt, address);
+    let dial = HostDial::new(host.rt, host.hands, address, halting);
     Ok(HostFarm::new(GrpcCaller::new(alloc, dial, authority, instance, seed)))
 }

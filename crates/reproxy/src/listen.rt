@@ -6,28 +6,26 @@ ghost use Rattle.rx_engine.specs.Words.{root_in};
 ghost use Rattle.reproxy.specs.Serves.{ServesClients};
 
 use crate::clients::ClientFront;
+use crate::desk::Host;
 use crate::remote_words::HostLog;
 use rx_board::JOURNAL_LIMIT;
 use rx_engine::{Options, Ran, run_in_threads};
 use rx_exec_messages::Caller;
 use rx_host::{
-    HostBench, HostBenches, HostFarm, HostListener, HostPlace, HostSources, HostWorld, SocketSink,
-    SocketSource,
+    Hands, HostBench, HostBenches, HostFarm, HostListener, HostPlace, HostSources, HostWorld,
+    SocketSink, SocketSource,
 };
 use rx_world::{Bench, BenchMaker, Place, Sink, Source, Sources, World};
 use std::alloc::AllocError;
 use std::process;
-use std::sync::Wait;
-use std::thread::Threads;
 
 /// Serves the clients that connect, many at once, until no more can.
-pub(crate) fn listen<'a>(
-    wait: &(impl Threads + Wait + Sync),
-    rt: HostRuntime,
+pub(crate) fn listen<'a, H: Hands + Send + Sync>(
+    host: &'a Host<H>,
     words: &[String],
     options: Options<'a>,
     listener: HostListener,
-) -> Result<Ran<HostWorld, ClientFront<'a>, HostPlace<HostRuntime>>, AllocError>
+) -> Result<Ran<HostWorld, ClientFront<'a, H>, HostPlace<HostRuntime>>, AllocError>
     // The status is 2 exactly where the words aren't known, and then no session is served.
     ensures usage { IfOk result (λ ran. ran.status ≡ 2 ↔ (root_in words.now ≡ None)) }
     ensures unused { IfOk result (λ ran.
@@ -37,23 +35,23 @@ pub(crate) fn listen<'a>(
         (meanings ⟦<HostWorld as World>⟧ ⟦<SocketSource as Source>⟧ ⟦<SocketSink as Sink>⟧
         ⟦<HostSources<HostRuntime> as Sources<HostWorld>>⟧
         ⟦<HostSources<HostRuntime> as Sources<HostWorld>>⟧
-        ⟦<HostBenches<HostRuntime> as BenchMaker<HostWorld>>⟧
-        ⟦<HostBench<HostRuntime> as Bench<HostWorld>>⟧
+        ⟦<HostBenches<H> as BenchMaker<HostWorld>>⟧
+        ⟦<HostBench<H> as Bench<HostWorld>>⟧
         ⟦<HostSources<HostRuntime> as Sources<HostWorld>>⟧
-        ⟦<HostFarm<HostRuntime> as Caller<HostWorld>>⟧)
+        ⟦<HostFarm<H> as Caller<HostWorld>>⟧)
         (λ desk. desk.parts) root JOURNAL_LIMIT
         (⟦<HostPlace<HostRuntime> as Place>⟧.faults ran.place)
         listener ran.front.listener
         ran.status ran.journal.items ran.desks.items ran.transcripts.items)) }
 {
-    let alloc = rt.alloc();
+    let (rt, alloc) = (host.rt, host.rt.alloc());
     let root = String::from_str(alloc, options.root)?;
     let place = HostPlace::new(rt, root, process::id(rt.process()));
     let front = ClientFront {
-        rt,
+        host,
         listener,
         options,
     };
     let log = HostLog { rt };
-    Ok(run_in_threads::<HostWorld, _, _, _, _>(wait, alloc, words, front, place, &log))
+    Ok(run_in_threads::<HostWorld, _, _, _, _>(&host.hands, alloc, words, front, place, &log))
 }

@@ -4,23 +4,21 @@
 mod clients;
 mod desk;
 mod farm;
+mod halts;
 mod listen;
 mod remote_words;
 mod serve;
-#[cfg(test)]
-mod tests;
 mod words;
 
+use crate::desk::Host;
 use crate::listen::listen;
 use crate::remote_words::tell_failures;
 use crate::serve::serve;
 use crate::words::{USAGE, is_help};
 use rx_engine::{Options, options_in};
-use rx_host::{HostListener, draw_seed};
+use rx_host::{Children, Hands, HostListener, draw_seed};
 use std::io::ErrorKind;
 use std::process::ExitCode;
-use std::sync::Wait;
-use std::thread::Threads;
 use std::{env, io, process};
 
 /// The status of a command line that the program doesn't take.
@@ -35,7 +33,7 @@ const NO_MEMORY: u8 = 4;
 fn main(rt: HostRuntime) -> ExitCode {
     let status = match read_words(&rt) {
         Ok(words) if is_help(&words) => return help(&rt),
-        Ok(words) => run_words(&rt, rt, &words),
+        Ok(words) => run_words(rt, rt, &words),
         Err(error) if error.kind() == ErrorKind::OutOfMemory => NO_MEMORY,
         Err(_) => BAD_WORDS,
     };
@@ -45,20 +43,35 @@ fn main(rt: HostRuntime) -> ExitCode {
     ExitCode::from(status)
 }
 
-/// Serves what the words ask for: one request, or the clients of a socket. The answer is the
-/// program's status.
-fn run_words(wait: &(impl Threads + Wait + Sync), rt: HostRuntime, words: &[String]) -> u8 {
+/// Serves what the words ask for, and waits for the programs that still run. The answer is the program's status.
+fn run_words<H: Hands + Send + Sync>(rt: HostRuntime, hands: H, words: &[String]) -> u8 {
+    let Ok(children) = Children::new(rt.alloc()) else {
+        return NO_MEMORY;
+    };
+    let host = Host {
+        rt,
+        hands,
+        children,
+    };
+    let status = run_all(&host, words);
+    host.children.wait_for_all(&hands);
+    status
+}
+
+/// Serves one request, or the clients of a socket.
+fn run_all<H: Hands + Send + Sync>(host: &Host<H>, words: &[String]) -> u8 {
     match options_in(words) {
         Some(options) => match options.listen {
-            Some(address) => run_clients(wait, rt, words, options, address),
-            None => run_one(wait, rt, words),
+            Some(address) => run_clients(host, words, options, address),
+            None => run_one(host, words),
         },
-        None => run_one(wait, rt, words),
+        None => run_one(host, words),
     }
 }
 
 /// Serves one request, and tells why a remote attempt failed.
-fn run_one(wait: &(impl Threads + Wait + Sync), rt: HostRuntime, words: &[String]) -> u8 {
+fn run_one<H: Hands + Send + Sync>(host: &Host<H>, words: &[String]) -> u8 {
+    let rt = host.rt;
     let seed = match draw_seed(&rt) {
         Ok(seed) => seed,
         Err(error) => {
@@ -66,7 +79,7 @@ fn run_one(wait: &(impl Threads + Wait + Sync), rt: HostRuntime, words: &[String
             return NO_MEMORY;
         }
     };
-    match serve(wait, rt, words, seed, rt.stdin(), rt.stdout()) {
+    match serve(host, words, seed, rt.stdin(), rt.stdout()) {
         Ok(ran) => {
             tell_failures(&rt, &ran.transcripts);
             ran.status
@@ -76,13 +89,13 @@ fn run_one(wait: &(impl Threads + Wait + Sync), rt: HostRuntime, words: &[String
 }
 
 /// Serves the clients that connect at an address.
-fn run_clients(
-    wait: &(impl Threads + Wait + Sync),
-    rt: HostRuntime,
+fn run_clients<H: Hands + Send + Sync>(
+    host: &Host<H>,
     words: &[String],
     options: Options<'_>,
     address: &str,
 ) -> u8 {
+    let rt = host.rt;
     let listener = match HostListener::bind(&rt, address, process::id(rt.process())) {
         Ok(listener) => listener,
         Err(error) => {
@@ -92,7 +105,7 @@ fn run_clients(
     };
     let root = options.root;
     let _ = eprintln!(rt; "reproxy: serving {root} at {address}");
-    match listen(wait, rt, words, options, listener) {
+    match listen(host, words, options, listener) {
         Ok(ran) => ran.status,
         Err(_) => NO_MEMORY,
     }

@@ -259,6 +259,9 @@ impl RunCalls {
             None => answer.word("none")?,
         }
         answer.text(options.instance.as_bytes())?;
+        answer.text(options.scratch.as_bytes())?;
+        answer.number(u64::from(options.sessions))?;
+        answer.number(u64::from(options.slots))?;
         if let Some(listen) = options.listen {
             answer.text(listen.as_bytes())?;
         }

@@ -1,14 +1,16 @@
 -- A frame that is read in pieces: its header, and its payload.
-use Rattle.std.proofs.Common.{◌≡◌, ℕ, ◌+◌, ◌<◌, ◌≤◌, true, false, List, [], ◌∷◌, ◌++◌, length, take, drop, Option, Some, None, refl, sym, ap, ◌∙◌, arith, rules, append_assoc, append-nil, nat_lt, length-append, length-drop, subst}
+use Rattle.std.proofs.Common.{◌≡◌, ℕ, ◌+◌, ◌<◌, ◌≤◌, true, false, List, [], ◌∷◌, ◌++◌, length, take, drop, Option, Some, None, refl, sym, ap, ◌∙◌, arith, rules, append_assoc, append-nil, nat_lt, length-append, subst}
 use Rattle.std.proofs.lemmas.Bool.{lt-ltb, le-ltb}
-use Rattle.std.proofs.lemmas.List.{drop-append-le, take_all}
+use Rattle.std.proofs.lemmas.List.{take_all}
 use Rattle.std.proofs.Math.Seq.{take-append_seam}
 use Rattle.std.proofs.KnownBytes.{Consumes-trans}
 use Rattle.std.specs.Io.KnownBytes.{Consumes, IsAtEnd}
 use Rattle.std.specs.Result.{result_ok}
 use Rattle.std.specs.Str.{bytes_eq}
 use Rattle.rx_session.specs.ReplyReading.{reply_of}
-use Rattle.rx_client.specs.Heard.{ReadsOn, first_reply, given_by, is_shutdown_done, reply_len, reply_within, rest_of, shutdown_done}
+use Rattle.rx_session.specs.Frames.{shutdown_done}
+use Rattle.rx_session.proofs.FrameLemmas.{payload_is}
+use Rattle.rx_client.specs.Heard.{ReadsOn, first_reply, given_by, is_shutdown_done, reply_len, reply_within, rest_of}
 
 -- ---- pieces that were read one after the other
 
@@ -81,11 +83,6 @@ payload_cut len head front more left told grown lt end =
     let at_end = given-at_end front left end in
     let test : nat_lt (length front) (5 + len) ≡ true = lt-ltb _ _ lt in
     after_header len head front more told grown (rest_of left) ∙ rw (at_end, test) refl
-
-payload_is : (len : ℕ) (front more : List ℕ) → length front ≡ 5 + len → take len (drop 5 (front ++ more)) ≡ drop 5 front
-payload_is len front more e =
-    let size : length (drop 5 front) ≡ len = omega (arith, length-drop 5 front) in
-    rw (drop-append-le 5 front more (omega arith), ← size) (take-append_seam (drop 5 front) more)
 
 pub payload_whole : (len : ℕ) (head front more : List ℕ) (left : Option (List ℕ)) → reply_len head ≡ Some len → front ≡ head ++ more → length front ≡ 5 + len
     → first_reply (given_by front left) ≡ result_ok (reply_of (drop 5 front))

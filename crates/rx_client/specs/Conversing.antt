@@ -4,7 +4,7 @@ use Rattle.std.specs.Io.KnownBytes.{Consumes}
 use Rattle.rx_world.specs.Causes.{Rose}
 use Rattle.rx_world.specs.declared.streams.Sink as sink_of
 use Rattle.rx_world.specs.declared.streams.Source as source_of
-use Rattle.rx_session.specs.Frames.{frame}
+use Rattle.rx_session.specs.Frames.{frame, shutdown}
 use Rattle.rx_session.specs.RequestMessages.{request_payload}
 use Rattle.rx_session.specs.declared.replies.Reply.{Reply}
 use Rattle.rx_session.specs.declared.replies.Reply.TheVariants as replies
@@ -24,7 +24,7 @@ use Rattle.rx_client.specs.Said.{Said, Says, SaysWhole, said}
 -- the frame of an errand: a Request is kind 1, Shutdown is kind 4 and has no payload
 abbrev pub frame_for : Errand → List ℕ
 frame_for (errands.Run request) = frame 1 (request_payload request)
-frame_for errands.ShutDown = 4 ∷ 0 ∷ 0 ∷ 0 ∷ 0 ∷ []
+frame_for errands.ShutDown = shutdown
 
 -- what is heard for an errand where bytes come in: the frame that they begin with
 abbrev pub heard_in : Errand → List ℕ → Option Heard

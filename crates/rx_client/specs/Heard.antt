@@ -4,7 +4,7 @@ use Rattle.std.specs.Io.KnownBytes.{Consumes}
 use Rattle.std.specs.Option.{option_and_then}
 use Rattle.std.specs.Result.{result_ok}
 use Rattle.std.specs.Str.{bytes_eq}
-use Rattle.rx_session.specs.Frames.{length_in}
+use Rattle.rx_session.specs.Frames.{length_in, shutdown_done}
 use Rattle.rx_session.specs.ReplyReading.{reply_of}
 use Rattle.rx_session.specs.declared.replies.Reply.{Reply}
 use Rattle.rx_client.specs.declared.hear_fault.HearFault.{HearFault}
@@ -45,12 +45,7 @@ reply_within text len =
 unfoldable pub first_reply : List ℕ → Option Reply
 first_reply text = option_and_then (reply_within text) (reply_len text)
 
--- ---- the frame of ShutdownDone
-
-abbrev pub shutdown_done : List ℕ
-shutdown_done = 5 ∷ 0 ∷ 0 ∷ 0 ∷ 0 ∷ []
-
--- bytes begin with it
+-- bytes begin with the frame that answers a Shutdown
 unfoldable pub is_shutdown_done : List ℕ → Bool
 is_shutdown_done text = bytes_eq (take 5 text) shutdown_done
 

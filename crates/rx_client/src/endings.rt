@@ -6,8 +6,8 @@ ghost use Rattle.rx_world.specs.Causes.{HasCauseOf};
 ghost use Rattle.rx_world.specs.declared.failures.Refused.TheVariants.{Failed as failed};
 ghost use Rattle.rx_client.specs.Heard.{given_by, is_shutdown_done};
 
-use crate::frames::SHUTDOWN_DONE;
 use crate::streams::read_up_to;
+use rx_session::SHUTDOWN_DONE;
 use rx_world::{Refused, Source};
 
 /// Whether an input begins with that frame. All that is read is left in `read`.

@@ -7,7 +7,7 @@ ghost use Rattle.rx_session.specs.RequestMessages.{request_payload};
 ghost use Rattle.rx_client.specs.Conversing.{frame_for};
 
 use rx_base::NoMemory;
-use rx_session::Request;
+use rx_session::{Request, SHUTDOWN};
 use rx_wrap::Errand;
 use std::alloc::{AllocError, Global};
 
@@ -19,12 +19,6 @@ const REQUEST_KIND: u8 = 1;
 
 /// The kind of a frame that is a reply.
 pub(crate) const REPLY_KIND: u8 = 2;
-
-/// The whole frame that asks the proxy to end.
-const SHUTDOWN: [u8; 5] = [4, 0, 0, 0, 0];
-
-/// The whole frame that says that it ends.
-pub(crate) const SHUTDOWN_DONE: [u8; 5] = [5, 0, 0, 0, 0];
 
 /// The frame that is sent for an errand. A payload whose length four bytes can't tell is answered
 /// as want of memory.

@@ -2,7 +2,7 @@
 use Rattle.std.proofs.Common.{◌≡◌, ℕ, Bool, true, false, not, ◌&&◌, ◌||◌, inl, inr, List, [], ◌∷◌, ◌++◌, Option, Some, None, Result, Ok, Err, IfOk, refl, sym, ◌∙◌, subst, cond, drop}
 use Rattle.std.specs.List.{AllByRecursion, find, list_any}
 use Rattle.std.specs.Option.{option_map}
-use Rattle.std.proofs.lemmas.Bool.{cond_both}
+use Rattle.std.proofs.lemmas.Bool.{cond_both, and_parts, cases_Bool, not-true, or_parts, or_right}
 use Rattle.rx_base.specs.Paths.{is_below}
 use Rattle.rx_base.specs.SortedPaths.{sorted_paths}
 use Rattle.rx_world.specs.declared.commands.Command.{Command}
@@ -17,7 +17,8 @@ use Rattle.rx_cppflags.specs.Pieces.{Saying, said_by, saying, sayings_after, use
 use Rattle.rx_cppflags.specs.Found.{is_apart, is_in_table, outputs_of, outside_of, path_for, paths_of, says, says_once, sources_of}
 use Rattle.rx_cppflags.specs.Variables.{first_variable}
 use Rattle.rx_cppflags.specs.Readings.{IsSafeOutput, HasSafeOutputs, compiled, counted, first_word, judged, only, reading_of, unless_variable}
-use Rattle.rx_cppflags.proofs.Lists.{split, and_left, and_right, not_false, or_left, or_right, or_true, each, both, first_part, second_part, none_passes, with_option, of_sorted}
+use Rattle.rx_cppflags.proofs.Lists.{each, none_passes, with_option, of_sorted}
+use Rattle.rx_base.proofs.Lists.{All-append, All-back, All-front, All-weaken}
 
 -- ---- what each word's path is
 
@@ -46,7 +47,7 @@ placed d inputs false (word ∷ others) = (said_placed d inputs (row_for word) w
 none_outside : (test : Saying → Bool) (said : List Saying) → option_map (λ s. s.word) (find (λ s. not (test s)) said) ≡ None → AllByRecursion (λ s. test s ≡ true) said
 none_outside test [] e = tt
 none_outside test (s ∷ said) e =
-    elim (split (test s)) [
+    elim (cases_Bool (test s)) [
       | inl t ↦ (t, none_outside test said (rw t at e))
       | inr f ↦ let wrong = rw f at e in absurd (cc wrong)
     ]
@@ -75,7 +76,7 @@ written d inputs outputs has_file s t p path n e =
 for_meaning : (meaning : Meaning) (P : List ℕ → Type 0) (s : Saying) → ((path : List ℕ) → same s.meaning meaning ≡ true → s.path ≡ Some path → P path)
     → (path : List ℕ) → path_for meaning s ≡ Some path → P path
 for_meaning meaning P s f path e =
-    elim (split (same s.meaning meaning)) [
+    elim (cases_Bool (same s.meaning meaning)) [
       | inl t ↦ f path t (rw t at e)
       | inr n ↦ let wrong = rw n at e in absurd (cc wrong)
     ]
@@ -89,12 +90,12 @@ is_output : (m : Meaning) → same m Output ≡ true → names_output m ≡ true
 is_output m e = rw e refl
 
 is_dependency_file : (m : Meaning) → same m DependencyFile ≡ true → names_output m ≡ true
-is_dependency_file m e = rw e (or_true (same m Output))
+is_dependency_file m e = rw e (or_right (same m Output) true refl)
 
 each_output : (P : List ℕ → Type 0) (said : List Saying) → AllByRecursion (λ s. (path : List ℕ) → names_output s.meaning ≡ true → s.path ≡ Some path → P path) said
     → AllByRecursion P (outputs_of said)
 each_output P said p =
-    both P (paths_of Output said) (paths_of DependencyFile said)
+    All-append P (paths_of Output said) (paths_of DependencyFile said)
     (each_path Output P said (each _ (λ _. Unit {0}) _ (λ s f _ path e. f path (is_output s.meaning e)) said p (each _ _ (λ _. Unit {0}) (λ _ _ _. tt) said p p)))
     (each_path DependencyFile P said (each _ (λ _. Unit {0}) _ (λ s f _ path e. f path (is_dependency_file s.meaning e)) said p (each _ _ (λ _. Unit {0}) (λ _ _ _. tt) said p p)))
 
@@ -103,14 +104,14 @@ safe : (command : Command) (inputs named : List (List ℕ)) (path : List ℕ) �
 safe command inputs named path w =
     let near : List ℕ → Bool = λ other. is_below path other || is_below other path in
     let far : List ℕ → Type 0 = λ other. (is_below path other ≡ false) × (is_below other path ≡ false) in
-    let none : AllByRecursion (λ other. near other ≡ false) (command.outputs ++ named) = none_passes near (command.outputs ++ named) (not_false (list_any near (command.outputs ++ named)) w.1) in
+    let none : AllByRecursion (λ other. near other ≡ false) (command.outputs ++ named) = none_passes near (command.outputs ++ named) (not-true (list_any near (command.outputs ++ named)) w.1) in
     let apart : AllByRecursion far (command.outputs ++ named) =
-    each (λ other. near other ≡ false) (λ other. near other ≡ false) far (λ other e _. (or_left (is_below path other) (is_below other path) e, or_right (is_below path other) (is_below other path) e)) (command.outputs ++ named) none none in
+    All-weaken (λ other. near other ≡ false) far (command.outputs ++ named) (λ other e. or_parts (is_below path other) (is_below other path) e) none in
     let above : List ℕ → Bool = λ input. is_below input path in
     record {
-      below = and_left (is_below path command.working_directory) (not (list_any above inputs)) w.0;
-      clear = none_passes above inputs (not_false (list_any above inputs) (and_right (is_below path command.working_directory) (not (list_any above inputs)) w.0));
-      apart = both far command.outputs (sorted_paths named) (first_part far command.outputs named apart) (of_sorted far named (second_part far command.outputs named apart));
+      below = (and_parts (is_below path command.working_directory) (not (list_any above inputs)) w.0).0;
+      clear = none_passes above inputs (not-true (list_any above inputs) (and_parts (is_below path command.working_directory) (not (list_any above inputs)) w.0).1);
+      apart = All-append far command.outputs (sorted_paths named) (All-front far command.outputs named apart) (of_sorted far named (All-back far command.outputs named apart));
     }
 
 -- ---- the reading

@@ -13,7 +13,7 @@ use Rattle.rx_cppflags.specs.Rows.{Row, row_for, own_value, takes_next}
 use Rattle.rx_cppflags.specs.Pieces.{Saying, said_by, saying, sayings_after, uses_next, with_next}
 use Rattle.rx_cppflags.specs.Found.{first_outside, is_apart_output, is_in_table, outputs_of, outside_of, says}
 use Rattle.rx_cppflags.specs.Readings.{reading_from, reading_of}
-use Rattle.rx_cppflags.proofs.SearchLemmas.{any_same}
+use Rattle.rx_base.proofs.Members.{list_any-same_members}
 
 -- ---- inputs
 
@@ -23,7 +23,7 @@ kept_same test other (Some path) e = rw (e path) refl
 
 path_same : (d : List ℕ) (xs ys : List (List ℕ)) (meaning : Meaning) (text : List ℕ) → HasSameMembers xs ys → path_of d xs meaning text ≡ path_of d ys meaning text
 path_same d xs ys meaning text same =
-    rw (kept_same (is_writable d xs) (is_writable d ys) (path_from d text) (λ path. ap (λ b. is_below path d && not b) (any_same (λ input. is_below input path) xs ys same))) refl
+    rw (kept_same (is_writable d xs) (is_writable d ys) (path_from d text) (λ path. ap (λ b. is_below path d && not b) (list_any-same_members (λ input. is_below input path) xs ys same))) refl
 
 saying_same : (d : List ℕ) (xs ys : List (List ℕ)) (meaning : Meaning) (text word : List ℕ) → HasSameMembers xs ys → saying d xs meaning text word ≡ saying d ys meaning text word
 saying_same d xs ys meaning text word same =
@@ -59,7 +59,7 @@ reading_same command xs ys same = ap (λ (said : List Saying). reading_from comm
 
 apart_same : (xs ys : List (List ℕ)) (o : Option (List ℕ)) → HasSameMembers xs ys → is_apart_output xs o ≡ is_apart_output ys o
 apart_same xs ys None same = refl
-apart_same xs ys (Some path) same = ap not (any_same _ xs ys same)
+apart_same xs ys (Some path) same = ap not (list_any-same_members _ xs ys same)
 
 find_same : (test other : Saying → Bool) (said : List Saying) → ((s : Saying) → test s ≡ other s) → find (λ s. not (test s)) said ≡ find (λ s. not (other s)) said
 find_same test other [] e = refl

@@ -29,7 +29,8 @@ impl<'a> Model for Piece<'a> {
 
     ghost Value = { Saying };
 
-    ghost view = { λ p. record { meaning = p.meaning; word = p.word.now; text = p.text.now; path = p.path } };
+    ghost view = { λ p.
+        record { meaning = p.meaning; word = p.word.now; text = p.text.now; path = p.path } };
 }
 
 /// Where a command's paths go on from, and its declared inputs, sorted.

@@ -55,11 +55,9 @@ use Rattle.rx_engine.specs.Meanings.{Meanings, meanings}
 use Rattle.rx_engine.specs.RacedAttempts.{HasRaced, HasRacedHere, HasRacedThere, RanHere, RanThere}
 use Rattle.rx_engine.specs.Racing.{HaveRaced, first_by}
 use Rattle.rx_engine.specs.RemoteAttempts.{EndsThere, FitsFarm, HasRunThere, IsIdleThere, IsTreeOf}
+use Rattle.rx_engine.proofs.Cases.{as-remote}
 use Rattle.rx_engine.proofs.Mirrors.{farm-in, source-in, there-mirrored}
 use Rattle.rx_engine.proofs.Moves.{IsSame, IsSameHere, IsSameThere, gives-in, local-move, remote-move}
-
-abbrev as-remote : End Outcome RemoteCause → End Outcome RemoteCause
-as-remote end = end
 
 unchanged-none : (told : Option (List SourceEntry)) (files : List InputFile) → IfSome told (λ entries. All (IsAsListed entries) files → Unit {0})
 unchanged-none None files = tt
@@ -175,6 +173,7 @@ module _ {W I O T L M B R C : Type 0} (w : world.Ghosts W) (i : inputs.Ghosts I)
         attempted = record {
           made = a.made;
           returned = a.returned;
+          failed = a.failed;
           on = record {
             answers = a.on.answers;
             gives = gives-in w l (λ (x : Parts I O T L M R C). x.tree_local) p q a.on.answers a.on.gives;

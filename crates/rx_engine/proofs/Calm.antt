@@ -1,6 +1,6 @@
 -- Nothing keeps a session from its outcome whose source trees keep one list and whose parts don't fail.
 use Rattle.std.proofs.Common.{◌≡◌, ◌≢◌, ℕ, List, [], ◌∷◌, refl, ap, sym, subst, ◌∙◌, arith, inl, inr}
-use Rattle.std.specs.Prelude.{All, Contains, None, Option, Some}
+use Rattle.std.specs.Prelude.{All, Contains, Option, Some}
 use Rattle.std.proofs.lemmas.List.Elements.{All-contains, Contains-append_right}
 use Rattle.rx_base.specs.Digests.{digest_of}
 use Rattle.rx_board.specs.declared.journal.Receipt.{Receipt}
@@ -39,10 +39,8 @@ use Rattle.rx_engine.specs.Attempts.{HasEndedHere}
 use Rattle.rx_engine.specs.Meanings.{Meanings}
 use Rattle.rx_engine.specs.Quiet.{AreApart, CanGather, IsQuiet, IsQuietThere, KeepsLimitsFrom, MakesFrom}
 use Rattle.rx_engine.specs.Session.{IsSession}
+use Rattle.rx_engine.proofs.Cases.{none-some}
 use Rattle.rx_engine.proofs.HonestRuns.{IsByList, again, by-list, grounds_of, shows}
-
-none-some : {A : Type 0} {a : A} → None ≡ Some a → ⊥
-none-some h = cc
 
 -- what was seen is what the list has
 seen-by : (entries : List SourceEntry) (answers : List Given) (path : List ℕ) (look : Look) → All (IsAnswerOf entries) answers → WasSeen [] answers path look → look ≡ (entry_at path entries).look

@@ -1,9 +1,11 @@
 -- From what was pending to the session.
 use Rattle.std.proofs.Common.{◌≡◌, ◌≤◌, ◌∙◌, ℕ, List, [], refl, subst, sym}
+use Rattle.std.specs.Global.{Vec}
 use Rattle.std.specs.Prelude.{IfSome, None, Option, Some}
 use Rattle.std.specs.Io.KnownBytes.{Appends}
 use Rattle.rx_board.specs.Board.{State}
 use Rattle.rx_session.specs.declared.requests.Request.{Request}
+use Rattle.rx_session.specs.Frames.{shutdown, shutdown_done}
 use Rattle.rx_world.specs.declared.attempts.Ended.{Ended}
 use Rattle.rx_exec_messages.specs.declared.callers.Caller as callers
 use Rattle.rx_world.specs.declared.benches.Bench as benches
@@ -28,15 +30,15 @@ use Rattle.rx_engine.specs.Gathers.{AnswersMade}
 use Rattle.rx_engine.specs.Journal.{JournalsBoard, files_of}
 use Rattle.rx_engine.specs.Meanings.{Meanings, meanings}
 use Rattle.rx_engine.specs.Pending.{HasTried, IsConcluded, IsFirstWon, IsPending, IsStage}
-use Rattle.rx_engine.specs.Ready.{EntersAs, FinishesAs, IsLost, IsReadyAs}
-use Rattle.rx_engine.specs.Session.{IsSession}
+use Rattle.rx_engine.specs.Ready.{EntersAs, FinishesAs, IsLost, IsReadyAs, WroteEnd}
+use Rattle.rx_engine.specs.Session.{IsSession, IsUntouched}
 use Rattle.rx_engine.proofs.AnswerLemmas.{tried-answers}
-use Rattle.rx_engine.proofs.CourseLemmas.{appends-none, session-finished}
+use Rattle.rx_engine.proofs.CourseLemmas.{appends-none, course-ended, session-finished}
 use Rattle.rx_engine.proofs.Entries.{enters-nothing, unpublished-enters}
 use Rattle.rx_engine.proofs.MadeLemmas.{won-files}
 use Rattle.rx_engine.proofs.Moves.{same-none, tells-move}
 use Rattle.rx_engine.proofs.PendingLemmas.{ready-asked}
-use Rattle.rx_engine.proofs.ReplyMoves.{AreSame, ready-move}
+use Rattle.rx_engine.proofs.ReplyMoves.{AreSame, ready-move, untouched-move}
 
 -- nothing more was written
 appends-same : (old mid : Option (List ℕ)) → mid ≡ old → Appends old mid []
@@ -88,6 +90,36 @@ module _ {W I O T L M B R C : Type 0} (w : world.Ghosts W) (i : inputs.Ghosts I)
         later = h.later;
       }
 
+  -- the end of the run was asked for
+  ended-session : (root : List ℕ) (p q : Parts I O T L M R C) (sink : O) (number : ℕ) (pending : Pending) (frame : List ℕ) (kept : Transcript)
+      → (h : IsPending (meanings w i o t l k b v z) root p q pending)
+      → (pending.read ≡ shutdown) × (pending.request ≡ None) × IsUntouched (meanings w i o t l k b v z) (grounds p q h.answers h.lists h.view) [] × (frame ≡ shutdown_done)
+      → WroteEnd number pending.read frame kept
+      → Appends (o.taken q.output) (o.taken sink) kept.written
+      → (kept.ending ≡ SinkLost → Rose (o.faults q.output) (o.faults sink)) → o.faults q.output ≤ o.faults sink
+      → IsSession (meanings w i o t l k b v z) root p (record q { output = sink }) kept
+  ended-session root p q sink number pending frame kept h stage wrote written lost later =
+      let last : Parts I O T L M R C = record q { output = sink } in
+      let same : AreSame p q p last = record { tree_before = refl; tree_after = refl; before = same-none p; after = record { here = record { tree_local = refl; benches = refl }; there = record { tree_remote = refl; farm = refl } }; input_after = refl } in
+      record {
+        answers = h.answers;
+        lists = h.lists;
+        view = h.view;
+        read = rw wrote.read_is h.read;
+        written = subst (λ x. Appends x (o.taken sink) kept.written) h.unwritten written;
+        looked = tells-move w i o t l k b v z p q p last h.answers h.lists refl refl h.looked;
+        course = course-ended (meanings w i o t l k b v z) root (grounds p last h.answers h.lists h.view) number pending.read frame kept kept.ending refl stage.0 stage.3
+            (untouched-move w i o t l k b v z p q p last same h.answers h.lists h.view [] stage.2) wrote wrote.writing;
+        source = λ e. absurd (rw e at wrote.writing);
+        sink = λ e. subst (λ x. Rose x (o.faults sink)) h.uncounted (lost e);
+        later = record {
+          input = h.later.input;
+          output = subst (λ x. x ≤ o.faults sink) h.uncounted later;
+          tree = h.later.tree;
+          attempts = record { tree_local = h.later.attempts.tree_local; benches = h.later.attempts.benches; tree_remote = h.later.attempts.tree_remote; farm = h.later.attempts.farm };
+        };
+      }
+
 -- ---- the journal
 
 module _ {Q : Type 0} (pl : places.Ghosts Q) where
@@ -103,6 +135,11 @@ module _ {Q : Type 0} (pl : places.Ghosts Q) where
   lost-journal : (board : State Q) (number : ℕ) (read : List ℕ) (kept : Transcript) → IsLost number read kept → JournalsBoard pl board board kept
   lost-journal board number read kept lost =
       rw (lost.number_is, lost.receipt_is, lost.reply_is) (enters-nothing board.limit board.journal board.journal _ _ number None _ None refl refl (λ e. cc))
+
+  -- nor did one that was asked to end the run
+  ended-journal : (board : State Q) (number : ℕ) (read frame : List ℕ) (kept : Transcript) → WroteEnd number read frame kept → JournalsBoard pl board board kept
+  ended-journal board number read frame kept wrote =
+      rw (wrote.number_is, wrote.receipt_is, wrote.reply_is) (enters-nothing board.limit board.journal board.journal _ _ number None _ None refl refl (λ e. cc))
 
 -- the outcome that won is the first among the ends
 first-won : {P W B : Type 0} (m : Meanings P W B) (g : Grounds P) (request : Request) (attempted : Attempted) → HasTried m g request attempted
@@ -122,6 +159,18 @@ module _ {W I O T L M B R C Q : Type 0} (w : world.Ghosts W) (i : inputs.Ghosts 
   concluded-lost board stage lost = record {
     own = λ root p h. lost-session w i o t l k b v z root p q number pending kept h stage lost;
     journal = λ root p h. lost-journal pl board number pending.read kept lost;
+  }
+
+  -- the end of the run was asked for
+  pub concluded-ended : (sink : O) (board : State Q) (frame : Vec ℕ) → pending.stage ≡ stages.ShutDown frame → WroteEnd number pending.read frame.items kept
+      → Appends (o.taken q.output) (o.taken sink) kept.written
+      → (kept.ending ≡ SinkLost → Rose (o.faults q.output) (o.faults sink)) → o.faults q.output ≤ o.faults sink
+      → IsConcluded (meanings w i o t l k b v z) pl pending q (record q { output = sink }) board board kept
+  concluded-ended sink board frame stage wrote written lost later = record {
+    own = λ root p h. ended-session w i o t l k b v z root p q sink number pending frame.items kept h
+        (subst (λ x. IsStage (meanings w i o t l k b v z) root (grounds p q h.answers h.lists h.view) pending.read pending.request x) stage h.stage)
+        wrote written lost later;
+    journal = λ root p h. ended-journal pl board number pending.read frame.items kept wrote;
   }
 
   -- no attempt was made

@@ -1,21 +1,22 @@
 -- From what was made ready to the course of the session.
-use Rattle.std.proofs.Common.{◌≡◌, ℕ, List, [], append-nil, refl, ap, sym, ◌∙◌, take}
+use Rattle.std.proofs.Common.{◌≡◌, ℕ, List, [], append-nil, inl, inr, refl, ap, sym, ◌∙◌, take}
 use Rattle.std.specs.Prelude.{None, Option, Some}
 use Rattle.std.specs.Io.KnownBytes.{Appends, Consumes}
 use Rattle.rx_scan.specs.Lists.{Listing, Tells}
 use Rattle.rx_session.specs.declared.requests.Request.{Request}
+use Rattle.rx_session.specs.Frames.{shutdown, shutdown_done}
 use Rattle.rx_world.specs.declared.attempts.Ended.{Ended}
 use Rattle.rx_world.specs.declared.looks.Look.{Look}
 use Rattle.rx_world.specs.declared.sources.Given.{Given}
 use Rattle.rx_world.specs.Causes.{Rose}
 use Rattle.rx_engine.specs.declared.answered.Answered.{Answered}
 use Rattle.rx_engine.specs.declared.transcripts.Ending.{Ending}
-use Rattle.rx_engine.specs.declared.transcripts.Ending.TheVariants.{NoMemory, Replied, SinkLost, SourceLost}
+use Rattle.rx_engine.specs.declared.transcripts.Ending.TheVariants.{NoMemory, Replied, ShutDown, SinkLost, SourceLost}
 use Rattle.rx_engine.specs.declared.transcripts.Transcript.{Transcript}
 use Rattle.rx_engine.specs.Answers.{Grounds, grounds}
 use Rattle.rx_engine.specs.Meanings.{Meanings}
-use Rattle.rx_engine.specs.Ready.{FinishesAs, IsReadyAs, IsWriting, Wrote}
-use Rattle.rx_engine.specs.Session.{AreLater, IsCourse, IsSession, Replies}
+use Rattle.rx_engine.specs.Ready.{FinishesAs, IsReadyAs, IsWriting, IsWritingEnd, Wrote, WroteEnd}
+use Rattle.rx_engine.specs.Session.{AreLater, IsCourse, IsSession, IsUntouched, Replies, WasAskedToEnd}
 
 module _ {P W B : Type 0} (m : Meanings P W B) (root : List ℕ) (g : Grounds P) (number : ℕ) (read : List ℕ) (request : Option Request) (ends : List Ended) where
   replies-moved : (a : Answered) (t : Transcript) → Replies m root g read request a.receipt ends a.reply → Wrote number read request ends a t → Replies m root g t.read t.request t.receipt t.ends a.reply
@@ -23,7 +24,8 @@ module _ {P W B : Type 0} (m : Meanings P W B) (root : List ℕ) (g : Grounds P)
 
   course-at : (a : Answered) (t : Transcript) (ending : Ending) → t.ending ≡ ending → IsWriting ending → IsReadyAs m root g read request ends (Some a) → Wrote number read request ends a t → IsCourse m root g t ending
   course-at a t Replied e writing ready w = (a.reply, w.reply_is, w.whole e ∙ ready.0, replies-moved a t ready.1 w)
-  course-at a t SinkLost e writing ready w = (a.reply, w.reply_is, w.count, w.written_is ∙ ap (take w.count) ready.0, replies-moved a t ready.1 w)
+  course-at a t ShutDown e writing ready w = absurd writing
+  course-at a t SinkLost e writing ready w = inl (a.reply, w.reply_is, w.count, w.written_is ∙ ap (take w.count) ready.0, replies-moved a t ready.1 w)
   course-at a t SourceLost e writing ready w = absurd writing
   course-at a t NoMemory e writing ready w = absurd writing
 
@@ -35,6 +37,16 @@ module _ {P W B : Type 0} (m : Meanings P W B) (root : List ℕ) (g : Grounds P)
   finished-read : (answered : Option Answered) (t : Transcript) → FinishesAs number read request ends answered t → (t.read ≡ read) × (t.ending ≡ SourceLost → ⊥)
   finished-read None t w = (w.read_is, λ e. let x = w.ending_is in cc)
   finished-read (Some a) t w = (w.read_is, λ e. rw e at w.writing)
+
+was-ended : {P W B : Type 0} (m : Meanings P W B) (g : Grounds P) (number : ℕ) (read frame : List ℕ) (t : Transcript)
+    → read ≡ shutdown → IsUntouched m g [] → WroteEnd number read frame t → WasAskedToEnd m g t
+was-ended m g number read frame t r u w = record {
+  read_is = w.read_is ∙ r;
+  request_is = w.request_is;
+  reply_is = w.reply_is;
+  receipt_is = w.receipt_is;
+  untouched = rw w.ends_are u;
+}
 
 -- a session that wrote what was ready
 pub session-finished : {P W B : Type 0} (m : Meanings P W B) (root : List ℕ) (before after : P) (number : ℕ) (read : List ℕ) (request : Option Request) (ends : List Ended) (answered : Option Answered) (t : Transcript) (answers : List Given) (lists : List Listing) (view : List (List ℕ × Look))
@@ -61,6 +73,15 @@ session-finished m root before after number read request ends answered t answers
       sink = sink;
       later = later;
     }
+
+-- a session that was asked to end the run
+pub course-ended : {P W B : Type 0} (m : Meanings P W B) (root : List ℕ) (g : Grounds P) (number : ℕ) (read frame : List ℕ) (t : Transcript) (ending : Ending)
+    → t.ending ≡ ending → read ≡ shutdown → frame ≡ shutdown_done → IsUntouched m g [] → WroteEnd number read frame t → IsWritingEnd ending → IsCourse m root g t ending
+course-ended m root g number read frame t ShutDown e r f u w writing = (was-ended m g number read frame t r u w, w.whole e ∙ f)
+course-ended m root g number read frame t SinkLost e r f u w writing = inr (w.count, w.written_is ∙ ap (take w.count) f, was-ended m g number read frame t r u w)
+course-ended m root g number read frame t Replied e r f u w writing = absurd writing
+course-ended m root g number read frame t SourceLost e r f u w writing = absurd writing
+course-ended m root g number read frame t NoMemory e r f u w writing = absurd writing
 
 -- nothing was written
 pub appends-none : (old : Option (List ℕ)) → Appends old old []

@@ -1,13 +1,16 @@
--- A refusal of a request stays, whatever bytes follow, but where the frame is cut short.
+-- A refusal of a request stays, whatever bytes follow, but where the frame is cut short; and so does a Shutdown.
 use Rattle.std.proofs.Common.{◌≡◌, ℕ, ◌+◌, ◌<◌, ◌≤◌, Bool, true, false, List, [], ◌∷◌, ◌++◌, refl, ap, sym, subst, ◌∙◌, arith, length, length-append, length-drop, take, drop}
-use Rattle.std.specs.Prelude.{Err, Ok, Result, if◌then◌else◌, nat_lt, slice_index}
+use Rattle.std.specs.Prelude.{◌==◌, Err, Ok, Result, if◌then◌else◌, nat_lt, not, slice_index}
 use Rattle.std.specs.Int.{from_be_bytes, w32}
 use Rattle.std.proofs.lemmas.List.{drop-append-le, take-append-le}
 use Rattle.rx_base.specs.Results.{◌>>=◌}
 use Rattle.rx_session.specs.declared.bad.Bad.{Bad}
-use Rattle.rx_session.specs.declared.bad.BadReason.TheVariants.{CutShort}
+use Rattle.rx_session.specs.declared.bad.BadReason.TheVariants.{BadKind, BadMessage, CutShort, TooLong}
+use Rattle.rx_session.specs.declared.frames.Incoming.{Incoming}
+use Rattle.rx_session.specs.declared.frames.Incoming.TheVariants as incomings
 use Rattle.rx_session.specs.declared.requests.Request.{Request}
-use Rattle.rx_session.specs.Frames.{alone, len_in, length_in, payload_request, request_of, request_within}
+use Rattle.rx_session.specs.Bad.{bad}
+use Rattle.rx_session.specs.Frames.{IsRequest, alone, begins, head_by, head_in, incoming_by, incoming_of, length_in, longest_payload, or_request, payload_request, request_within, shutdown}
 
 lt-false : (a b : ℕ) → b ≤ a → nat_lt a b ≡ false
 lt-false a b h = grind (arith, h)
@@ -21,11 +24,20 @@ le-of a b h = grind (arith, h)
 lt-of : (a b : ℕ) → nat_lt a b ≡ true → a < b
 lt-of a b h = grind (arith, h)
 
-abbrev errs : Bad → Result Request Bad
+abbrev pub errs : Bad → Result Incoming Bad
 errs b = Err b
+
+abbrev oks : Incoming → Result Incoming Bad
+oks a = Ok a
 
 err-inj : (a b : Bad) → errs a ≡ errs b → a ≡ b
 err-inj a b h = cc
+
+abbrev cuts : Bad → Result Request Bad
+cuts b = Err b
+
+cut-inj : (a b : Bad) → cuts a ≡ cuts b → a ≡ b
+cut-inj a b h = cc
 
 err-ok : {A E : Type 0} (a : E) (b : A) → Err a ≡ Ok b → ⊥
 err-ok a b h = cc
@@ -62,7 +74,7 @@ tail-late len text more why asked (Ok r) h k =
 within-late : (root : List ℕ) (len : ℕ) (text more : List ℕ) (why : Bad) (asked : Request) (s : Bool) → nat_lt (length text) (5 + len) ≡ s
     → request_within root len text ≡ Err why → (why.reason ≡ CutShort → ⊥) → request_within root len (text ++ more) ≡ Ok asked → ⊥
 unfolding request_within
-within-late root len text more why asked true se h n k = n (ap (λ b. b.reason) (sym (err-inj _ why (rw se at h))))
+within-late root len text more why asked true se h n k = n (ap (λ b. b.reason) (sym (cut-inj _ why (rw se at h))))
 within-late root len text more why asked false se h n k =
     let enough : 5 + len ≤ length text = le-of (length text) (5 + len) se in
     let longer : nat_lt (length (text ++ more)) (5 + len) ≡ false = lt-false (length (text ++ more)) (5 + len) (omega (arith, enough, length-append text more)) in
@@ -70,30 +82,68 @@ within-late root len text more why asked false se h n k =
     tail-late len text more why asked (payload_request root (take len (drop 5 text))) (rw se at h)
     (subst (λ p. (payload_request root p >>= alone len (text ++ more)) ≡ Ok asked) same (rw longer at k))
 
--- a header says the same, whatever follows
-len_in-more : (text more : List ℕ) → 5 ≤ length text → len_in (text ++ more) ≡ len_in text
-unfolding len_in
-len_in-more text more five =
-    let short : nat_lt (length text) 5 ≡ false = lt-false (length text) 5 five in
-    let longer : nat_lt (length (text ++ more)) 5 ≡ false = lt-false (length (text ++ more)) 5 (omega (arith, five, length-append text more)) in
-    let first = index-more text more (omega (arith, five)) in
-    rw (short, longer, first, length-more text more five) refl
+-- what was found of a request
+found-refused : (request : Result Request Bad) (why : Bad) → or_request request ≡ Err why → request ≡ Err why
+found-refused (Ok request) why h = absurd (cc h)
+found-refused (Err fault) why h = cc
 
-len-late : (root : List ℕ) (text more : List ℕ) (why : Bad) (asked : Request) (len : Result ℕ Bad) → len_in text ≡ len → 5 ≤ length text
-    → request_of root text ≡ Err why → (why.reason ≡ CutShort → ⊥) → request_of root (text ++ more) ≡ Ok asked → ⊥
-unfolding request_of
-len-late root text more why asked (Err e) le five h n k =
-    err-ok e asked (subst (λ l. (l >>= λ len. request_within root len (text ++ more)) ≡ Ok asked) (len_in-more text more five ∙ le) k)
-len-late root text more why asked (Ok len) le five h n k =
+found-asked : (request : Result Request Bad) (asked : Request) → or_request request ≡ Ok (incomings.Request asked) → request ≡ Ok asked
+found-asked (Ok request) asked h = cc
+found-asked (Err fault) asked h = absurd (cc h)
+
+-- what a header tells, by its kind and length
+by-asked : (root text : List ℕ) (kind len : ℕ) → (kind == 1) ≡ true → (head_by kind len >>= incoming_by root text) ≡ or_request (request_within root len text)
+by-asked root text kind len e = rw e refl
+
+by-refused : (root text : List ℕ) (kind len : ℕ) → (kind == 1) ≡ false → nat_lt 0 len ≡ true → (head_by kind len >>= incoming_by root text) ≡ Err (bad BadMessage 1)
+by-refused root text kind len e f = rw (e, f) refl
+
+by-ended : (root text : List ℕ) (kind len : ℕ) → (kind == 1) ≡ false → nat_lt 0 len ≡ false → (head_by kind len >>= incoming_by root text) ≡ Ok incomings.Shutdown
+by-ended root text kind len e f = rw (e, f) refl
+
+pub err-in : (a : Bad) (asked : Request) → errs a ≡ Ok (incomings.Request asked) → ⊥
+err-in a asked h = cc
+
+end-in : (asked : Request) → Ok incomings.Shutdown ≡ oks (incomings.Request asked) → ⊥
+end-in asked h = cc
+
+head-late : (root text more : List ℕ) (why : Bad) (asked : Request) (kind len : ℕ) (d z : Bool) → (kind == 1) ≡ d → nat_lt 0 len ≡ z
+    → (head_by kind len >>= incoming_by root text) ≡ Err why → (why.reason ≡ CutShort → ⊥)
+    → (head_by kind len >>= incoming_by root (text ++ more)) ≡ Ok (incomings.Request asked) → ⊥
+head-late root text more why asked kind len true z e f h n k =
     within-late root len text more why asked (nat_lt (length text) (5 + len)) refl
-    (subst (λ l. (l >>= λ len. request_within root len text) ≡ Err why) le h) n
-    (subst (λ l. (l >>= λ len. request_within root len (text ++ more)) ≡ Ok asked) (len_in-more text more five ∙ le) k)
+    (found-refused (request_within root len text) why (sym (by-asked root text kind len e) ∙ h)) n
+    (found-asked (request_within root len (text ++ more)) asked (sym (by-asked root (text ++ more) kind len e) ∙ k))
+head-late root text more why asked kind len false true e f h n k = err-in (bad BadMessage 1) asked (sym (by-refused root (text ++ more) kind len e f) ∙ k)
+head-late root text more why asked kind len false false e f h n k = end-in asked (sym (by-ended root (text ++ more) kind len e f) ∙ k)
+
+tests-late : (root text more : List ℕ) (why x y : Bad) (asked : Request) (kind len : ℕ) (b l : Bool)
+    → ((if not b then Err x else if l then Err y else head_by kind len) >>= incoming_by root text) ≡ Err why → (why.reason ≡ CutShort → ⊥)
+    → ((if not b then Err x else if l then Err y else head_by kind len) >>= incoming_by root (text ++ more)) ≡ Ok (incomings.Request asked) → ⊥
+tests-late root text more why x y asked kind len false l h n k = err-in x asked k
+tests-late root text more why x y asked kind len true true h n k = err-in y asked k
+tests-late root text more why x y asked kind len true false h n k = head-late root text more why asked kind len (kind == 1) (nat_lt 0 len) refl refl h n k
 
 early-at : (root : List ℕ) (text more : List ℕ) (why : Bad) (asked : Request) (c : Bool) → nat_lt (length text) 5 ≡ c
-    → request_of root text ≡ Err why → (why.reason ≡ CutShort → ⊥) → request_of root (text ++ more) ≡ Ok asked → ⊥
-unfolding request_of len_in
-early-at root text more why asked true ce h n k = n (ap (λ b. b.reason) (sym (err-inj _ why (rw ce at h))))
-early-at root text more why asked false ce h n k = len-late root text more why asked (len_in text) refl (le-of (length text) 5 ce) h n k
+    → incoming_of root text ≡ Err why → (why.reason ≡ CutShort → ⊥) → IsRequest root (text ++ more) asked → ⊥
+unfolding incoming_of head_in
+early-at root text more why asked true ce h n k =
+    let short : errs (bad CutShort (length text)) ≡ Err why = rw ce at h in
+    n (ap (λ b. b.reason) (sym (err-inj _ why short)))
+early-at root text more why asked false ce h n k =
+    let five : 5 ≤ length text = le-of (length text) 5 ce in
+    let longer : nat_lt (length (text ++ more)) 5 ≡ false = lt-false (length (text ++ more)) 5 (omega (arith, five, length-append text more)) in
+    let first = index-more text more (omega (arith, five)) in
+    let len = length-more text more five in
+    tests-late root text more why (bad BadKind 0) (bad TooLong (length_in text)) asked (slice_index text 0) (length_in text) (begins (slice_index text 0)) (nat_lt longest_payload (length_in text))
+    (rw ce at h) n (rw (longer, first, len) at k)
 
-pub early : (root : List ℕ) (text more : List ℕ) (why : Bad) (asked : Request) → request_of root text ≡ Err why → (why.reason ≡ CutShort → ⊥) → request_of root (text ++ more) ≡ Ok asked → ⊥
+pub early : (root : List ℕ) (text more : List ℕ) (why : Bad) (asked : Request) → incoming_of root text ≡ Err why → (why.reason ≡ CutShort → ⊥) → IsRequest root (text ++ more) asked → ⊥
 early root text more why asked h n k = early-at root text more why asked (nat_lt (length text) 5) refl h n k
+
+-- bytes that begin with a Shutdown are no request
+pub no-request : (root more : List ℕ) (asked : Request) → IsRequest root (shutdown ++ more) asked → ⊥
+unfolding incoming_of head_in
+no-request root more asked k =
+    let longer : nat_lt (length (shutdown ++ more)) 5 ≡ false = lt-false (length (shutdown ++ more)) 5 (omega (arith, length-append shutdown more)) in
+    end-in asked (rw longer at k)

@@ -1,5 +1,5 @@
 -- What an answer enters into the journal.
-use Rattle.std.proofs.Common.{◌≡◌, ℕ, List, false, true}
+use Rattle.std.proofs.Common.{◌≡◌, ℕ, List}
 use Rattle.std.specs.Prelude.{Err, IfOk, IfSome, None, OnErr, Ok, Option, Result, Some}
 use Rattle.rx_board.specs.declared.journal.Entry.{Entry}
 use Rattle.rx_board.specs.declared.journal.Receipt.{Receipt}
@@ -13,13 +13,8 @@ use Rattle.rx_engine.specs.declared.answered.Answered.{Answered}
 use Rattle.rx_engine.specs.Answered.{IsUnpublished}
 use Rattle.rx_engine.specs.Journal.{Enters, EntersBoard, files_of}
 use Rattle.rx_engine.specs.Ready.{EntersAs, IsOrGivenUp}
+use Rattle.rx_engine.proofs.Cases.{false-true, some-inj}
 use Rattle.rx_engine.proofs.Unpublished.{given-up}
-
-some-inj : {A : Type 0} {a b : A} → Some a ≡ Some b → a ≡ b
-some-inj h = cc
-
-false-true : false ≡ true → ⊥
-false-true h = cc
 
 -- a reply without a receipt, other than a full journal, leaves the journal as it was
 pub enters-nothing : (limit : ℕ) (old new : List Entry) (before now session : ℕ) (receipt : Option Receipt) (files : List Listed) (answer : Option Reply) → new ≡ old → receipt ≡ None → (answer ≡ Some reply.JournalFull → ⊥) → Enters limit old new before now session receipt files answer

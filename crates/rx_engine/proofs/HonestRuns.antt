@@ -1,6 +1,6 @@
 -- What a session of an honest world stands on, and its clean run.
 use Rattle.std.proofs.Common.{◌≡◌, ◌||◌, ℕ, ℤ, Bool, true, List, [], ◌∷◌, ◌++◌, refl, ap, sym, subst, ◌∙◌, append-nil, length, inl, inr}
-use Rattle.std.specs.Prelude.{◌⊎◌, All, IfSome, MatchOption, None, Ok, Option, Some, is_some}
+use Rattle.std.specs.Prelude.{◌⊎◌, All, IfSome, MatchOption, None, Option, Some, is_some}
 use Rattle.std.specs.Io.KnownBytes.{Consumes, IsAtEnd}
 use Rattle.std.proofs.lemmas.List.Elements.{All-weaker}
 use Rattle.rx_action.specs.ActionKeys.{key_of}
@@ -16,7 +16,7 @@ use Rattle.rx_scan.specs.Lists.{IsRightList, Shows}
 use Rattle.rx_session.specs.declared.replies.Reply.{Reply}
 use Rattle.rx_session.specs.declared.replies.Reply.TheVariants as reply
 use Rattle.rx_session.specs.declared.requests.Request.{Request}
-use Rattle.rx_session.specs.Frames.{request_of}
+use Rattle.rx_session.specs.Frames.{IsRequest, incoming_of}
 use Rattle.rx_tree.specs.WorldTrees.{IsCopyOf, IsRootOfCopies, root_of}
 use Rattle.rx_world.specs.declared.attempts.Attempt.{Attempt}
 use Rattle.rx_world.specs.declared.attempts.Attempt.TheVariants as whose
@@ -39,7 +39,7 @@ use Rattle.rx_world.specs.Sources.{entry_at}
 use Rattle.rx_world.specs.Trees.{tree_of}
 use Rattle.rx_engine.specs.declared.attempts.Won.{Won}
 use Rattle.rx_engine.specs.declared.transcripts.Ending.{Ending}
-use Rattle.rx_engine.specs.declared.transcripts.Ending.TheVariants.{NoMemory, Replied, SinkLost, SourceLost}
+use Rattle.rx_engine.specs.declared.transcripts.Ending.TheVariants.{NoMemory, Replied, ShutDown, SinkLost, SourceLost}
 use Rattle.rx_engine.specs.declared.transcripts.Transcript.{Transcript}
 use Rattle.rx_engine.specs.Answers.{Grounds, HasGathered, HasWon, asked_of, done_reply, grounds}
 use Rattle.rx_engine.specs.Attempts.{Attempts, HasAttempts, HasEndedHere, HasLocal, HasRemote, first_done, first_won, has_remote, outcome_of, winner, won_by, won_remote}
@@ -48,17 +48,9 @@ use Rattle.rx_engine.specs.Journal.{IsEntry, IsJournalled, IsPlaced, files_of}
 use Rattle.rx_engine.specs.Meanings.{Meanings}
 use Rattle.rx_engine.specs.RemoteAttempts.{EndsThere, HasRunThere}
 use Rattle.rx_engine.specs.Session.{IsCourse, IsSession, Replies, RepliesTo}
+use Rattle.rx_engine.proofs.Cases.{as-remote, none-some, some-inj}
 use Rattle.rx_engine.proofs.MadeLemmas.{if-some, won-files, won-first}
 use Rattle.rx_engine.proofs.RaceLemmas.{planned-there}
-
-none-some : {A : Type 0} {a : A} → None ≡ Some a → ⊥
-none-some h = cc
-
-some-inj : {A : Type 0} {a b : A} → Some a ≡ Some b → a ≡ b
-some-inj h = cc
-
-abbrev as-remote : End Outcome RemoteCause → End Outcome RemoteCause
-as-remote end = end
 
 -- ---- the request
 
@@ -68,12 +60,12 @@ read-all None new bytes read e h k = absurd (none-some e)
 read-all (Some xs) None bytes read e h k = absurd h
 read-all (Some xs) (Some ys) bytes read e h k = let same : xs ≡ bytes = some-inj e in sym (append-nil read) ∙ ap (λ s. read ++ s) (sym k) ∙ sym h ∙ same
 
-ok-inj : (root read bytes : List ℕ) (a b : Request) → read ≡ bytes → request_of root read ≡ Ok a → request_of root bytes ≡ Ok b → a ≡ b
-ok-inj root read bytes a b e h k = let j : request_of root read ≡ Ok b = ap (request_of root) e ∙ k in cc
+ok-inj : (root read bytes : List ℕ) (a b : Request) → read ≡ bytes → IsRequest root read a → IsRequest root bytes b → a ≡ b
+ok-inj root read bytes a b e h k = let j : IsRequest root read b = ap (incoming_of root) e ∙ k in cc
 
 -- the request that was read is the one that the input told
 pub same-request : (root : List ℕ) (old new : Option (List ℕ)) (bytes read : List ℕ) (served asked : Request)
-    → old ≡ Some bytes → Consumes old new read → IsAtEnd new → request_of root read ≡ Ok served → request_of root bytes ≡ Ok asked → served ≡ asked
+    → old ≡ Some bytes → Consumes old new read → IsAtEnd new → IsRequest root read served → IsRequest root bytes asked → served ≡ asked
 same-request root old new bytes read served asked told consumed end decoded valid =
     ok-inj root read bytes served asked (read-all old new bytes read told consumed end) decoded valid
 
@@ -272,7 +264,9 @@ module _ {P W B : Type 0} (m : Meanings P W B) (root : List ℕ) (before after :
 
   done-by : (ending : Ending) → IsCourse m root (grounds_of m root before after t s) t ending → IsCleanDone m.world.tool entries (asked_of asked) old new t number
   done-by Replied c = done-at c.0 c.1 c.3
-  done-by SinkLost c = done-at c.0 c.1 c.4
+  done-by ShutDown c = absurd (none-some (sym c.0.reply_is ∙ is_done))
+  done-by SinkLost (inl c) = done-at c.0 c.1 c.4
+  done-by SinkLost (inr c) = absurd (none-some (sym c.2.reply_is ∙ is_done))
   done-by SourceLost c = absurd (none-some (sym c.0 ∙ is_done))
   done-by NoMemory c = absurd (none-some (sym c.0 ∙ is_done))
 

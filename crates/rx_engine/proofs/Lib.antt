@@ -1,10 +1,12 @@
 mod AnswerLemmas
 mod AttemptLemmas
 mod Calm
+mod Cases
 mod ConcludeLemmas
 mod CourseLemmas
 mod EachDone
 mod Early
+mod EndedLemmas
 mod Entries
 mod Failures
 mod FinisherLemmas

@@ -41,18 +41,10 @@ use Rattle.rx_engine.specs.Attempts.{AreTellable, HasLocal, HasRemote, IsTellabl
 use Rattle.rx_engine.specs.Meanings.{Meanings}
 use Rattle.rx_engine.specs.Quiet.{IsFarmCause, IsQuietThere, MayFail}
 use Rattle.rx_engine.specs.RemoteAttempts.{EndsThere}
+use Rattle.rx_engine.proofs.Cases.{false-true, none-some, some-inj}
 use Rattle.rx_engine.proofs.HonestRuns.{files-listed, right-there, told-by, trusted}
 use Rattle.rx_engine.proofs.Calm.{IsCalm, not-failed-for}
 use Rattle.rx_engine.proofs.RaceLemmas.{first-won, started-here, unstopped-here}
-
-none-some : {A : Type 0} {a : A} → None ≡ Some a → ⊥
-none-some h = cc
-
-some-inj : {A : Type 0} {a b : A} → Some a ≡ Some b → a ≡ b
-some-inj h = cc
-
-false-true : false ≡ true → ⊥
-false-true h = cc
 
 abbrev fails-for : RemoteCause → End Outcome RemoteCause
 fails-for cause = ends.Failed cause

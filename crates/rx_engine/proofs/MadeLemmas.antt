@@ -21,16 +21,8 @@ use Rattle.rx_engine.specs.Journal.{files_of}
 use Rattle.rx_engine.specs.Meanings.{Meanings}
 use Rattle.rx_engine.specs.RacedAttempts.{HasRaced}
 use Rattle.rx_engine.specs.Racing.{HaveRaced}
+use Rattle.rx_engine.proofs.Cases.{false-true, none-some, some-inj}
 use Rattle.rx_engine.proofs.RaceLemmas.{first-won}
-
-some-inj : {A : Type 0} {a b : A} → Some a ≡ Some b → a ≡ b
-some-inj h = cc
-
-none-some : {A : Type 0} {a : A} → None ≡ Some a → ⊥
-none-some h = cc
-
-false-true : false ≡ true → ⊥
-false-true h = cc
 
 -- ---- what was made
 

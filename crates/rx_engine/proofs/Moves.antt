@@ -88,6 +88,7 @@ module _ {W I O T L M B R C : Type 0} (w : world.Ghosts W) (i : inputs.Ghosts I)
         attempted = record {
           made = a.made;
           returned = a.returned;
+          failed = a.failed;
           on = record {
             answers = a.on.answers;
             gives = gives-in w l (λ (x : Parts I O T L M R C). x.tree_local) _ _ _ (gives-out w l (λ (x : Parts I O T L M R C). x.tree_local) p q _ a.on.gives);

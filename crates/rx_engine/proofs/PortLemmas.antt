@@ -31,13 +31,20 @@ no_plus : (text : List ℕ) → list_all is_ascii_digit text ≡ true → withou
 no_plus [] e = refl
 no_plus (c ∷ cs) e = no_plus_at c cs (c == 43) refl (at_least c (first_so _ _ e))
 
-at_most_65535 : (n : ℕ) → is_in_range 1 65535 n ≡ true → n ≤ 65535
-at_most_65535 n e = leb-true n 65535 (second_so _ _ e)
+in_range_most : (most n : ℕ) → is_in_range 1 most n ≡ true → n ≤ most
+in_range_most most n e = leb-true n most (second_so _ _ e)
 
--- what isn't a numeral of 16 bits is no port
+-- what isn't a numeral of 16 bits is no number up to a smaller one
+pub no_number : (most : ℕ) → most < 2 ^ 16 → (text : List ℕ) → list_all is_ascii_digit text ≡ true
+    → (IsNumeral 10 (without_leading_plus text) × (digits_value 10 (without_leading_plus text) < 2 ^ 16) → ⊥)
+    → is_in_range 1 most (digits_value 10 text) ≡ false
+no_number most small [] e refused = refl
+no_number most small (c ∷ cs) e refused = false_from_ne_true _ (λ fits.
+    (rw (no_plus (c ∷ cs) e) at refused)
+    ((omega arith, all_digits (c ∷ cs) e), omega (arith, small, in_range_most most (digits_value 10 (c ∷ cs)) fits)))
+
+-- nor is it a port
 pub no_port : (text : List ℕ) → list_all is_ascii_digit text ≡ true
     → (IsNumeral 10 (without_leading_plus text) × (digits_value 10 (without_leading_plus text) < 2 ^ 16) → ⊥)
     → is_in_range 1 65535 (digits_value 10 text) ≡ false
-no_port [] e refused = refl
-no_port (c ∷ cs) e refused = false_from_ne_true _ (λ fits.
-    (rw (no_plus (c ∷ cs) e) at refused) ((omega arith, all_digits (c ∷ cs) e), omega (arith, at_most_65535 (digits_value 10 (c ∷ cs)) fits)))
+no_port = no_number 65535 (omega arith)

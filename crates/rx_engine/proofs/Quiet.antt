@@ -1,5 +1,5 @@
 -- A session in which nothing fails, in an honest world.
-use Rattle.std.proofs.Common.{◌≡◌, ℕ, List, [], ◌++◌, refl, ap, sym, subst, ◌∙◌, append-nil, length}
+use Rattle.std.proofs.Common.{◌≡◌, ℕ, List, [], ◌++◌, inl, inr, refl, ap, sym, subst, ◌∙◌, append-nil, length}
 use Rattle.std.specs.Prelude.{Err, MatchOption, None, Ok, Option, Result, Some}
 use Rattle.std.specs.Io.KnownBytes.{Consumes, IsAtEnd}
 use Rattle.rx_board.specs.declared.journal.Entry.{Entry}
@@ -9,46 +9,46 @@ use Rattle.rx_session.specs.declared.bad.BadReason.TheVariants.{CutShort}
 use Rattle.rx_session.specs.declared.replies.Reply.{Reply}
 use Rattle.rx_session.specs.declared.replies.Reply.TheVariants as reply
 use Rattle.rx_session.specs.declared.requests.Request.{Request}
-use Rattle.rx_session.specs.Frames.{request_of}
+use Rattle.rx_session.specs.declared.frames.Incoming.{Incoming}
+use Rattle.rx_session.specs.declared.frames.Incoming.TheVariants as incomings
+use Rattle.rx_session.specs.Frames.{IsRequest, incoming_of, shutdown}
 use Rattle.rx_world.specs.declared.sources.SourceEntry.{SourceEntry}
 use Rattle.rx_engine.specs.declared.transcripts.Ending.{Ending}
-use Rattle.rx_engine.specs.declared.transcripts.Ending.TheVariants.{NoMemory, Replied, SinkLost, SourceLost}
+use Rattle.rx_engine.specs.declared.transcripts.Ending.TheVariants.{NoMemory, Replied, ShutDown, SinkLost, SourceLost}
 use Rattle.rx_engine.specs.declared.transcripts.Transcript.{Transcript}
 use Rattle.rx_engine.specs.Answers.{Answers, Grounds}
 use Rattle.rx_engine.specs.Journal.{IsEntry, IsJournalled, IsPlaced, files_of}
 use Rattle.rx_engine.specs.Meanings.{Meanings}
 use Rattle.rx_engine.specs.Quiet.{HasRoom, IsDoneOr, IsDoneReply, IsQuiet, MayFail}
-use Rattle.rx_engine.specs.Session.{IsCourse, IsSession, Replies, RepliesTo}
-use Rattle.rx_engine.proofs.Early.{early}
+use Rattle.rx_engine.specs.Session.{IsCourse, IsSession, Replies, RepliesTo, WasAskedToEnd}
+use Rattle.rx_engine.proofs.Cases.{none-some, some-inj}
+use Rattle.rx_engine.proofs.Early.{early, err-in, no-request}
 use Rattle.rx_engine.proofs.HonestRuns.{grounds_of, same-request}
 use Rattle.rx_engine.proofs.Calm.{IsCalm, calm, not-refused-by}
 use Rattle.rx_engine.proofs.LostRuns.{fails}
 
-none-some : {A : Type 0} {a : A} → None ≡ Some a → ⊥
-none-some h = cc
-
-some-inj : {A : Type 0} {a b : A} → Some a ≡ Some b → a ≡ b
-some-inj h = cc
-
-abbrev errs : Bad → Result Request Bad
-errs b = Err b
-
-err-ok : (a : Bad) (b : Request) → errs a ≡ Ok b → ⊥
-err-ok a b h = cc
-
 -- a refusal contradicts a request that is told whole
 pub not-refused : (root : List ℕ) (old new : Option (List ℕ)) (bytes read : List ℕ) (why : Bad) (asked : Request)
-    → old ≡ Some bytes → Consumes old new read → request_of root read ≡ Err why → (why.reason ≡ CutShort → IsAtEnd new) → request_of root bytes ≡ Ok asked → ⊥
+    → old ≡ Some bytes → Consumes old new read → incoming_of root read ≡ Err why → (why.reason ≡ CutShort → IsAtEnd new) → IsRequest root bytes asked → ⊥
 not-refused root None new bytes read why asked e h d cut v = absurd (none-some e)
 not-refused root (Some xs) None bytes read why asked e h d cut v = absurd h
 not-refused root (Some xs) (Some ys) bytes read why asked e h d cut v =
     let whole : bytes ≡ read ++ ys = sym (some-inj e) ∙ h in
-    let valid : request_of root (read ++ ys) ≡ Ok asked = ap (request_of root) (sym whole) ∙ v in
+    let valid : IsRequest root (read ++ ys) asked = ap (incoming_of root) (sym whole) ∙ v in
     early root read ys why asked d
     (λ c. let end : ys ≡ [] = cut c in
-    let same : request_of root read ≡ Ok asked = ap (request_of root) (sym (append-nil read) ∙ ap (λ s. read ++ s) (sym end)) ∙ valid in
-    err-ok why asked (sym d ∙ same))
+    let same : IsRequest root read asked = ap (incoming_of root) (sym (append-nil read) ∙ ap (λ s. read ++ s) (sym end)) ∙ valid in
+    err-in why asked (sym d ∙ same))
     valid
+
+-- a Shutdown contradicts a request that is told whole
+not-ended : (root : List ℕ) (old new : Option (List ℕ)) (bytes read : List ℕ) (asked : Request)
+    → old ≡ Some bytes → Consumes old new read → read ≡ shutdown → IsRequest root bytes asked → ⊥
+not-ended root None new bytes read asked e h r v = absurd (none-some e)
+not-ended root (Some xs) None bytes read asked e h r v = absurd h
+not-ended root (Some xs) (Some ys) bytes read asked e h r v =
+    let whole : bytes ≡ shutdown ++ ys = sym (some-inj e) ∙ h ∙ ap (λ s. s ++ ys) r in
+    no-request root ys asked (ap (incoming_of root) (sym whole) ∙ v)
 
 module _ {P W B : Type 0} (m : Meanings P W B) (entries : List SourceEntry) (g : Grounds P) (asked : Request) (c : IsCalm m entries g asked) where
   -- what a quiet session answers to its request
@@ -95,9 +95,14 @@ module _ {P W B : Type 0} (m : Meanings P W B) (root : List ℕ) (before after :
   done-at reply.JournalFull e a = to-asked reply.JournalFull e a
   done-at (reply.Blocked path) e a = to-asked (reply.Blocked path) e a
 
+  ended : WasAskedToEnd m (grounds_of m root before after t s) t → ⊥
+  ended h = not-ended root (m.input.left before) (m.input.left after) bytes t.read asked q.steady.told s.read h.read_is q.steady.valid
+
   complete-at : (ending : Ending) → t.ending ≡ ending → IsCourse m root (grounds_of m root before after t s) t ending → IsDoneOr asked.strategy ending t.reply
   complete-at Replied e c = rw c.1 (done-at c.0 c.1 c.3)
-  complete-at SinkLost e c = rw c.1 (done-at c.0 c.1 c.4)
+  complete-at ShutDown e c = ended c.0
+  complete-at SinkLost e (inl c) = rw c.1 (done-at c.0 c.1 c.4)
+  complete-at SinkLost e (inr c) = absurd (ended c.2)
   complete-at SourceLost e c = q.input (s.source e)
   complete-at NoMemory e c = tt
 

@@ -27,15 +27,7 @@ use Rattle.rx_engine.specs.declared.attempts.Won.{Won as Winner}
 use Rattle.rx_engine.specs.Attempts.{Attempts, HasAttempts, HasLocal, has_both, has_local, has_remote, starts_here, won_remote}
 use Rattle.rx_engine.specs.Meanings.{Meanings}
 use Rattle.rx_engine.specs.Racing.{FitsEnd, HaveRaced, IsVerdictOn, first_by}
-
-none-some : {A : Type 0} {a : A} → None ≡ Some a → ⊥
-none-some h = cc
-
-some-none : {A : Type 0} {a : A} → Some a ≡ None → ⊥
-some-none h = cc
-
-false-true : false ≡ true → ⊥
-false-true h = cc
+use Rattle.rx_engine.proofs.Cases.{false-true, none-some, some-none}
 
 refused-told : (verdict : Verdict) → Refused ≡ Told verdict → ⊥
 refused-told verdict h = cc

@@ -140,6 +140,7 @@ module _ {W I O T L M B R C : Type 0} (w : world.Ghosts W) (i : inputs.Ghosts I)
   pub stage-move : (request : Request) (stage : Stage) → IsStageOf (meanings w i o t l k b v z) (grounds p q xs ls vs) request stage → IsStageOf (meanings w i o t l k b v z) (grounds r s xs ls vs) request stage
   unfolding run-move
   stage-move request stages.Lost h = absurd h
+  stage-move request (stages.ShutDown frame) h = absurd h
   stage-move request (stages.Refused None) h = (may-move request [] h.0, h.1)
   stage-move request (stages.Refused (Some a)) h = ((h.0.0, answers-move request a.receipt [] a.reply h.0.1), h.1)
   stage-move request (stages.Attempted attempted) h = record { run = run-move request attempted.ends h.run; won_is = h.won_is }

@@ -1,5 +1,5 @@
 -- Sessions in an honest world, and what a Done says there.
-use Rattle.std.specs.Prelude.{◌≡◌, ℕ, ℤ, true, List, [], ◌∷◌, ◌++◌, Some, Ok, length, map}
+use Rattle.std.specs.Prelude.{◌≡◌, ℕ, ℤ, true, List, [], ◌∷◌, ◌++◌, Some, length, map}
 use Rattle.rx_action.specs.ActionKeys.{key_of}
 use Rattle.rx_board.specs.declared.journal.Entry.{Entry}
 use Rattle.rx_reach.specs.Scenes.{scene_of}
@@ -7,7 +7,7 @@ use Rattle.rx_scan.specs.declared.gathering.Gathered.{Gathered}
 use Rattle.rx_scan.specs.Gathering.{Asked, IsGathered, IsOrderly}
 use Rattle.rx_session.specs.declared.replies.Reply.TheVariants as reply
 use Rattle.rx_session.specs.declared.requests.Request.{Request}
-use Rattle.rx_session.specs.Frames.{request_of}
+use Rattle.rx_session.specs.Frames.{IsRequest}
 use Rattle.rx_tree.specs.WorldTrees.{root_of}
 use Rattle.rx_world.specs.declared.attempts.Origin.{Origin}
 use Rattle.rx_world.specs.declared.commands.Command.{Command}
@@ -28,7 +28,7 @@ pub record IsSteady {P W B : Type 0} (m : Meanings P W B) (root : List ℕ) (bef
     (entries : List SourceEntry) : Type 0 where
   pub tools : m.world.tools_honest
   pub told : m.input.left before ≡ Some bytes
-  pub valid : request_of root bytes ≡ Ok asked
+  pub valid : IsRequest root bytes asked
   pub listed : m.tree.listed before ≡ Some entries
   pub kept_list : m.tree.keeps before
   pub local_listed : m.tree_local.listed before ≡ Some entries

@@ -4,7 +4,10 @@ use Rattle.std.specs.Io.KnownBytes.{Consumes}
 use Rattle.rx_board.specs.Board.{State}
 use Rattle.rx_session.specs.declared.bad.SessionFault.{SessionFault}
 use Rattle.rx_session.specs.declared.bad.SessionFault.TheVariants as faults
+use Rattle.rx_session.specs.declared.frames.Incoming.{Incoming}
+use Rattle.rx_session.specs.declared.frames.Incoming.TheVariants as incomings
 use Rattle.rx_session.specs.declared.requests.Request.{Request}
+use Rattle.rx_session.specs.Frames.{shutdown, shutdown_done}
 use Rattle.rx_scan.specs.Lists.{Listing, Tells}
 use Rattle.rx_world.specs.declared.looks.Look.{Look}
 use Rattle.rx_world.specs.declared.places.Place as places
@@ -17,7 +20,7 @@ use Rattle.rx_engine.specs.declared.pending.Stage.{Stage}
 use Rattle.rx_engine.specs.declared.pending.Stage.TheVariants as stages
 use Rattle.rx_engine.specs.declared.transcripts.Transcript.{Transcript}
 use Rattle.rx_engine.specs.Answered.{IsPlain, IsUnpublished, bad_request, reply_no_memory}
-use Rattle.rx_engine.specs.Answers.{Grounds, HasRun, grounds}
+use Rattle.rx_engine.specs.Answers.{Grounds, HasOutputsBelow, HasRun, grounds}
 use Rattle.rx_engine.specs.Attempts.{winner}
 use Rattle.rx_engine.specs.Journal.{JournalsBoard, files_of}
 use Rattle.rx_engine.specs.Meanings.{Meanings}
@@ -32,6 +35,7 @@ pub record HasTried {P W B : Type 0} (m : Meanings P W B) (g : Grounds P) (reque
 -- what was made of a request
 abbrev pub IsStageOf : {P W B : Type 0} → Meanings P W B → Grounds P → Request → Stage → Type 0
 IsStageOf m g request stages.Lost = ⊥
+IsStageOf m g request (stages.ShutDown frame) = ⊥
 IsStageOf m g request (stages.Refused answered) = AnswersAs m g request [] answered × IfSome answered IsUnpublished
 IsStageOf m g request (stages.Attempted attempted) = HasTried m g request attempted
 
@@ -45,6 +49,7 @@ pub record HasAnswered {P W B : Type 0} (m : Meanings P W B) (request : Request)
 
 -- what is made of bytes that are no request
 abbrev pub IsRefusalOf : SessionFault → Stage → Type 0
+IsRefusalOf fault (stages.ShutDown frame) = ⊥
 IsRefusalOf (faults.Bad bad) stages.Lost = ⊥
 IsRefusalOf (faults.Bad bad) (stages.Refused answered) = IfSome answered (λ a. IsPlain (bad_request bad) a ⊎ IsPlain reply_no_memory a)
 IsRefusalOf (faults.Bad bad) (stages.Attempted attempted) = ⊥
@@ -55,10 +60,23 @@ IsRefusalOf faults.ReadFault stages.Lost = Unit {0}
 IsRefusalOf faults.ReadFault (stages.Refused answered) = ⊥
 IsRefusalOf faults.ReadFault (stages.Attempted attempted) = ⊥
 
+-- of a request the outputs are below its working directory
+abbrev pub HasOutputsIfAsked : Incoming → Type 0
+HasOutputsIfAsked (incomings.Request request) = HasOutputsBelow request
+HasOutputsIfAsked incomings.Shutdown = Unit {0}
+
+-- what is made of a Shutdown: its answer or, for want of memory, none
+abbrev pub IsEndOfRun : Stage → Type 0
+IsEndOfRun (stages.ShutDown frame) = frame.items ≡ shutdown_done
+IsEndOfRun (stages.Refused answered) = answered ≡ None
+IsEndOfRun stages.Lost = ⊥
+IsEndOfRun (stages.Attempted attempted) = ⊥
+
 -- what was made of what was read, by its stage
 abbrev pub IsStage : {P W B : Type 0} → Meanings P W B → List ℕ → Grounds P → List ℕ → Option Request → Stage → Type 0
 IsStage m root g read request stages.Lost =
     (request ≡ None) × IsUntouched m g [] × Rose (m.input.faults g.before) (m.input.faults g.after)
+IsStage m root g read request (stages.ShutDown frame) = (read ≡ shutdown) × (request ≡ None) × IsUntouched m g [] × (frame.items ≡ shutdown_done)
 IsStage m root g read request (stages.Refused answered) = IsReadyAs m root g read request [] answered × IfSome answered IsUnpublished
 IsStage m root g read request (stages.Attempted attempted) =
     (asked : Request) × IsAsked m root g read request asked × HasTried m g asked attempted

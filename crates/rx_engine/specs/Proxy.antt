@@ -1,11 +1,13 @@
 -- A run of sessions, one after the other.
-use Rattle.std.specs.Prelude.{◌≡◌, ℕ, ◌+◌, ◌<◌, List, [], ◌∷◌, ◌++◌, Bool, false, true, Option, MatchOption, if◌then◌else◌, length}
+use Rattle.std.specs.Prelude.{◌≡◌, ◌⊎◌, ℕ, ◌+◌, ◌<◌, List, [], ◌∷◌, ◌++◌, Bool, false, true, Option, None, MatchOption, None, if◌then◌else◌, length}
 use Rattle.std.specs.List.{list_any}
+use Rattle.std.specs.Str.{bytes_eq}
 use Rattle.rx_base.specs.Told.{Told}
 use Rattle.rx_board.specs.declared.journal.Entry.{Entry}
+use Rattle.rx_session.specs.Frames.{shutdown}
 use Rattle.rx_world.specs.Causes.{Rose}
 use Rattle.rx_engine.specs.declared.proxy.Stop.{Stop}
-use Rattle.rx_engine.specs.declared.proxy.Stop.TheVariants.{Ended, FrontLost, NoMemory, Spent}
+use Rattle.rx_engine.specs.declared.proxy.Stop.TheVariants.{Ended, FrontLost, NoMemory, ShutDown, Spent}
 use Rattle.rx_engine.specs.declared.transcripts.Ending.{Ending}
 use Rattle.rx_engine.specs.declared.transcripts.Ending.TheVariants as ending
 use Rattle.rx_engine.specs.declared.transcripts.Transcript.{Transcript}
@@ -40,12 +42,14 @@ abbrev pub is_source_lost : Ending → Bool
 is_source_lost ending.SourceLost = true
 is_source_lost ending.Replied = false
 is_source_lost ending.SinkLost = false
+is_source_lost ending.ShutDown = false
 is_source_lost ending.NoMemory = false
 
 abbrev pub is_sink_lost : Ending → Bool
 is_sink_lost ending.SinkLost = true
 is_sink_lost ending.Replied = false
 is_sink_lost ending.SourceLost = false
+is_sink_lost ending.ShutDown = false
 is_sink_lost ending.NoMemory = false
 
 -- the status of a run whose front was asked to its end, or as often as it may be
@@ -60,21 +64,69 @@ abbrev pub status_of : Stop → List Transcript → ℕ
 status_of FrontLost ts = 3
 status_of NoMemory ts = 4
 status_of Ended ts = status_over 0 ts
+status_of ShutDown ts = status_over 0 ts
 status_of Spent ts = status_over 7 ts
+
+-- the status of a run in threads, in which the streams of one session are a matter of its client alone
+abbrev pub serving_status : Stop → ℕ
+serving_status FrontLost = 3
+serving_status NoMemory = 4
+serving_status Ended = 0
+serving_status ShutDown = 0
+serving_status Spent = 7
 
 -- how many desks a run serves at most, one for each number of 32 bits
 abbrev pub most_desks : ℕ
 most_desks = 4294967295
 
--- why no more desks were asked for: the front has none, its count rose, as many were served as may be, or memory ran out
-abbrev pub IsStop : {D : Type 0} → Option (List D) → Option (List D) → ℕ → ℕ → ℕ → Stop → Type 0
-IsStop old new before now served Ended = Told old new (λ coming left. left ≡ []) × (served < most_desks)
-IsStop old new before now served FrontLost = Rose before now
-IsStop old new before now served Spent = served ≡ most_desks
-IsStop old new before now served NoMemory = Unit {0}
+-- ---- asked to end
+
+-- the bytes that a session read ask for the run's end
+abbrev pub asks_to_end : List ℕ → Bool
+asks_to_end read = bytes_eq read shutdown
+
+-- one of these sessions was asked to end the run
+abbrev pub is_asked_to_end : List Transcript → Bool
+is_asked_to_end ts = list_any (λ t. asks_to_end t.read) ts
+
+-- the last session was asked to end the run, and no other was
+pub record WasEnded (ts : List Transcript) : Type 0 where
+  pub others : List Transcript
+  pub last : Transcript
+  pub all_are : ts ≡ others ++ last ∷ []
+  pub unasked : is_asked_to_end others ≡ false
+  pub asked : asks_to_end last.read ≡ true
+
+-- that is so just where a run stops for it
+abbrev pub IsEndedBy : Stop → List Transcript → Type 0
+IsEndedBy ShutDown ts = WasEnded ts
+IsEndedBy Ended ts = is_asked_to_end ts ≡ false
+IsEndedBy FrontLost ts = is_asked_to_end ts ≡ false
+IsEndedBy NoMemory ts = is_asked_to_end ts ≡ false
+IsEndedBy Spent ts = is_asked_to_end ts ≡ false
+
+-- Where a session was asked to end the run, it was the last one, and the status tells of nothing but sessions.
+abbrev pub EndsWhereAsked : ℕ → List Transcript → Type 0
+EndsWhereAsked status ts = (is_asked_to_end ts ≡ false) ⊎ (WasEnded ts × (status ≡ status_over 0 ts))
+
+-- ---- why no more desks were asked for
+
+-- The front has none, its count rose, as many were served as may be, a session was asked to end the run, or memory ran out.
+abbrev pub IsStop : {D : Type 0} → Option (List D) → Option (List D) → ℕ → ℕ → List Transcript → Stop → Type 0
+IsStop old new before now ts Ended = Told old new (λ coming left. left ≡ []) × (length ts < most_desks)
+IsStop old new before now ts FrontLost = Rose before now
+IsStop old new before now ts Spent = length ts ≡ most_desks
+IsStop old new before now ts ShutDown = WasEnded ts
+IsStop old new before now ts NoMemory = Unit {0}
 
 -- the status is the one of such a stop
 pub record HasStatus {D : Type 0} (old new : Option (List D)) (before now status : ℕ) (ts : List Transcript) : Type 0 where
   pub stop : Stop
-  pub stopped : IsStop old new before now (length ts) stop
+  pub stopped : IsStop old new before now ts stop
   pub status_is : status ≡ status_of stop ts
+
+-- the same of a run in threads, whose front tells nothing
+pub record HasServingStatus (before now status : ℕ) (ts : List Transcript) : Type 0 where
+  pub stop : Stop
+  pub stopped : IsStop {D = Unit {0}} None None before now ts stop
+  pub status_is : status ≡ serving_status stop

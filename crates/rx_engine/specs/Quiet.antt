@@ -30,7 +30,7 @@ use Rattle.rx_world.specs.Causes.{Rose}
 use Rattle.rx_world.specs.Outcomes.{IsClean}
 use Rattle.rx_world.specs.Sources.{entry_at, is_file}
 use Rattle.rx_engine.specs.declared.transcripts.Ending.{Ending}
-use Rattle.rx_engine.specs.declared.transcripts.Ending.TheVariants.{NoMemory, Replied, SinkLost, SourceLost}
+use Rattle.rx_engine.specs.declared.transcripts.Ending.TheVariants.{NoMemory, Replied, ShutDown, SinkLost, SourceLost}
 use Rattle.rx_engine.specs.Answers.{asked_of}
 use Rattle.rx_engine.specs.Honest.{IsSteady, IsTrustedFor, listed_tree}
 use Rattle.rx_engine.specs.Meanings.{Meanings}
@@ -143,3 +143,4 @@ IsDoneOr strategy Replied answer = IsDoneReply strategy answer
 IsDoneOr strategy SinkLost answer = IsDoneReply strategy answer
 IsDoneOr strategy NoMemory answer = Unit {0}
 IsDoneOr strategy SourceLost answer = ⊥
+IsDoneOr strategy ShutDown answer = ⊥

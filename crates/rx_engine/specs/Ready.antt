@@ -2,7 +2,7 @@
 use Rattle.std.specs.Prelude.{◌≡◌, ℕ, List, [], Option, None, Some, Result, Ok, Err, IfSome, take}
 use Rattle.rx_board.specs.Board.{State}
 use Rattle.rx_session.specs.declared.requests.Request.{Request}
-use Rattle.rx_session.specs.Frames.{request_of}
+use Rattle.rx_session.specs.Frames.{IsRequest}
 use Rattle.rx_session.specs.Replies.{frame_of}
 use Rattle.rx_world.specs.declared.attempts.Ended.{Ended}
 use Rattle.rx_world.specs.declared.places.Place as places
@@ -10,7 +10,7 @@ use Rattle.rx_engine.specs.declared.answered.Answered.{Answered}
 use Rattle.rx_engine.specs.declared.concluding.Handled.{Handled}
 use Rattle.rx_engine.specs.declared.concluding.Ready.{Ready}
 use Rattle.rx_engine.specs.declared.transcripts.Ending.{Ending}
-use Rattle.rx_engine.specs.declared.transcripts.Ending.TheVariants.{NoMemory, Replied, SinkLost, SourceLost}
+use Rattle.rx_engine.specs.declared.transcripts.Ending.TheVariants.{NoMemory, Replied, ShutDown, SinkLost, SourceLost}
 use Rattle.rx_engine.specs.declared.transcripts.Transcript.{Transcript}
 use Rattle.rx_engine.specs.Answered.{IsPlain, reply_no_memory}
 use Rattle.rx_engine.specs.Answers.{Answers, Grounds, MayHaveRun}
@@ -31,7 +31,7 @@ AnswersAs m g request ends (Some answered) =
 
 -- what is ready is a reply to these bytes
 abbrev pub IsReadyAs : {P W B : Type 0} → Meanings P W B → List ℕ → Grounds P → List ℕ → Option Request → List Ended → Option Answered → Type 0
-IsReadyAs m root g read request ends None = IfSome request (λ asked. request_of root read ≡ Ok asked) × WasHandled m g request ends
+IsReadyAs m root g read request ends None = IfSome request (IsRequest root read) × WasHandled m g request ends
 IsReadyAs m root g read request ends (Some answered) =
     (answered.frame.items ≡ frame_of answered.reply) × Replies m root g read request answered.receipt ends answered.reply
 
@@ -46,6 +46,7 @@ EntersHandled p old new session handled = EntersAs p old new session handled.end
 abbrev pub IsWriting : Ending → Type 0
 IsWriting Replied = Unit {0}
 IsWriting SinkLost = Unit {0}
+IsWriting ShutDown = ⊥
 IsWriting SourceLost = ⊥
 IsWriting NoMemory = ⊥
 
@@ -79,6 +80,26 @@ FinishesAs number read request ends (Some answered) t = Wrote number read reques
 
 abbrev pub Finishes : ℕ → List ℕ → Ready → Transcript → Type 0
 Finishes number read ready t = FinishesAs number read ready.request ready.handled.ends ready.handled.answered t
+
+abbrev pub IsWritingEnd : Ending → Type 0
+IsWritingEnd ShutDown = Unit {0}
+IsWritingEnd SinkLost = Unit {0}
+IsWritingEnd Replied = ⊥
+IsWritingEnd SourceLost = ⊥
+IsWritingEnd NoMemory = ⊥
+
+-- a session that was asked to end the run, and wrote a front of this frame, the whole where it says so
+pub record WroteEnd (number : ℕ) (read frame : List ℕ) (t : Transcript) : Type 0 where
+  pub number_is : t.number ≡ number
+  pub read_is : t.read ≡ read
+  pub request_is : t.request ≡ None
+  pub reply_is : t.reply ≡ None
+  pub receipt_is : t.receipt ≡ None
+  pub ends_are : t.ends ≡ []
+  pub count : ℕ
+  pub written_is : t.written ≡ take count frame
+  pub whole : t.ending ≡ ShutDown → t.written ≡ frame
+  pub writing : IsWritingEnd t.ending
 
 -- the input was lost, and nothing was done
 abbrev pub IsLost : ℕ → List ℕ → Transcript → Type 0

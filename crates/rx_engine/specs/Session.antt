@@ -1,12 +1,12 @@
 -- What a session did, between its desk as it was taken apart and the desk that it hands back. Nothing here speaks of a journal.
-use Rattle.std.specs.Prelude.{◌≡◌, ℕ, ◌≤◌, List, [], Option, None, Some, Ok, Err, IfSome, take}
+use Rattle.std.specs.Prelude.{◌≡◌, ◌⊎◌, ℕ, ◌≤◌, List, [], Option, None, Some, Err, IfSome, take}
 use Rattle.std.specs.Io.KnownBytes.{Appends, Consumes, IsAtEnd}
 use Rattle.rx_board.specs.declared.journal.Receipt.{Receipt}
 use Rattle.rx_session.specs.declared.bad.BadReason.TheVariants.{CutShort}
 use Rattle.rx_session.specs.declared.replies.Reply.{Reply}
 use Rattle.rx_session.specs.declared.replies.Reply.TheVariants as reply
 use Rattle.rx_session.specs.declared.requests.Request.{Request}
-use Rattle.rx_session.specs.Frames.{request_of}
+use Rattle.rx_session.specs.Frames.{IsRequest, incoming_of, shutdown, shutdown_done}
 use Rattle.rx_session.specs.Replies.{frame_of}
 use Rattle.rx_scan.specs.Lists.{Listing, Tells}
 use Rattle.rx_world.specs.declared.attempts.Ended.{Ended}
@@ -14,7 +14,7 @@ use Rattle.rx_world.specs.declared.looks.Look.{Look}
 use Rattle.rx_world.specs.declared.sources.Given.{Given}
 use Rattle.rx_world.specs.Causes.{Rose}
 use Rattle.rx_engine.specs.declared.transcripts.Ending.{Ending}
-use Rattle.rx_engine.specs.declared.transcripts.Ending.TheVariants.{NoMemory, Replied, SinkLost, SourceLost}
+use Rattle.rx_engine.specs.declared.transcripts.Ending.TheVariants.{NoMemory, Replied, ShutDown, SinkLost, SourceLost}
 use Rattle.rx_engine.specs.declared.transcripts.Transcript.{Transcript}
 use Rattle.rx_engine.specs.Answers.{Answers, Grounds, IsUnrun, MayHaveRun, grounds}
 use Rattle.rx_engine.specs.Attempts.{AreLaterThan}
@@ -24,7 +24,7 @@ use Rattle.rx_engine.specs.Meanings.{Meanings}
 pub record IsAsked {P W B : Type 0} (m : Meanings P W B) (root : List ℕ) (g : Grounds P) (read : List ℕ) (request : Option Request)
     (asked : Request) : Type 0 where
   pub request_is : request ≡ Some asked
-  pub decoded : request_of root read ≡ Ok asked
+  pub decoded : IsRequest root read asked
   pub ended : IsAtEnd (m.input.left g.after)
 
 -- the reply is one to a request
@@ -46,10 +46,10 @@ WasHandled m g (Some asked) ends = MayHaveRun m g asked ends
 -- Each reply, and what it says of the bytes that were read.
 abbrev pub Replies : {P W B : Type 0} → Meanings P W B → List ℕ → Grounds P → List ℕ → Option Request → Option Receipt → List Ended → Reply → Type 0
 Replies m root g read request receipt ends (reply.BadRequest bad) =
-    (request_of root read ≡ Err bad) × (request ≡ None) × IsUntouched m g ends × (receipt ≡ None)
+    (incoming_of root read ≡ Err bad) × (request ≡ None) × IsUntouched m g ends × (receipt ≡ None)
     × (bad.reason ≡ CutShort → IsAtEnd (m.input.left g.after))
 Replies m root g read request receipt ends reply.NoMemory =
-    IfSome request (λ asked. request_of root read ≡ Ok asked) × WasHandled m g request ends × (receipt ≡ None)
+    IfSome request (IsRequest root read) × WasHandled m g request ends × (receipt ≡ None)
 Replies m root g read request receipt ends (reply.Done exit stdout stderr from number placed) =
     RepliesTo m root g read request receipt ends (reply.Done exit stdout stderr from number placed)
 Replies m root g read request receipt ends (reply.PlaceFault number placed) =
@@ -71,18 +71,35 @@ Replies m root g read request receipt ends reply.JournalFull =
 Replies m root g read request receipt ends (reply.Blocked path) =
     RepliesTo m root g read request receipt ends (reply.Blocked path)
 
+-- The bytes are a Shutdown, and nothing was done but to answer it.
+pub record WasAskedToEnd {P W B : Type 0} (m : Meanings P W B) (g : Grounds P) (t : Transcript) : Type 0 where
+  pub read_is : t.read ≡ shutdown
+  pub request_is : t.request ≡ None
+  pub reply_is : t.reply ≡ None
+  pub receipt_is : t.receipt ≡ None
+  pub untouched : IsUntouched m g t.ends
+
+-- a front of the reply was written
+abbrev pub IsReplyCut : {P W B : Type 0} → Meanings P W B → List ℕ → Grounds P → Transcript → Type 0
+IsReplyCut m root g t =
+    (answer : Reply) × (t.reply ≡ Some answer) × (count : ℕ) × (t.written ≡ take count (frame_of answer))
+    × Replies m root g t.read t.request t.receipt t.ends answer
+
+-- a front of the answer to a Shutdown was written
+abbrev pub IsEndCut : {P W B : Type 0} → Meanings P W B → Grounds P → Transcript → Type 0
+IsEndCut m g t = (count : ℕ) × (t.written ≡ take count shutdown_done) × WasAskedToEnd m g t
+
 -- what was answered, by how the session ended
 abbrev pub IsCourse : {P W B : Type 0} → Meanings P W B → List ℕ → Grounds P → Transcript → Ending → Type 0
 IsCourse m root g t Replied =
     (answer : Reply) × (t.reply ≡ Some answer) × (t.written ≡ frame_of answer) × Replies m root g t.read t.request t.receipt t.ends answer
-IsCourse m root g t SinkLost =
-    (answer : Reply) × (t.reply ≡ Some answer) × (count : ℕ) × (t.written ≡ take count (frame_of answer))
-    × Replies m root g t.read t.request t.receipt t.ends answer
+IsCourse m root g t ShutDown = WasAskedToEnd m g t × (t.written ≡ shutdown_done)
+IsCourse m root g t SinkLost = IsReplyCut m root g t ⊎ IsEndCut m g t
 IsCourse m root g t SourceLost =
     (t.reply ≡ None) × (t.request ≡ None) × (t.written ≡ []) × (t.receipt ≡ None) × IsUntouched m g t.ends
 IsCourse m root g t NoMemory =
     (t.reply ≡ None) × (t.written ≡ []) × (t.receipt ≡ None)
-    × IfSome t.request (λ asked. request_of root t.read ≡ Ok asked) × WasHandled m g t.request t.ends
+    × IfSome t.request (IsRequest root t.read) × WasHandled m g t.request t.ends
 
 -- the counts of no part fell
 pub record AreLater {P W B : Type 0} (m : Meanings P W B) (before after : P) : Type 0 where

@@ -28,7 +28,7 @@ fn is_host(text: &str) -> bool
 }
 
 /// Whether each byte is a decimal digit.
-fn are_digits(text: &str) -> bool
+pub(crate) fn are_digits(text: &str) -> bool
     ensures { result ≡ list_all is_ascii_digit text.now }
 {
     text.as_bytes().iter().all(|byte| byte.is_ascii_digit())

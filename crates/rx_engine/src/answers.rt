@@ -10,11 +10,11 @@ ghost use Rattle.rx_engine.specs.Pending.{HasAnswered};
 ghost use Rattle.rx_engine.specs.RemoteAttempts.{FitsFarm};
 
 use crate::answered::{or_give_up, refuse_gathering};
-use crate::attempts::{Attempted, Job, Room, make_attempts};
+use crate::attempts::{Attempted, Job, Means, Room, make_attempts};
 use crate::desk::{Desk, Parts};
 use crate::pending::Stage;
-use rx_blobs::Presence;
 use rx_digest_cache::DigestCache;
+use rx_local::Places;
 use rx_scan::{GatherFault, Gathered, gather};
 use rx_session::{Request, command_for, declared_inputs};
 use rx_world::World;
@@ -32,13 +32,17 @@ struct Prepared {
 
 /// Gathers what the command of a request runs on from the one source tree, and makes the attempts,
 /// each of which reads it from its own.
-pub(crate) fn answer<W: World + Send, D: Desk<W>, R: Threads + Wait + Sync>(
+pub(crate) fn answer<
+    W: World + Send,
+    D: Desk<W>,
+    N: Places + Send + Sync,
+    R: Threads + Wait + Sync,
+>(
     rt: &R,
     alloc: Global,
     request: &Request,
     parts: Parts<D::I, D::O, D::T, D::L, D::B, D::R, D::C>,
-    cache: &DigestCache<W>,
-    presence: &Presence,
+    means: &Means<'_, W, D::H, N>,
 ) -> (Stage, Parts<D::I, D::O, D::T, D::L, D::B, D::R, D::C>)
     requires { HasOutputsBelow request.now }
     ensures answered { HasAnswered
@@ -53,9 +57,9 @@ pub(crate) fn answer<W: World + Send, D: Desk<W>, R: Threads + Wait + Sync>(
     ensures output { result.1.output ≡ parts.output }
 {
     let mut parts = parts;
-    match prepare::<W, D>(rt, alloc, request, &mut parts, cache) {
+    match prepare::<W, D>(rt, alloc, request, &mut parts, means.cache) {
         Ok(prepared) => {
-            let (attempted, parts) = run::<W, D, R>(rt, alloc, prepared, parts, presence);
+            let (attempted, parts) = run::<W, D, N, R>(rt, alloc, prepared, parts, means);
             (Stage::Attempted { attempted }, parts)
         }
         Err(fault) => {
@@ -112,12 +116,12 @@ fn prepare<W: World, D: Desk<W>>(
 }
 
 /// Makes the attempts on what was gathered.
-fn run<W: World + Send, D: Desk<W>, R: Threads + Wait + Sync>(
+fn run<W: World + Send, D: Desk<W>, N: Places + Send + Sync, R: Threads + Wait + Sync>(
     rt: &R,
     alloc: Global,
     prepared: Prepared,
     parts: Parts<D::I, D::O, D::T, D::L, D::B, D::R, D::C>,
-    presence: &Presence,
+    means: &Means<'_, W, D::H, N>,
 ) -> (Attempted, Parts<D::I, D::O, D::T, D::L, D::B, D::R, D::C>)
     requires { FitsFarm prepared.gathered }
     ensures made { HasMade
@@ -141,7 +145,9 @@ fn run<W: World + Send, D: Desk<W>, R: Threads + Wait + Sync>(
         alloc,
         gathered: &gathered,
         accept_cached,
-        presence,
+        presence: means.presence,
+        halter: means.halter,
+        slots: means.slots,
     };
-    make_attempts::<W, D, R>(rt, &job, room, parts)
+    make_attempts::<W, D, N, R>(rt, &job, room, parts)
 }

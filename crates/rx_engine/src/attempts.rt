@@ -13,6 +13,8 @@ use crate::turns::{Turns, take_turns};
 use crate::winners::kept_and_won;
 use rx_base::{Items, NoMemory};
 use rx_blobs::Presence;
+use rx_digest_cache::DigestCache;
+use rx_local::{Places, Slots};
 use rx_race::{Blanks, Race};
 use rx_scan::Gathered;
 use rx_world::{Attempt, Ended, Origin, Outcome, Plan, World};
@@ -24,9 +26,22 @@ use std::thread::Threads;
 /// The most attempts of a session: one here, and one on the farm.
 pub(crate) const MOST_ATTEMPTS: usize = 2;
 
+/// What a session uses beside the parts of its desk.
+#[derive(Drop)]
+pub(crate) struct Means<'a, W: World, H, N: Places> {
+    /// Digests of the source trees' files.
+    pub cache: &'a DigestCache<W>,
+    /// Which blobs the farm is known to have.
+    pub presence: &'a Presence,
+    /// Ends an attempt that lost its race.
+    pub halter: &'a H,
+    /// So many local attempts run at once.
+    pub slots: &'a Slots<N>,
+}
+
 /// What the attempts of a session are made on.
-#[derive(Clone, Copy)]
-pub(crate) struct Job<'a> {
+#[derive(Drop)]
+pub(crate) struct Job<'a, H, N: Places> {
     /// Where attempts take memory.
     pub alloc: Global,
     pub gathered: &'a Gathered,
@@ -34,6 +49,10 @@ pub(crate) struct Job<'a> {
     pub accept_cached: bool,
     /// Which blobs the farm is known to have.
     pub presence: &'a Presence,
+    /// Ends an attempt that lost its race.
+    pub halter: &'a H,
+    /// So many local attempts run at once.
+    pub slots: &'a Slots<N>,
 }
 
 /// The memory that attempts take whatever their plan. It is taken before the first one starts, so that
@@ -77,9 +96,14 @@ impl Room {
 
 /// Makes the attempts of the plan on what was gathered: both at once in a race of their own, where the
 /// plan has them so, and else in turn.
-pub(crate) fn make_attempts<W: World + Send, D: Desk<W>, R: Threads + Wait + Sync>(
+pub(crate) fn make_attempts<
+    W: World + Send,
+    D: Desk<W>,
+    N: Places + Send + Sync,
+    R: Threads + Wait + Sync,
+>(
     rt: &R,
-    job: &Job<'_>,
+    job: &Job<'_, D::H, N>,
     room: Room,
     parts: Parts<D::I, D::O, D::T, D::L, D::B, D::R, D::C>,
 ) -> (Attempted, Parts<D::I, D::O, D::T, D::L, D::B, D::R, D::C>)
@@ -95,12 +119,12 @@ pub(crate) fn make_attempts<W: World + Send, D: Desk<W>, R: Threads + Wait + Syn
     let plan = job.gathered.plan;
     let Room { ends, race } = room;
     if has_both(plan) {
-        let (raced, parts) = race_both::<W, Brand, D, R>(rt, job, race, Blanks::new(), parts);
+        let (raced, parts) = race_both::<W, Brand, D, N, R>(rt, job, race, Blanks::new(), parts);
         let Raced { here, there, first } = raced;
         return (kept_and_won(plan, ends, first, here, there), parts);
     }
     let mut parts = parts;
-    let Turns { here, there } = take_turns::<W, D>(rt, job, &mut parts);
+    let Turns { here, there } = take_turns::<W, D, N>(rt, job, &mut parts);
     (kept_and_won(plan, ends, Attempt::Local, here, there), parts)
 }
 

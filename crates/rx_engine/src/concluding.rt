@@ -8,7 +8,7 @@ ghost use Rattle.rx_engine.specs.Gathers.{AnswersMade};
 ghost use Rattle.rx_engine.specs.Journal.{IsBoardAfter};
 ghost use Rattle.rx_engine.specs.Meanings.{meanings};
 ghost use Rattle.rx_engine.specs.Pending.{IsConcluded, IsFirstWon};
-ghost use Rattle.rx_engine.specs.Ready.{EntersHandled, Finishes, IsLost};
+ghost use Rattle.rx_engine.specs.Ready.{EntersHandled, Finishes, IsLost, WroteEnd};
 
 use crate::answered::{Answered, fail, or_give_up};
 use crate::attempts::Attempted;
@@ -59,6 +59,9 @@ pub(crate) fn conclude<W: World, D: Desk<W>, P: Place>(
     } = pending;
     let handled = match stage {
         Stage::Lost => return lost(alloc, number, read),
+        Stage::ShutDown { frame } => {
+            return end_run(alloc, number, read, frame, &mut parts.output);
+        }
         Stage::Refused { answered } => Handled {
             ends: Items::new(alloc),
             answered,
@@ -143,6 +146,38 @@ fn finish<O: Sink>(
                 ends,
             }
         }
+    }
+}
+
+/// Writes the frame which says that the run ends, and keeps that.
+fn end_run<O: Sink>(
+    alloc: Global,
+    number: u32,
+    read: Bytes,
+    frame: Vec<u8>,
+    output: &mut O,
+) -> Transcript
+    ensures written { Appends (O.taken output.old) (O.taken output.new) result.written }
+    ensures finished { WroteEnd number read frame.items result }
+    ensures later { O.faults output.old ≤ O.faults output.new }
+    ensures sink { result.ending ≡ Ending.SinkLost →
+        Rose (O.faults output.old) (O.faults output.new) }
+{
+    let mut frame = frame;
+    let (count, outcome) = write_frame(output, &frame);
+    frame.truncate(count);
+    Transcript {
+        number,
+        ending: match outcome {
+            Ok(()) => Ending::ShutDown,
+            Err(_) => Ending::SinkLost,
+        },
+        read,
+        written: Bytes::from_vec(frame),
+        request: None,
+        reply: None,
+        receipt: None,
+        ends: Items::new(alloc),
     }
 }
 

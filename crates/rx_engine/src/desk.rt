@@ -5,6 +5,7 @@ ghost use Rattle.rx_world.specs.Causes.{HasCause};
 ghost use Rattle.rx_engine.specs.declared.desk.Parts.{Parts};
 ghost use Rattle.rx_engine.specs.Fronts.{GivesNext};
 
+use crate::halts::{Halt, NoHalt};
 use crate::transcripts::Transcript;
 use rx_exec_messages::Caller;
 use rx_world::{BenchMaker, Failed, Sink, Source, Sources, World};
@@ -44,8 +45,13 @@ pub trait Desk<W: World>: Sized {
 
     type C: Caller<W> + Send + Drop;
 
+    type H: Halt + Send + Sync + Drop;
+
     /// The parts.
     ghost parts: { Self → Parts Self.I Self.O Self.T Self.L Self.B Self.R Self.C };
+
+    /// What ends an attempt of the session early.
+    fn halter(&self) -> Self::H;
 
     fn split(self) -> Parts<Self::I, Self::O, Self::T, Self::L, Self::B, Self::R, Self::C>
         ensures { result ≡ parts self };
@@ -78,7 +84,13 @@ impl<
 
     type C = C;
 
+    type H = NoHalt;
+
     ghost parts = { λ parts. parts };
+
+    fn halter(&self) -> NoHalt {
+        NoHalt
+    }
 
     fn split(self) -> Parts<I, O, T, L, B, R, C> {
         self

@@ -1,9 +1,11 @@
 //! The front of a run of sessions in threads, which stands behind a lock, and why no more of its desks
 //! are asked for.
 
-ghost use Rattle.std.specs.Prelude.{◌≡◌, ◌<◌, None, ℕ};
+ghost use Rattle.std.specs.Prelude.{◌≡◌, ◌⊎◌, ◌<◌, List, None, Some, length};
+ghost use Rattle.rx_engine.specs.declared.transcripts.Transcript.{Transcript};
 ghost use Rattle.rx_engine.specs.Proxy.{IsStop, most_desks};
 
+use crate::closing::Closing;
 use crate::desk::Front;
 use crate::kept::Run;
 use crate::proxy::Stop;
@@ -41,8 +43,12 @@ impl<W: World, F: Front<W> + Drop, K: Run> Gate<W, F, K> {
     }
 
     /// The next desk, unless no more are asked for.
-    pub(crate) fn next(&mut self) -> Option<F::D> {
+    pub(crate) fn next(&mut self, closing: Closing) -> Option<F::D> {
         if self.stop.is_some() {
+            return None;
+        }
+        if let Some(stop) = closing.stop() {
+            self.stop = Some(stop);
             return None;
         }
         match self.front.next() {
@@ -58,19 +64,24 @@ impl<W: World, F: Front<W> + Drop, K: Run> Gate<W, F, K> {
         }
     }
 
-    /// Asks for no more desks, since there is no memory for one more.
-    pub(crate) fn close(&mut self) {
-        if self.stop.is_none() {
-            self.stop = Some(Stop::NoMemory);
-        }
-    }
-
-    /// The front, and why no more desks were asked for.
-    pub(crate) fn into_parts(self) -> (F, Stop)
-        ensures { (served : ℕ) → served < most_desks →
-            IsStop {D = F.D} None None K.faults (F.faults result.0) served result.1 }
+    /// The front, and why no more desks were asked for. Which session asked for the end isn't told.
+    pub(crate) fn into_parts(self, closing: Closing) -> (F, Stop)
+        ensures { (transcripts : List Transcript) → length transcripts < most_desks →
+            IsStop {D = Unit {0}} None None K.faults (F.faults result.0) transcripts result.1
+            ⊎ (result.1 ≡ Stop.ShutDown) }
     {
         let Gate { front, stop, of: _ } = self;
-        (front, stop.unwrap_or(Stop::NoMemory))
+        (front, first_told(stop, closing))
+    }
+}
+
+/// What is told of why no more desks were asked for.
+fn first_told(stop: Option<Stop>, closing: Closing) -> Stop
+    ensures { (result ≡ Stop.NoMemory) ⊎ (stop ≡ Some result) }
+{
+    match (stop, closing) {
+        (Some(Stop::FrontLost), _) => Stop::FrontLost,
+        (_, Closing::NoMemory) | (None, _) => Stop::NoMemory,
+        (Some(stop), _) => stop,
     }
 }

@@ -1,24 +1,22 @@
 //! A session until something is published: its request is read, and the attempts of its plan are
 //! made. Nothing here publishes or writes.
 
-ghost use Rattle.std.specs.Prelude.{◌≡◌, ◌≤◌, Err, IfOk, IsErrOf, Ok};
+ghost use Rattle.std.specs.Prelude.{◌≡◌, ◌≤◌, Err, IfOk, IsErrOf, None, Ok, length};
 ghost use Rattle.std.specs.Io.KnownBytes.{Consumes};
 ghost use Rattle.rx_session.specs.declared.bad.SessionFault.TheVariants.{ReadFault as read_fault};
 ghost use Rattle.rx_session.specs.Bad.{Decodes};
-ghost use Rattle.rx_session.specs.Frames.{EndsRead, request_of};
+ghost use Rattle.rx_session.specs.Frames.{EndsRead, incoming_of, reach_of};
 ghost use Rattle.rx_world.specs.Causes.{Rose};
-ghost use Rattle.rx_engine.specs.Answers.{HasOutputsBelow};
 ghost use Rattle.rx_engine.specs.Meanings.{meanings};
-ghost use Rattle.rx_engine.specs.Pending.{IsPending, IsRefusalOf};
+ghost use Rattle.rx_engine.specs.Pending.{HasOutputsIfAsked, IsEndOfRun, IsPending, IsRefusalOf};
 
 use crate::answered::{Answered, or_give_up, refuse};
 use crate::answers::answer;
-use crate::attempts::Attempted;
+use crate::attempts::{Attempted, Means};
 use crate::desk::{Desk, Parts};
 use rx_base::Bytes;
-use rx_blobs::Presence;
-use rx_digest_cache::DigestCache;
-use rx_session::{Request, SessionFault, read_request};
+use rx_local::Places;
+use rx_session::{Incoming, Request, SHUTDOWN_DONE, SessionFault, read_incoming};
 use rx_world::{Source, World};
 use std::alloc::{AllocError, Global};
 use std::sync::Wait;
@@ -39,19 +37,25 @@ pub(crate) struct Pending {
 pub(crate) enum Stage {
     /// The input was lost.
     Lost,
+    /// The end of the run was asked for, and this is the frame that says that it comes.
+    ShutDown { frame: Vec<u8> },
     /// No attempt was made, and this is the answer. Without one, memory ran out even for that.
     Refused { answered: Option<Answered> },
     /// The attempts were made.
     Attempted { attempted: Attempted },
 }
 
-/// Reads the request, and makes the attempts of its plan.
-pub(crate) fn undertake<W: World + Send, D: Desk<W>, R: Threads + Wait + Sync>(
+/// Reads what comes in, and makes the attempts of the plan of a request.
+pub(crate) fn undertake<
+    W: World + Send,
+    D: Desk<W>,
+    N: Places + Send + Sync,
+    R: Threads + Wait + Sync,
+>(
     rt: &R,
     alloc: Global,
     root: &str,
-    cache: &DigestCache<W>,
-    presence: &Presence,
+    means: &Means<'_, W, D::H, N>,
     parts: Parts<D::I, D::O, D::T, D::L, D::B, D::R, D::C>,
 ) -> (Pending, Parts<D::I, D::O, D::T, D::L, D::B, D::R, D::C>)
     ensures { IsPending
@@ -62,8 +66,8 @@ pub(crate) fn undertake<W: World + Send, D: Desk<W>, R: Threads + Wait + Sync>(
     let mut parts = parts;
     let mut read = Vec::new(alloc);
     match read_asked(alloc, &mut parts.input, root, &mut read) {
-        Ok(request) => {
-            let (stage, parts) = answer::<W, D, R>(rt, alloc, &request, parts, cache, presence);
+        Ok(Incoming::Request(request)) => {
+            let (stage, parts) = answer::<W, D, N, R>(rt, alloc, &request, parts, means);
             let pending = Pending {
                 read: Bytes::from_vec(read),
                 request: Some(request),
@@ -71,32 +75,48 @@ pub(crate) fn undertake<W: World + Send, D: Desk<W>, R: Threads + Wait + Sync>(
             };
             (pending, parts)
         }
-        Err(fault) => {
-            let pending = Pending {
-                read: Bytes::from_vec(read),
-                request: None,
-                stage: refusal(alloc, fault),
-            };
-            (pending, parts)
-        }
+        Ok(Incoming::Shutdown) => (unasked(read, end_of_run(alloc)), parts),
+        Err(fault) => (unasked(read, refusal(alloc, fault)), parts),
     }
 }
 
-/// Reads the request. Of one that the bytes are, the outputs stand below its working directory.
+/// A session whose bytes are no request.
+fn unasked(read: Vec<u8>, stage: Stage) -> Pending
+    ensures { result ≡ record { read = read.items; request = None; stage = stage } }
+{
+    Pending {
+        read: Bytes::from_vec(read),
+        request: None,
+        stage,
+    }
+}
+
+/// Reads what comes in. Of a request that the bytes are, the outputs stand below its working directory.
 fn read_asked<S: Source>(
     alloc: Global,
     source: &mut S,
     root: &str,
     read: &mut Vec<u8>,
-) -> Result<Request, SessionFault>
+) -> Result<Incoming, SessionFault>
     ensures read { Consumes (S.left source.old) (S.left source.new) read.new.items }
-    ensures request { Decodes (λ request. request) result (request_of root.now read.new.items) }
-    ensures outputs { IfOk result HasOutputsBelow }
+    ensures reach { length read.new.items ≤ reach_of read.new.items }
+    ensures incoming { Decodes (λ incoming. incoming) result (incoming_of root.now read.new.items) }
+    ensures outputs { IfOk result HasOutputsIfAsked }
     ensures end { EndsRead (S.left source.new) result }
     ensures later { S.faults source.old ≤ S.faults source.new }
     ensures failed { IsErrOf result read_fault → Rose (S.faults source.old) (S.faults source.new) }
 {
-    read_request(alloc, source, root, read)
+    read_incoming(alloc, source, root, read)
+}
+
+/// The stage of a session that is asked to end the run. Its answer takes memory, which may be wanting.
+fn end_of_run(alloc: Global) -> Stage
+    ensures { IsEndOfRun result }
+{
+    match Vec::from_slice(alloc, &SHUTDOWN_DONE) {
+        Ok(frame) => Stage::ShutDown { frame },
+        Err(_) => Stage::Refused { answered: None },
+    }
 }
 
 /// The stage of a session whose bytes are no request.

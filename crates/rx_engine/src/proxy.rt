@@ -1,16 +1,16 @@
 //! The top call: the desks of a front are served, one after the other.
 
-ghost use Rattle.std.specs.Prelude.{◌≡◌, ◌≤◌, ◌↔◌, [], IfSome, None, length};
+ghost use Rattle.std.specs.Prelude.{◌≡◌, ◌≤◌, ◌↔◌, [], IfSome, None};
 ghost use Rattle.std.specs.List.{list_any};
 ghost use Rattle.rx_board.specs.Journal.{HoldsLast, IsKeptBy, count_short};
 ghost use Rattle.rx_engine.specs.Meanings.{meanings};
-ghost use Rattle.rx_engine.specs.Proxy.{HasStatus, IsLegal, IsStop, Runs, is_sink_lost, is_source_lost, status_of, status_over};
+ghost use Rattle.rx_engine.specs.Proxy.{EndsWhereAsked, HasStatus, IsEndedBy, IsLegal, IsStop, Runs, is_sink_lost, is_source_lost, serving_status, status_of, status_over};
 ghost use Rattle.rx_engine.specs.Serves.{RunsDone, Serves};
 ghost use Rattle.rx_engine.specs.Words.{root_in};
 
 use crate::desk::Front;
 use crate::sessions::{Shared, serve_session};
-use crate::transcripts::{Ending, Transcript};
+use crate::transcripts::{Ending, Transcript, asks_to_end};
 use crate::words::root_in;
 use rx_base::Text;
 use rx_blobs::{PRESENCE_LIMIT, Presence};
@@ -32,14 +32,17 @@ pub(crate) enum Stop {
     NoMemory,
     /// 4,294,967,295 desks were served.
     Spent,
+    /// A session was asked to end the run.
+    ShutDown,
 }
 
 /// What a run hands back.
 #[derive(Drop)]
 pub struct Ran<W: World, F: Front<W>, P> {
-    /// 0 the front ended; 2 the words are none that are known; 3 the front failed; 4 memory ran out
-    /// between two sessions; 5 a session lost its input; 6 a session lost its output; 7 as many
-    /// desks were served as there are numbers. Of several, the first of 3, 4, 5, 6, 7.
+    /// 0 the front ended, or a session was asked to end the run; 2 the words are none that are known;
+    /// 3 the front failed; 4 memory ran out between two sessions; of sessions one after the other alone,
+    /// 5 a session lost its input and 6 a session lost its output; 7 as many desks were served as
+    /// there are numbers. Of several, the first of 3, 4, 5, 6, 7.
     pub status: u8,
     pub front: F,
     pub place: P,
@@ -67,7 +70,9 @@ fn serve_all<W: World + Send, F: Front<W>, P: Place, R: Threads + Wait + Sync>(
         (P.faults shared.old.board.place) (P.faults shared.new.board.place)
         desks.new.items transcripts.new.items }
     ensures stop { IsStop (F.coming front.old) (F.coming front.new)
-        (F.faults front.old) (F.faults front.new) (length transcripts.new.items) result }
+        (F.faults front.old) (F.faults front.new) transcripts.new.items result }
+    // After a session that was asked to end the run the front isn't asked.
+    ensures ended { IsEndedBy result transcripts.new.items }
     ensures opening { P.opening shared.new.board.place ≡ P.opening shared.old.board.place }
 {
     for served in 0..u32::MAX {
@@ -88,8 +93,12 @@ fn serve_all<W: World + Send, F: Front<W>, P: Place, R: Threads + Wait + Sync>(
                     desk,
                     shared,
                 );
+                let is_last = asks_to_end(transcript.read.as_slice());
                 transcripts.push(transcript).unwrap();
                 desks.push(desk).unwrap();
+                if is_last {
+                    return Stop::ShutDown;
+                }
             }
         }
     }
@@ -140,8 +149,20 @@ pub(crate) fn status_of(stop: Stop, transcripts: &[Transcript]) -> u8
     match stop {
         Stop::FrontLost => 3,
         Stop::NoMemory => 4,
-        Stop::Ended => status_over(0, transcripts),
+        Stop::Ended | Stop::ShutDown => status_over(0, transcripts),
         Stop::Spent => status_over(7, transcripts),
+    }
+}
+
+/// The status of a run in threads.
+pub(crate) fn serving_status(stop: Stop) -> u8
+    ensures { result ≡ serving_status stop }
+{
+    match stop {
+        Stop::FrontLost => 3,
+        Stop::NoMemory => 4,
+        Stop::Ended | Stop::ShutDown => 0,
+        Stop::Spent => 7,
     }
 }
 
@@ -164,6 +185,7 @@ fn serve_words<W: World + Send, F: Front<W>, P: Place, R: Threads + Wait + Sync>
         desks.new.items transcripts.new.items }
     ensures status { HasStatus (F.coming front.old) (F.coming front.new)
         (F.faults front.old) (F.faults front.new) result.0 transcripts.new.items }
+    ensures ended { EndsWhereAsked result.0 transcripts.new.items }
     ensures opening { P.opening result.1.place ≡ P.opening board.place }
 {
     let Ok(root) = Text::copy_of(alloc, root) else {
@@ -224,6 +246,8 @@ pub fn run_proxy<W: World + Send, F: Front<W>, P: Place, R: Threads + Wait + Syn
     ensures status { IfSome (root_in words.now) (λ root. HasStatus
         (F.coming front) (F.coming result.front) (F.faults front) (F.faults result.front)
         result.status result.transcripts.items) }
+    // Where a session was asked to end the run, no desk left the front after its own.
+    ensures ended { EndsWhereAsked result.status result.transcripts.items }
 {
     let mut front = front;
     let mut transcripts = Vec::new(alloc);

@@ -14,11 +14,15 @@ ghost use Rattle.rx_world.specs.declared.attempts.Plan.TheVariants.{Both as both
 
 use crate::attempts::Job;
 use crate::desk::{Desk, Parts};
+use crate::halts::Halt;
 use crate::held::Held;
 use crate::here::run_here;
 use crate::there::run_there;
 use rx_exec_messages::Caller;
-use rx_race::{Blanks, Contest, Live, Looking, NoStart, Race, SharedRace, Slip, Ticket, Verdict};
+use rx_local::Places;
+use rx_race::{
+    Blanks, Contest, Live, Looking, NoStart, Race, SharedRace, Slip, StartPass, Ticket, Verdict,
+};
 use rx_world::{Attempt, BenchMaker, Cause, End, RemoteCause, Sources, World};
 use std::sync::Wait;
 use std::thread::{Threads, join};
@@ -37,8 +41,9 @@ type Start<K> = Result<Live<K>, NoStart<K>>;
 
 /// What an attempt of a race takes into its thread.
 #[derive(Drop)]
-struct Entrant<K: Contest, A, S> {
-    start: Start<K>,
+struct Entrant<E, A, S> {
+    /// The right to start, or what came of that.
+    start: E,
     /// What the attempt runs by: benches, or a farm's client.
     runner: A,
     tree: S,
@@ -54,16 +59,17 @@ struct Finisher<K: Contest, C, A, S> {
     tree: S,
 }
 
-/// Makes both attempts on what was gathered. Both are started before one of them is waited for, and
-/// this returns when both have ended.
+/// Makes both attempts on what was gathered. Where there is a slot for the local one, both are started
+/// before one of them is waited for. This returns when both have ended.
 pub(crate) fn race_both<
     W: World + Send,
     K: Contest + Send + Sync,
     D: Desk<W>,
+    N: Places + Send + Sync,
     R: Threads + Wait + Sync,
 >(
     rt: &R,
-    job: &Job<'_>,
+    job: &Job<'_, D::H, N>,
     race: Race,
     blanks: Blanks,
     parts: Parts<D::I, D::O, D::T, D::L, D::B, D::R, D::C>,
@@ -83,7 +89,7 @@ pub(crate) fn race_both<
 {
     let (race, cancel, local, remote) = SharedRace::<K>::of(race, blanks);
     let near = Entrant {
-        start: race.start(rt, local),
+        start: local,
         runner: parts.benches,
         tree: parts.tree_local,
     };
@@ -92,7 +98,9 @@ pub(crate) fn race_both<
         runner: parts.farm,
         tree: parts.tree_remote,
     };
-    let (near, far) = run_both::<W, K, D::B, D::L, D::C, D::R, R>(rt, job, &race, near, far);
+    let (near, far) = run_both::<W, K, D::H, N, D::B, D::L, D::C, D::R, R>(
+        rt, job, &race, near, far,
+    );
     let (_, remote, _) = race.close(near.ticket, far.ticket, cancel.ticket);
     let raced = Raced {
         here: near.end,
@@ -121,11 +129,13 @@ fn first_by(remote: Slip) -> Attempt
     }
 }
 
-/// Runs both attempts: the local one in a thread of its own, and the remote one in this. Where no
-/// thread can be started, the local one runs after the remote one, and is stopped where that won.
+/// Runs both attempts: at once where there is a slot for the local one now. Else the local one waits for
+/// a slot when the remote one has ended, and isn't started where that won.
 fn run_both<
     W: World + Send,
     K: Contest + Send + Sync,
+    H: Halt + Sync,
+    N: Places + Send + Sync,
     B: BenchMaker<W> + Send + Drop,
     L: Sources<W> + Send + Drop,
     C: Caller<W> + Send + Drop,
@@ -133,10 +143,104 @@ fn run_both<
     R: Threads + Wait + Sync,
 >(
     rt: &R,
-    job: &Job<'_>,
+    job: &Job<'_, H, N>,
     race: &SharedRace<K>,
-    near: Entrant<K, B, L>,
-    far: Entrant<K, C, S>,
+    near: Entrant<StartPass<K>, B, L>,
+    far: Entrant<Start<K>, C, S>,
+) -> (Finisher<K, Cause, B, L>, Finisher<K, RemoteCause, C, S>)
+    requires fits { FitsFarm job.now.gathered.now }
+    requires plan { both_at_once ≡ K.plan }
+    requires near { near.start.attempt ≡ local_attempt }
+    requires far { IsStart (λ live. live.attempt) (λ no_start. no_start.ticket)
+        remote_attempt far.start }
+    ensures near { HasRacedHere W.World B.BenchMaker B.B.Bench L.Sources
+        K.plan job.now.gathered.now near.runner result.0.runner near.tree result.0.tree
+        (whole result.0.end) result.0.ticket }
+    ensures far { HasRacedThere W.World C.Caller S.Sources
+        K.plan job.now.gathered.now job.now.accept_cached far.runner result.1.runner
+        far.tree result.1.tree (whole result.1.end) result.1.ticket }
+{
+    match job.slots.try_take(rt) {
+        Some(slot) => {
+            let near = enter::<K, B, L>(rt, race, near);
+            let ended = run_at_once::<W, K, H, N, B, L, C, S, R>(rt, job, race, near, far);
+            job.slots.give(rt, slot);
+            ended
+        }
+        None => {
+            let far = race_there::<W, K, H, N, C, S, R>(rt, job, race, far);
+            let near = enter::<K, B, L>(rt, race, near);
+            let near = race_in_turn::<W, K, H, N, B, L, R>(rt, job, race, near);
+            (near, far)
+        }
+    }
+}
+
+/// Starts the local attempt, where it may start.
+fn enter<K: Contest, A, S>(
+    rt: &impl Wait,
+    race: &SharedRace<K>,
+    near: Entrant<StartPass<K>, A, S>,
+) -> Entrant<Start<K>, A, S>
+    requires plan { both_at_once ≡ K.plan }
+    requires attempt { near.start.attempt ≡ local_attempt }
+    ensures start { IsStart (λ live. live.attempt) (λ no_start. no_start.ticket)
+        local_attempt result.start }
+    ensures runner { result.runner ≡ near.runner }
+    ensures tree { result.tree ≡ near.tree }
+{
+    let Entrant {
+        start,
+        runner,
+        tree,
+    } = near;
+    Entrant {
+        start: race.start(rt, start),
+        runner,
+        tree,
+    }
+}
+
+/// Makes the local attempt after the remote one, where it was started: it waits for a slot.
+fn race_in_turn<W: World, K: Contest, H: Halt, N: Places, B: BenchMaker<W>, S: Sources<W>, R: Wait>(
+    rt: &R,
+    job: &Job<'_, H, N>,
+    race: &SharedRace<K>,
+    near: Entrant<Start<K>, B, S>,
+) -> Finisher<K, Cause, B, S>
+    requires { IsStart (λ live. live.attempt) (λ no_start. no_start.ticket)
+        local_attempt near.start }
+    ensures { HasRacedHere W.World B.BenchMaker B.B.Bench S.Sources
+        K.plan job.now.gathered.now near.runner result.runner near.tree result.tree
+        (whole result.end) result.ticket }
+{
+    if near.start.is_err() {
+        return race_here::<W, K, H, N, B, S, R>(rt, job, race, near);
+    }
+    let slot = job.slots.take(rt);
+    let ended = race_here::<W, K, H, N, B, S, R>(rt, job, race, near);
+    job.slots.give(rt, slot);
+    ended
+}
+
+/// Runs both attempts: the local one in a thread of its own, and the remote one in this. Where no
+/// thread can be started, the local one runs after the remote one, and is stopped where that won.
+fn run_at_once<
+    W: World + Send,
+    K: Contest + Send + Sync,
+    H: Halt + Sync,
+    N: Places + Send + Sync,
+    B: BenchMaker<W> + Send + Drop,
+    L: Sources<W> + Send + Drop,
+    C: Caller<W> + Send + Drop,
+    S: Sources<W> + Send + Drop,
+    R: Threads + Wait + Sync,
+>(
+    rt: &R,
+    job: &Job<'_, H, N>,
+    race: &SharedRace<K>,
+    near: Entrant<Start<K>, B, L>,
+    far: Entrant<Start<K>, C, S>,
 ) -> (Finisher<K, Cause, B, L>, Finisher<K, RemoteCause, C, S>)
     requires fits { FitsFarm job.now.gathered.now }
     requires near { IsStart (λ live. live.attempt) (λ no_start. no_start.ticket)
@@ -158,7 +262,7 @@ fn run_both<
             ensures { HasRacedHere W.World B.BenchMaker B.B.Bench L.Sources
                 K.plan job.entry.now.gathered.now near.runner result.runner
                 near.tree result.tree (whole result.end) result.ticket }
-        { race_here::<W, K, B, L, R>(rt, job, race, near) },
+        { race_here::<W, K, H, N, B, L, R>(rt, job, race, near) },
         move || -> Finisher<K, RemoteCause, C, S>
             requires start { IsStart (λ live. live.attempt) (λ no_start. no_start.ticket)
                 remote_attempt far.start }
@@ -167,16 +271,16 @@ fn run_both<
                 K.plan job.entry.now.gathered.now job.entry.now.accept_cached
                 far.runner result.runner far.tree result.tree
                 (whole result.end) result.ticket }
-        { race_there::<W, K, C, S, R>(rt, job, race, far) },
+        { race_there::<W, K, H, N, C, S, R>(rt, job, race, far) },
     )
 }
 
 /// Makes the local attempt, where it was started, and offers its end.
-fn race_here<W: World, K: Contest, B: BenchMaker<W>, S: Sources<W>, R: Wait>(
+fn race_here<W: World, K: Contest, H: Halt, N: Places, B: BenchMaker<W>, S: Sources<W>, R: Wait>(
     rt: &R,
-    job: &Job<'_>,
+    job: &Job<'_, H, N>,
     race: &SharedRace<K>,
-    near: Entrant<K, B, S>,
+    near: Entrant<Start<K>, B, S>,
 ) -> Finisher<K, Cause, B, S>
     requires { IsStart (λ live. live.attempt) (λ no_start. no_start.ticket)
         local_attempt near.start }
@@ -204,6 +308,7 @@ fn race_here<W: World, K: Contest, B: BenchMaker<W>, S: Sources<W>, R: Wait>(
         }
         Err(refused) => (refused.ticket, None),
     };
+    halt_loser(job.halter, &ticket, Attempt::Remote);
     Finisher {
         ticket,
         end,
@@ -213,11 +318,11 @@ fn race_here<W: World, K: Contest, B: BenchMaker<W>, S: Sources<W>, R: Wait>(
 }
 
 /// Makes the remote attempt, where it was started, and offers its end.
-fn race_there<W: World, K: Contest, C: Caller<W>, S: Sources<W>, R: Wait>(
+fn race_there<W: World, K: Contest, H: Halt, N: Places, C: Caller<W>, S: Sources<W>, R: Wait>(
     rt: &R,
-    job: &Job<'_>,
+    job: &Job<'_, H, N>,
     race: &SharedRace<K>,
-    far: Entrant<K, C, S>,
+    far: Entrant<Start<K>, C, S>,
 ) -> Finisher<K, RemoteCause, C, S>
     requires start { IsStart (λ live. live.attempt) (λ no_start. no_start.ticket)
         remote_attempt far.start }
@@ -235,7 +340,7 @@ fn race_there<W: World, K: Contest, C: Caller<W>, S: Sources<W>, R: Wait>(
     let (ticket, end) = match start {
         Ok(live) => {
             let mut looking = Looking::new(rt, race, live);
-            let end = run_there::<W, C, S, Looking<'_, K, R>>(
+            let end = run_there::<W, H, N, C, S, Looking<'_, K, R>>(
                 rt,
                 job,
                 &mut runner,
@@ -246,11 +351,19 @@ fn race_there<W: World, K: Contest, C: Caller<W>, S: Sources<W>, R: Wait>(
         }
         Err(refused) => (refused.ticket, None),
     };
+    halt_loser(job.halter, &ticket, Attempt::Local);
     Finisher {
         ticket,
         end,
         runner,
         tree,
+    }
+}
+
+/// Has the other attempt end soon, where this one won.
+fn halt_loser<K: Contest, H: Halt>(halter: &H, ticket: &Ticket<K>, other: Attempt) {
+    if ticket.slip() == Slip::Told(Verdict::Won) {
+        halter.halt(other);
     }
 }
 

@@ -1,27 +1,32 @@
 //! One session: a request is read, its attempts are made, the winner is published and the reply
 //! written.
 
-ghost use Rattle.std.specs.Prelude.{◌≡◌, ℕ, List};
+ghost use Rattle.std.specs.Prelude.{◌≡◌, ◌+◌, ℕ, List};
 ghost use Rattle.rx_session.specs.declared.requests.Request.{Request};
 ghost use Rattle.rx_world.specs.declared.sources.SourceEntry.{SourceEntry};
 ghost use Rattle.rx_engine.specs.Answers.{asked_of};
 ghost use Rattle.rx_engine.specs.Honest.{IsCleanIfDone, IsHonest};
 ghost use Rattle.rx_engine.specs.Journal.{IsBoardAfter, JournalsBoard};
 ghost use Rattle.rx_engine.specs.Meanings.{meanings};
+ghost use Rattle.rx_engine.specs.Pending.{IsPending};
 ghost use Rattle.rx_engine.specs.Quiet.{HasRoom, IsDoneOr, IsQuiet};
 ghost use Rattle.rx_engine.specs.Session.{IsSession};
 
+use crate::attempts::Means;
 use crate::concluding::conclude;
-use crate::desk::Desk;
-use crate::pending::undertake;
+use crate::desk::{Desk, Parts};
+use crate::pending::{Pending, undertake};
 use crate::transcripts::Transcript;
 use rx_base::Text;
 use rx_blobs::Presence;
 use rx_board::Board;
 use rx_digest_cache::DigestCache;
+use rx_local::{Places, Slots, blank_for};
 use rx_world::{Place, World};
 use std::alloc::Global;
+use std::marker::Brand;
 use std::sync::Wait;
+use std::sync::ledger::Blank;
 use std::thread::Threads;
 
 /// What all sessions of a run share.
@@ -72,15 +77,47 @@ pub fn serve_session<W: World + Send, D: Desk<W>, P: Place, R: Threads + Wait + 
     ensures root { shared.new.root ≡ shared.old.root }
     ensures board { IsBoardAfter P.Place shared.old.board shared.new.board }
 {
-    let (pending, parts) = undertake::<W, D, R>(
+    let (pending, parts) = undertake_alone::<W, D, P, Brand, R>(
         rt,
         alloc,
-        shared.root.as_str(),
-        &shared.cache,
-        &shared.presence,
-        desk.split(),
+        desk,
+        shared,
+        blank_for(1),
     );
     let mut parts = parts;
     let transcript = conclude::<W, D, P>(alloc, number, pending, &mut parts, &mut shared.board);
     (transcript, D::unite(parts))
+}
+
+/// Reads the request, and makes the attempts of its plan, with a slot of its own for the local one.
+fn undertake_alone<
+    W: World + Send,
+    D: Desk<W>,
+    P: Place,
+    N: Places + Send + Sync,
+    R: Threads + Wait + Sync,
+>(
+    rt: &R,
+    alloc: Global,
+    desk: D,
+    shared: &Shared<W, P>,
+    blank: Blank,
+) -> (Pending, Parts<D::I, D::O, D::T, D::L, D::B, D::R, D::C>)
+    requires name { blank.name ≡ N.name }
+    requires parts { (blank.parts ≡ N.parts) × (N.parts ≡ N.most + 1) }
+    requires slots { 1 ≡ N.most }
+    ensures { IsPending
+        (meanings W.World D.I.Source D.O.Sink D.T.Sources D.L.Sources D.B.BenchMaker D.B.B.Bench
+        D.R.Sources D.C.Caller)
+        shared.now.root (D.parts desk) result.1 result.0 }
+{
+    let halter = desk.halter();
+    let slots = Slots::<N>::new(1, blank);
+    let means = Means {
+        cache: &shared.cache,
+        presence: &shared.presence,
+        halter: &halter,
+        slots: &slots,
+    };
+    undertake::<W, D, N, R>(rt, alloc, shared.root.as_str(), &means, desk.split())
 }

@@ -12,6 +12,7 @@ use crate::ends::hold;
 use crate::held::Held;
 use rx_base::NoMemory;
 use rx_exec_messages::Caller;
+use rx_local::Places;
 use rx_remote::{RemoteJob, run_remote};
 use rx_scan::Gathered;
 use rx_tree::{Built, TreeFault, build};
@@ -21,9 +22,9 @@ use std::sync::Wait;
 
 /// Makes the remote attempt on what was gathered. Want of memory is an end of it, also where its tree
 /// can't be built or its outcome can't be kept for that.
-pub(crate) fn run_there<W: World, C: Caller<W>, S: Sources<W>, T: Stop>(
+pub(crate) fn run_there<W: World, H, N: Places, C: Caller<W>, S: Sources<W>, T: Stop>(
     rt: &impl Wait,
-    job: &Job<'_>,
+    job: &Job<'_, H, N>,
     farm: &mut C,
     sources: &mut S,
     stop: &mut T,

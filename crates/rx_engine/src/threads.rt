@@ -1,38 +1,42 @@
 //! A run of sessions in threads: each takes a desk from the front, makes its attempts beside the
 //! others, and publishes and replies while no other does.
 
-ghost use Rattle.std.specs.Prelude.{◌≡◌, ◌≤◌, ◌↔◌, [], IfSome, None};
+ghost use Rattle.std.specs.Prelude.{◌≡◌, ◌≤◌, ◌↔◌, ◌+◌, [], IfSome, None};
 ghost use Rattle.rx_board.specs.Journal.{HoldsLast, IsKeptBy, count_short};
 ghost use Rattle.rx_engine.specs.Meanings.{meanings};
-ghost use Rattle.rx_engine.specs.Proxy.{HasStatus, IsLegal};
+ghost use Rattle.rx_engine.specs.Proxy.{HasServingStatus, IsLegal};
 ghost use Rattle.rx_engine.specs.Serves.{RunsDone};
 ghost use Rattle.rx_engine.specs.Words.{root_in};
 
+use crate::attempts::Means;
+use crate::closing::Closing;
 use crate::desk::{Desk, Front, Log};
 use crate::gate::Gate;
 use crate::kept::{Kept, Run};
 use crate::pending::undertake;
-use crate::proxy::{Ran, status_of};
-use crate::words::root_in;
+use crate::proxy::{Ran, serving_status};
+use crate::transcripts::asks_to_end;
+use crate::words::{at_once, root_in};
 use rx_blobs::{PRESENCE_LIMIT, Presence};
 use rx_board::JOURNAL_LIMIT;
 use rx_digest_cache::{DIGEST_CACHE_LIMIT, DigestCache};
+use rx_local::{Places, Slots, blank_for};
 use rx_world::{Place, World};
 use std::alloc::Global;
 use std::marker::Brand;
+use std::sync::ledger::Blank;
 use std::sync::{Mutex, Wait};
 use std::thread::{Threads, map_indices};
 
-/// How many sessions run at once, at most.
-pub const SESSIONS_AT_ONCE: usize = 64;
-
-/// The served root, as requests name it.
+/// The served root, as requests name it, and how many sessions and local attempts run at once.
 #[derive(Clone, Copy)]
 struct Root<'a> {
     path: &'a str,
+    sessions: usize,
+    slots: u32,
 }
 
-/// What all sessions of a run share, beside what stands behind its two locks.
+/// What all sessions of a run share, beside what stands behind the locks of the front and of the board.
 #[derive(Drop)]
 struct Common<'a, W: World, L> {
     root: Root<'a>,
@@ -40,10 +44,12 @@ struct Common<'a, W: World, L> {
     cache: &'a DigestCache<W>,
     /// Which blobs the farm is known to have.
     presence: &'a Presence,
+    /// Whether more desks are asked for.
+    closing: &'a Mutex<Closing>,
     log: &'a L,
 }
 
-/// Serves the desks of a front in threads, at most `SESSIONS_AT_ONCE` at a time, and hands everything
+/// Serves the desks of a front in threads, so many at a time as the words let, and hands everything
 /// back: the transcripts and the desks in the order in which their sessions published. The words are
 /// those of `serve`.
 pub fn run_in_threads<
@@ -74,8 +80,8 @@ pub fn run_in_threads<
     // There are at most as many short entries as the place had faults.
     ensures short { count_short result.journal.items ≤ P.faults result.place }
     // Each status has its cause.
-    ensures status { IfSome (root_in words.now) (λ root. HasStatus
-        {D = F.D} None None (F.faults front) (F.faults result.front)
+    ensures status { IfSome (root_in words.now) (λ root. HasServingStatus
+        (F.faults front) (F.faults result.front)
         result.status result.transcripts.items) }
 {
     let Some(root) = root_in(words) else {
@@ -88,7 +94,12 @@ pub fn run_in_threads<
             desks: Vec::new(alloc),
         };
     };
-    let root = Root { path: root };
+    let (sessions, slots) = at_once(words);
+    let root = Root {
+        path: root,
+        sessions,
+        slots,
+    };
     serve_front::<W, F, P, Brand, L, R>(rt, alloc, root, front, place, log)
 }
 
@@ -114,10 +125,11 @@ fn serve_front<
     ensures place { IsKeptBy (P.opening place) (P.contents result.place) result.journal.items }
     ensures last { HoldsLast (P.opening place) (P.contents result.place) result.journal.items }
     ensures short { count_short result.journal.items ≤ P.faults result.place }
-    ensures status { HasStatus {D = F.D} None None (F.faults front) (F.faults result.front)
+    ensures status { HasServingStatus (F.faults front) (F.faults result.front)
         result.status result.transcripts.items }
 {
     let gate = Mutex::new(Gate::<W, F, K>::new(front));
+    let closing = Mutex::new(Closing::Open);
     let kept = Mutex::new(Kept::<W, F::D, P, K>::new(alloc, place));
     match DigestCache::<W>::new(alloc, DIGEST_CACHE_LIMIT) {
         Ok(cache) => {
@@ -126,16 +138,18 @@ fn serve_front<
                 root,
                 cache: &cache,
                 presence: &presence,
+                closing: &closing,
                 log,
             };
-            work_all::<W, F, P, K, L, R>(rt, alloc, &common, &gate, &kept);
+            let blank = blank_for(root.slots);
+            share_slots::<W, F, P, K, Brand, L, R>(rt, alloc, &common, blank, &gate, &kept);
         }
         Err(_) => {}
     }
-    let (front, stop) = gate.into_inner().into_parts();
+    let (front, stop) = gate.into_inner().into_parts(closing.into_inner());
     let (place, journal, transcripts, desks) = kept.into_inner().into_parts();
     Ran {
-        status: status_of(stop, &transcripts),
+        status: serving_status(stop),
         front,
         place,
         journal,
@@ -144,18 +158,46 @@ fn serve_front<
     }
 }
 
-/// Has so many threads work until there are no more desks.
-fn work_all<
+/// Has threads work that share the slots for local attempts.
+fn share_slots<
     W: World + Send,
     F: Front<W> + Send + Drop,
     P: Place + Send + Drop,
     K: Run + Send + Sync,
+    N: Places + Send + Sync,
     L: Log + Sync,
     R: Threads + Wait + Sync,
 >(
     rt: &R,
     alloc: Global,
     common: &Common<'_, W, L>,
+    blank: Blank,
+    gate: &Mutex<Gate<W, F, K>>,
+    kept: &Mutex<Kept<W, F::D, P, K>>,
+)
+    requires root { common.now.root.path.now ≡ K.root }
+    requires name { blank.name ≡ N.name }
+    requires parts { (blank.parts ≡ N.parts) × (N.parts ≡ N.most + 1) }
+    requires slots { common.now.root.slots ≡ N.most }
+{
+    let slots = Slots::<N>::new(common.root.slots, blank);
+    work_all::<W, F, P, K, N, L, R>(rt, alloc, common, &slots, gate, kept);
+}
+
+/// Has so many threads work until there are no more desks.
+fn work_all<
+    W: World + Send,
+    F: Front<W> + Send + Drop,
+    P: Place + Send + Drop,
+    K: Run + Send + Sync,
+    N: Places + Send + Sync,
+    L: Log + Sync,
+    R: Threads + Wait + Sync,
+>(
+    rt: &R,
+    alloc: Global,
+    common: &Common<'_, W, L>,
+    slots: &Slots<N>,
     gate: &Mutex<Gate<W, F, K>>,
     kept: &Mutex<Kept<W, F::D, P, K>>,
 )
@@ -163,44 +205,61 @@ fn work_all<
 {
     let worker = |_thread: usize| -> ()
         requires { common.now.root.path.now ≡ K.root }
-    { work::<W, F, P, K, L, R>(rt, alloc, common, gate, kept) };
-    if map_indices(rt, alloc, SESSIONS_AT_ONCE, &worker).is_err() {
-        gate.lock(rt).close();
+    { work::<W, F, P, K, N, L, R>(rt, alloc, common, slots, gate, kept) };
+    if map_indices(rt, alloc, common.root.sessions, &worker).is_err() {
+        common.closing.lock(rt).give_up();
     }
 }
 
-/// Serves one desk after the other, until there are no more.
+/// The next desk, unless no more are asked for.
+fn next_desk<W: World, F: Front<W> + Drop, K: Run, R: Wait>(
+    rt: &R,
+    gate: &Mutex<Gate<W, F, K>>,
+    closing: &Mutex<Closing>,
+) -> Option<F::D> {
+    let mut gate = gate.lock(rt);
+    let now = *closing.lock(rt);
+    gate.next(now)
+}
+
+/// Serves one desk after the other, until there are no more. Who asks for the end of the run is told
+/// that it comes only where no thread asks for one more desk, but one that waits for it already.
 fn work<
     W: World + Send,
     F: Front<W> + Send + Drop,
     P: Place + Send + Drop,
     K: Run,
+    N: Places + Send + Sync,
     L: Log,
     R: Threads + Wait + Sync,
 >(
     rt: &R,
     alloc: Global,
     common: &Common<'_, W, L>,
+    slots: &Slots<N>,
     gate: &Mutex<Gate<W, F, K>>,
     kept: &Mutex<Kept<W, F::D, P, K>>,
 )
     requires { common.now.root.path.now ≡ K.root }
 {
     for _ in 0..u32::MAX {
-        let Some(desk) = gate.lock(rt).next() else {
+        let Some(desk) = next_desk(rt, gate, common.closing) else {
             return;
         };
-        let (pending, parts) = undertake::<W, F::D, R>(
-            rt,
-            alloc,
-            common.root.path,
-            common.cache,
-            common.presence,
-            desk.split(),
-        );
+        let halter = desk.halter();
+        let means = Means {
+            cache: common.cache,
+            presence: common.presence,
+            halter: &halter,
+            slots,
+        };
+        let root = common.root.path;
+        let (pending, parts) = undertake::<W, F::D, N, R>(rt, alloc, root, &means, desk.split());
+        if asks_to_end(pending.read.as_slice()) {
+            common.closing.lock(rt).shut_down();
+        }
         if !kept.lock(rt).conclude(alloc, common.log, pending, parts) {
-            gate.lock(rt).close();
-            return;
+            common.closing.lock(rt).give_up();
         }
     }
 }

@@ -1,8 +1,11 @@
 //! What is kept of a session.
 
+ghost use Rattle.std.specs.Prelude.{◌≡◌};
+ghost use Rattle.rx_engine.specs.Proxy.{asks_to_end};
+
 use rx_base::{Bytes, Items};
 use rx_board::Receipt;
-use rx_session::{Reply, Request};
+use rx_session::{Reply, Request, SHUTDOWN};
 use rx_world::Ended;
 
 /// How a session ended.
@@ -12,9 +15,13 @@ pub enum Ending {
     Replied,
     /// The input failed before the request and its end were read. Nothing was written.
     SourceLost,
-    /// The output failed. A front of the reply was written.
+    /// The client asked for the end of the run, and was told that it comes. Nothing else was done.
+    ShutDown,
+    /// The output failed. A front of what was to be written was: of the reply, or of the answer to a
+    /// Shutdown.
     SinkLost,
-    /// Memory ran out even for the reply that says so. Nothing was written.
+    /// Memory ran out even for the reply that says so, or for the answer to a Shutdown. Nothing was
+    /// written.
     NoMemory,
 }
 
@@ -36,4 +43,11 @@ pub struct Transcript {
     pub receipt: Option<Receipt>,
     /// How each attempt that was started ended: local before remote, but an end that won a race first.
     pub ends: Items<Ended>,
+}
+
+/// Whether the bytes that a session read ask for the end of the run.
+pub(crate) fn asks_to_end(read: &[u8]) -> bool
+    ensures { result ≡ asks_to_end read.now }
+{
+    read == SHUTDOWN.as_slice()
 }

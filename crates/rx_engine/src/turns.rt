@@ -12,6 +12,7 @@ use crate::held::Held;
 use crate::here::run_here;
 use crate::there::run_there;
 use crate::winners::may_publish;
+use rx_local::Places;
 use rx_world::{Attempt, Cause, End, Plan, RemoteCause, Unstopped, World};
 use std::sync::Wait;
 
@@ -23,9 +24,9 @@ pub(crate) struct Turns {
 }
 
 /// Makes the attempts of the plan on what was gathered, one after the other.
-pub(crate) fn take_turns<W: World, D: Desk<W>>(
+pub(crate) fn take_turns<W: World, D: Desk<W>, N: Places>(
     rt: &impl Wait,
-    job: &Job<'_>,
+    job: &Job<'_, D::H, N>,
     parts: &mut Parts<D::I, D::O, D::T, D::L, D::B, D::R, D::C>,
 ) -> Turns
     requires { FitsFarm job.now.gathered.now }
@@ -38,16 +39,16 @@ pub(crate) fn take_turns<W: World, D: Desk<W>>(
     ensures output { parts.new.output ≡ parts.old.output }
     ensures tree { parts.new.tree ≡ parts.old.tree }
 {
-    let there = start_there::<W, D>(rt, job, parts);
+    let there = start_there::<W, D, N>(rt, job, parts);
     let starts = starts_here(job.gathered.plan, &there);
-    let here = start_here::<W, D>(job, starts, parts);
+    let here = start_here::<W, D, N>(rt, job, starts, parts);
     Turns { here, there }
 }
 
 /// Makes the remote attempt, where the plan has one.
-fn start_there<W: World, D: Desk<W>>(
+fn start_there<W: World, D: Desk<W>, N: Places>(
     rt: &impl Wait,
-    job: &Job<'_>,
+    job: &Job<'_, D::H, N>,
     parts: &mut Parts<D::I, D::O, D::T, D::L, D::B, D::R, D::C>,
 ) -> Option<End<Held, RemoteCause>>
     requires { FitsFarm job.now.gathered.now }
@@ -66,7 +67,7 @@ fn start_there<W: World, D: Desk<W>>(
         let mut stop = Unstopped {
             attempt: Attempt::Remote,
         };
-        return Some(run_there::<W, D::C, D::R, Unstopped>(
+        return Some(run_there::<W, D::H, N, D::C, D::R, Unstopped>(
             rt,
             job,
             &mut parts.farm,
@@ -77,9 +78,10 @@ fn start_there<W: World, D: Desk<W>>(
     None
 }
 
-/// Makes the local attempt, where it starts.
-fn start_here<W: World, D: Desk<W>>(
-    job: &Job<'_>,
+/// Makes the local attempt, where it starts, once there is a slot for it.
+fn start_here<W: World, D: Desk<W>, N: Places>(
+    rt: &impl Wait,
+    job: &Job<'_, D::H, N>,
     starts: bool,
     parts: &mut Parts<D::I, D::O, D::T, D::L, D::B, D::R, D::C>,
 ) -> Option<End<Held, Cause>>
@@ -98,13 +100,16 @@ fn start_here<W: World, D: Desk<W>>(
         let mut stop = Unstopped {
             attempt: Attempt::Local,
         };
-        return Some(run_here::<W, D::B, D::L, Unstopped>(
+        let slot = job.slots.take(rt);
+        let end = run_here::<W, D::B, D::L, Unstopped>(
             job.alloc,
             job.gathered,
             &mut parts.benches,
             &mut parts.tree_local,
             &mut stop,
-        ));
+        );
+        job.slots.give(rt, slot);
+        return Some(end);
     }
     None
 }

@@ -2,10 +2,22 @@
 
 ghost use Rattle.std.specs.Prelude.{◌≡◌, is_some, option_copied};
 ghost use Rattle.rx_engine.specs.Cuts.{begins};
-ghost use Rattle.rx_engine.specs.Words.{is_command, nothing_given, once, options_in, root_in, with_option, with_word, with_words};
+ghost use Rattle.rx_engine.specs.Words.{count_in, is_command, nothing_given, once, once_counted, options_in, root_in, with_option, with_word, with_words};
 
-use crate::addresses::{is_address, is_listening_address};
+use crate::addresses::{are_digits, is_address, is_listening_address};
 use std::marker::Model;
+
+/// Where sandboxes are made, unless it is given.
+const SCRATCH: &str = "/tmp";
+
+/// How many sessions run at once, unless it is given.
+const SESSIONS: u16 = 16;
+
+/// How many local attempts run at once, unless it is given.
+const SLOTS: u16 = 4;
+
+/// How many of either may be given.
+const MOST_AT_ONCE: u16 = 256;
 
 /// The options of `reproxy exec` and of `reproxy serve`.
 #[derive(Debug, Drop)]
@@ -18,6 +30,12 @@ pub struct Options<'a> {
     pub remote: Option<&'a str>,
     /// The farm's instance; empty, unless one is named.
     pub instance: &'a str,
+    /// The directory below which sandboxes are made, which begins with a slash.
+    pub scratch: &'a str,
+    /// How many sessions of `serve` run at once: 1 to 256.
+    pub sessions: u16,
+    /// How many local attempts of `serve` run at once: 1 to 256.
+    pub slots: u16,
 }
 
 impl<'a> Model for Options<'a> {
@@ -31,6 +49,9 @@ impl<'a> Model for Options<'a> {
       listen = option_copied o.listen;
       remote = option_copied o.remote;
       instance = o.instance.now;
+      scratch = o.scratch.now;
+      sessions = o.sessions;
+      slots = o.slots;
     } };
 }
 
@@ -41,6 +62,9 @@ struct Given<'a> {
     listen: Option<&'a str>,
     remote: Option<&'a str>,
     instance: Option<&'a str>,
+    scratch: Option<&'a str>,
+    sessions: Option<u16>,
+    slots: Option<u16>,
     /// The name of an option whose value is the next word.
     waiting: Option<&'a str>,
 }
@@ -56,6 +80,9 @@ impl<'a> Model for Given<'a> {
       listen = option_copied g.listen;
       remote = option_copied g.remote;
       instance = option_copied g.instance;
+      scratch = option_copied g.scratch;
+      sessions = g.sessions;
+      slots = g.slots;
       waiting = option_copied g.waiting;
     } };
 }
@@ -76,6 +103,36 @@ fn once<'a>(given: Option<&'a str>, fits: bool, value: &'a str) -> Option<&'a st
     }
 }
 
+/// A number of sessions or of slots: 1 to 256 in decimal digits, without a sign or a leading zero.
+#[tactic(auto, unfolding(crate::specs::Words::count_in))]
+fn count_in(text: &str) -> Option<u16>
+    ensures { result ≡ count_in text.now }
+{
+    if !are_digits(text) || begins(text, b"0") {
+        return None;
+    }
+    match text.parse::<u16>() {
+        Ok(count) => {
+            if 1 <= count && count <= MOST_AT_ONCE {
+                Some(count)
+            } else {
+                None
+            }
+        }
+        Err(_) => None,
+    }
+}
+
+/// The number of an option that has none yet.
+fn once_counted(given: Option<u16>, count: Option<u16>) -> Option<u16>
+    ensures { result ≡ once_counted given count }
+{
+    match given {
+        None => count,
+        Some(_) => None,
+    }
+}
+
 /// What was given, with one more option.
 #[tactic(auto, unfolding(crate::specs::Words::with_option))]
 fn with_option<'a>(given: Given<'a>, name: &str, value: &'a str) -> Option<Given<'a>>
@@ -90,6 +147,9 @@ fn with_option<'a>(given: Given<'a>, name: &str, value: &'a str) -> Option<Given
         }
         "--remote" => given.remote = Some(once(given.remote, is_address(value), value)?),
         "--instance" => given.instance = Some(once(given.instance, !value.is_empty(), value)?),
+        "--scratch" => given.scratch = Some(once(given.scratch, begins(value, b"/"), value)?),
+        "--sessions" => given.sessions = Some(once_counted(given.sessions, count_in(value))?),
+        "--slots" => given.slots = Some(once_counted(given.slots, count_in(value))?),
         _ => return None,
     }
     Some(given)
@@ -124,6 +184,9 @@ fn given_in(words: &[String]) -> Option<Given<'_>>
         listen: None,
         remote: None,
         instance: None,
+        scratch: None,
+        sessions: None,
+        slots: None,
         waiting: None,
     };
     let mut rest = words;
@@ -145,7 +208,8 @@ fn is_command(command: &str, listens: bool) -> bool
 }
 
 /// What the words of a command line ask for: `exec` or `serve`, and `--root PATH`, of `serve` alone `--listen ADDRESS`,
-/// `[--remote HOST:PORT]`, `[--instance NAME]`: the options in any order, each as two words or as `--name=value`.
+/// `[--remote HOST:PORT]`, `[--instance NAME]`, `[--scratch DIR]`, `[--sessions N]`, `[--slots N]`: the options in any order, each as two
+/// words or as `--name=value`.
 #[tactic(auto, unfolding(crate::specs::Words::options_in))]
 pub fn options_in(words: &[String]) -> Option<Options<'_>>
     ensures { result ≡ options_in words.now }
@@ -160,6 +224,9 @@ pub fn options_in(words: &[String]) -> Option<Options<'_>>
         listen: given.listen,
         remote: given.remote,
         instance: given.instance.unwrap_or(""),
+        scratch: given.scratch.unwrap_or(SCRATCH),
+        sessions: given.sessions.unwrap_or(SESSIONS),
+        slots: given.slots.unwrap_or(SLOTS),
     })
 }
 
@@ -168,4 +235,12 @@ pub(crate) fn root_in(words: &[String]) -> Option<&str>
     ensures { option_copied result ≡ root_in words.now }
 {
     Some(options_in(words)?.root)
+}
+
+/// How many sessions and how many local attempts the words of a command line let run at once.
+pub(crate) fn at_once(words: &[String]) -> (usize, u32) {
+    match options_in(words) {
+        Some(options) => (usize::from(options.sessions), u32::from(options.slots)),
+        None => (0, 0),
+    }
 }

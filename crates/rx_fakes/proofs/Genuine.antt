@@ -1,9 +1,9 @@
 -- What stands at a path of genuine entries.
 use Rattle.std.proofs.Common.{◌≡◌, ℕ, Bool, true, false, cond, List, [], ◌∷◌, ◌++◌, Result, Ok, Err, IfOk, bytes_eq, refl}
 use Rattle.std.proofs.lemmas.List.Elements.{All-from_recursion}
-use Rattle.std.proofs.lemmas.Slice.Eq.{bytes_eq-Decides}
 use Rattle.std.specs.List.{AllByRecursion}
 use Rattle.rx_fakes.specs.Entries.{AreGenuine, IsGenuine}
+use Rattle.rx_world.proofs.FilesUnder.{entry_at-path}
 use Rattle.rx_world.specs.declared.looks.Look.{Look}
 use Rattle.rx_world.specs.declared.looks.Stamp.{Stamp}
 use Rattle.rx_world.specs.declared.sources.SourceEntry.{SourceEntry}
@@ -18,14 +18,6 @@ genuine-entry_at honest holds path [] all = record { bytes = refl; content = λ 
 genuine-entry_at honest holds path (entry ∷ entries) all =
     chosen_is (IsGenuine honest holds) (bytes_eq entry.path path) entry (entry_at path entries) all.0 (genuine-entry_at honest holds path entries all.1)
 
-path_chosen : (path : List ℕ) (b : Bool) (x y : SourceEntry) → (b ≡ true → x.path ≡ path) → y.path ≡ path → (cond b x y).path ≡ path
-path_chosen path true x y p q = p refl
-path_chosen path false x y p q = q
-
-path-entry_at : (path : List ℕ) (entries : List SourceEntry) → (entry_at path entries).path ≡ path
-path-entry_at path [] = refl
-path-entry_at path (entry ∷ entries) = path_chosen path (bytes_eq entry.path path) entry (entry_at path entries) (bytes_eq-Decides entry.path path).0 (path-entry_at path entries)
-
 pub read_bytes : {E : Type 0} (honest : Type 0) (holds : List ℕ → Stamp → List ℕ) (path : List ℕ) (entries : List SourceEntry) (result : Result (Look × List ℕ) E) → AreGenuine honest holds entries → IfOk result (λ read. IsRead entries path read.0 read.1) → IfOk result (λ read. HasBytes read.0 read.1)
 read_bytes honest holds path entries (Ok read) all is = rw (is.look_is, is.bytes_are) (genuine-entry_at honest holds path entries all).bytes
 read_bytes honest holds path entries (Err e) all is = tt
@@ -33,7 +25,7 @@ read_bytes honest holds path entries (Err e) all is = tt
 pub read_content : {E : Type 0} (honest : Type 0) (holds : List ℕ → Stamp → List ℕ) (path : List ℕ) (entries : List SourceEntry) (result : Result (Look × List ℕ) E) → AreGenuine honest holds entries → IfOk result (λ read. IsRead entries path read.0 read.1) → IfOk result (λ read. honest → GivesContent holds path read.0 read.1)
 read_content honest holds path entries (Ok read) all is = λ h.
     let content : GivesContent holds (entry_at path entries).path (entry_at path entries).look (entry_at path entries).bytes = (genuine-entry_at honest holds path entries all).content h in
-    rw (is.look_is, is.bytes_are) (rw (path-entry_at path entries) at content)
+    rw (is.look_is, is.bytes_are) (rw (entry_at-path path entries) at content)
 read_content honest holds path entries (Err e) all is = tt
 
 contents_of : (honest : Type 0) (holds : List ℕ → Stamp → List ℕ) (entries : List SourceEntry) → AreGenuine honest holds entries → honest → AllByRecursion (λ entry. GivesContent holds entry.path entry.look entry.bytes) entries

@@ -2,5 +2,5 @@ mod Genuine
 mod Listing
 mod Nodes
 pub mod Prefixes
-mod Reading
+pub mod Reading
 mod Spots

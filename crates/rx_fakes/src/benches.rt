@@ -53,6 +53,7 @@ impl<K: Contents> BenchMaker<Toy<K>> for ToyBenches {
                 },
                 runs: Items::new(self.alloc),
                 script: Script::new(fails),
+                failed: None,
             }),
             Err(_) => Err(self.script.fault()),
         }

@@ -1,6 +1,7 @@
 //! Connections in memory, and a dial that makes them one after the other.
 
 ghost use Rattle.std.specs.Prelude.{◌≡◌, ◌≤◌, [], false, length, Some, take};
+ghost use Rattle.rx_world.specs.declared.versions.Dialect.TheVariants.{New as new_dialect};
 ghost use Rattle.rx_world.specs.Links.{Wire};
 
 use crate::Script;
@@ -97,6 +98,8 @@ impl Dial for MemoryDial {
     type L = MemoryLink;
 
     ghost rule = { λ d sent received. Unit {0} };
+
+    ghost dialect = { new_dialect };
 
     ghost faults = { λ d. d.script.faults };
 

@@ -1,5 +1,6 @@
 -- What a connection was asked, and what its bytes say of it.
 use Rattle.std.proofs.Common.{◌≡◌, ◌≤◌, ℕ, Bool, true, false, ◌||◌, List, [], ◌∷◌, ◌++◌, append-nil, append_assoc, refl, sym, ap, subst, ◌∙◌, arith, Option, None, Some, Result, Ok, Err, IfOk, MatchOption}
+use Rattle.std.proofs.lemmas.Bool.{or_from}
 use Rattle.std.specs.List.{list_all, list_any}
 use Rattle.std.proofs.lemmas.List.Folds.{list_any-append}
 use Rattle.rx_hpack.specs.Header.{Field}
@@ -49,9 +50,6 @@ pub any_unless : (p : Out → Bool) (o : Option ConnFault) (os : List Out) → l
 any_unless p None os h = h
 any_unless p (Some e) os h = refl
 
-pub or_none : (a b : Bool) → a ≡ false → b ≡ false → (a || b) ≡ false
-or_none a b p q = rw (p, q) refl
-
 -- nothing of its bytes is sent with its headers
 pub opens_blank : (r : Reading) (fields : List Field) (id : ℕ) → (bytes_on id (all_emitted r (Opens fields false ∷ [])) ≡ []) × (is_ended id (all_emitted r (Opens fields false ∷ [])) ≡ false)
 opens_blank r fields id = (
@@ -72,7 +70,7 @@ asks_opened before fields id messages held free is =
     let bytes : bytes_on id (all_emitted started (before ++ Opens fields false ∷ [])) ≡ [] =
     ap (bytes_on id) split ∙ (bytes_append id first second ∙ two_none _ _ (ap payload (unopened_run (is_byte_of id) before started id (bytes_of_one id) held calm below)) blank.0) in
     let going : is_ended id (all_emitted started (before ++ Opens fields false ∷ [])) ≡ false =
-    ap (is_ended id) split ∙ (list_any-append (ends_stream id) first second ∙ or_none _ _ (none_any (ends_stream id) first (unopened_run (ends_stream id) before started id (ends_of_one id) held calm below)) blank.1) in
+    ap (is_ended id) split ∙ (list_any-append (ends_stream id) first second ∙ or_from _ _ (none_any (ends_stream id) first (unopened_run (ends_stream id) before started id (ends_of_one id) held calm below)) blank.1) in
     record {
       before = before;
       later = [];

@@ -1,6 +1,7 @@
 -- Events handed out one after another.
-use Rattle.std.proofs.Common.{◌≡◌, ◌<◌, ℕ, Bool, true, false, ◌||◌, ◌&&◌, not, List, [], ◌∷◌, ◌++◌, length, filter, refl, sym, ap, subst, ◌∙◌, arith, Option, None, Some}
+use Rattle.std.proofs.Common.{◌≡◌, ◌<◌, ℕ, Bool, true, ◌||◌, ◌&&◌, not, List, [], ◌∷◌, ◌++◌, length, filter, refl, sym, ap, subst, ◌∙◌, arith, Option, None, Some}
 use Rattle.std.proofs.lemmas.List.Elements.{filter-append}
+use Rattle.std.proofs.Math.Bool.{or_assoc, or-false}
 use Rattle.std.specs.List.{list_all, list_any}
 use Rattle.rx_h2conn.specs.Session.{Session, Reading, Event, Queued}
 use Rattle.rx_h2conn.specs.Streams.{KeepsHeld, is_open, stream_at}
@@ -8,6 +9,7 @@ use Rattle.rx_h2conn.specs.Data.{owe}
 use Rattle.rx_h2conn.specs.Steps.{first, handed, after_event}
 use Rattle.rx_h2conn.specs.Heard.{as_list}
 use Rattle.rx_h2conn.proofs.ListLemmas.{either}
+use Rattle.rx_h2conn.proofs.PieceLemmas.{handed-fault}
 use Rattle.rx_grpc.specs.declared.call.Call.{Call}
 use Rattle.rx_grpc.specs.Heard.{Heard, heard}
 use Rattle.rx_grpc.specs.Moves.{Moves, is_for, is_away, is_quiet}
@@ -15,33 +17,17 @@ use Rattle.rx_grpc.specs.Conversation.{Drains}
 use Rattle.rx_grpc.proofs.UseLemmas.{heard_append}
 use Rattle.rx_grpc.proofs.MoveLemmas.{moves_none, moves_trans, moves_handed, quiet_both}
 
-pub or_nothing : (b : Bool) → b ≡ (b || false)
-or_nothing true = refl
-or_nothing false = refl
-
-pub or_again : (a b c : Bool) → ((a || b) || c) ≡ (a || (b || c))
-or_again true b c = refl
-or_again false b c = refl
-
 pub any_append : (P : Event → Bool) (xs ys : List Event) → list_any P (xs ++ ys) ≡ (list_any P xs || list_any P ys)
 any_append P [] ys = refl
-any_append P (x ∷ xs) ys = ap (λ (b : Bool). P x || b) (any_append P xs ys) ∙ sym (or_again (P x) (list_any P xs) (list_any P ys))
+any_append P (x ∷ xs) ys = ap (λ (b : Bool). P x || b) (any_append P xs ys) ∙ sym (or_assoc (P x) (list_any P xs) (list_any P ys))
 
 pub drains_none : (old : Reading) (call : Call) → Drains old old call call
 unfolding moves_none
-drains_none old call = record { out = []; moves = moves_none old; quiet = refl; id = refl; place = refl; heard_is = refl; away_is = or_nothing call.away; fault = refl; held = λ i over h. h }
+drains_none old call = record { out = []; moves = moves_none old; quiet = refl; id = refl; place = refl; heard_is = refl; away_is = sym (or-false call.away); fault = refl; held = λ i over h. h }
 
 pub owe-events : (s : Session) (id credit : ℕ) → (owe s id credit).events ≡ s.events
 unfolding owe
 owe-events s id credit = either (λ (x : Session). x.events ≡ s.events) (is_open s id && not (stream_at s id).client_reset) _ _ (λ _. refl) (λ _. refl)
-
-pub owe-fault : (s : Session) (id credit : ℕ) → (owe s id credit).fault ≡ s.fault
-unfolding owe
-owe-fault s id credit = either (λ (x : Session). x.fault ≡ s.fault) (is_open s id && not (stream_at s id).client_reset) _ _ (λ _. refl) (λ _. refl)
-
-pub handed-fault : (s : Session) (qs : List Queued) → (handed s qs).fault ≡ s.fault
-handed-fault s [] = refl
-handed-fault s (q ∷ qs) = owe-fault (record s { events = qs }) q.stream q.credit
 
 pub fewer : (s : Session) (qs : List Queued) (e : Event) → s.events ≡ qs → first qs ≡ Some e → length (handed s qs).events < length qs
 fewer s [] e is some = absurd cc
@@ -76,8 +62,8 @@ drains_next old now new a b d e is some after_is held id place heard_is away_is 
           ∙ ap (heard a.answers) (sym (filter-append (is_for a.id) is.out (e ∷ []))))));
       away_is =
           away_is ∙ (ap (λ (w : Bool). w || is_away e) is.away_is
-          ∙ (or_again a.away (list_any is_away is.out) (is_away e)
-          ∙ ap (λ (w : Bool). a.away || w) (ap (λ (w : Bool). list_any is_away is.out || w) (or_nothing (is_away e)) ∙ sym (any_append is_away is.out (e ∷ [])))));
+          ∙ (or_assoc a.away (list_any is_away is.out) (is_away e)
+          ∙ ap (λ (w : Bool). a.away || w) (ap (λ (w : Bool). list_any is_away is.out || w) (sym (or-false (is_away e))) ∙ sym (any_append is_away is.out (e ∷ [])))));
       fault = ap (λ (x : Reading). x.state.fault) after_is ∙ (handed-fault now.state now.state.events ∙ is.fault);
       held = λ i over h. held i over (is.held i over h);
     }

@@ -1,5 +1,6 @@
 -- The events of a stream among all that were handed out show what its part shows.
 use Rattle.std.proofs.Common.{◌≡◌, ℕ, Bool, true, false, cond, not, ◌&&◌, ◌||◌, List, [], ◌∷◌, ◌++◌, append-nil, filter, refl, sym, ap, ◌∙◌, Option, None, Some}
+use Rattle.std.proofs.lemmas.Bool.{and_parts, or_left, or_right}
 use Rattle.rx_h2conn.specs.Session.{Event, Headers, Bytes, Reset, Gone}
 use Rattle.rx_grpc.specs.declared.end.End.{End}
 use Rattle.rx_grpc.specs.Heard.{Heard, unless_ended, ended_by, end_by, read_by, told, step, heard}
@@ -67,22 +68,6 @@ still_ended false true false true h e w n o is = n refl
 still_ended false false false true h e w n o is = let no = o refl in absurd cc
 still_ended on out false false h e w n o is = absurd cc
 
-pub and_first : (a b : Bool) → (a && b) ≡ true → a ≡ true
-and_first true b h = refl
-and_first false b h = absurd cc
-
-pub and_second : (a b : Bool) → (a && b) ≡ true → b ≡ true
-and_second true b h = h
-and_second false b h = absurd cc
-
-pub or_first : (a b : Bool) → a ≡ true → (a || b) ≡ true
-or_first true b h = refl
-or_first false b h = absurd cc
-
-pub or_second : (a b : Bool) → b ≡ true → (a || b) ≡ true
-or_second true b h = refl
-or_second false b h = h
-
 pub chosen_step : (b : Bool) (h : Heard) (e : Event) (es : List Event) → heard h (cond b (e ∷ es) es) ≡ heard (cond b (step h e) h) es
 chosen_step true h e es = refl
 chosen_step false h e es = refl
@@ -95,9 +80,9 @@ reads_from (e ∷ events) z p id d g =
     let out = leaves_out id e in
     let one = one_more on out p.done p.gone z p.events e d g in
     let ends : (p.done || (on && ends_stream e)) ≡ true → IsEnded (heard z (with_event p id e).events) = λ is.
-    rw (sym one) (still_ended on out p.done (on && ends_stream e) h e d (λ now. step_by h e (told_ends h e (and_second on _ now))) (λ now. or_first on out (and_first on _ now)) is) in
+    rw (sym one) (still_ended on out p.done (on && ends_stream e) h e d (λ now. step_by h e (told_ends h e (and_parts on _ now).1)) (λ now. or_left on out (and_parts on _ now).0) is) in
     let leaves : (p.gone || out) ≡ true → IsEnded (heard z (with_event p id e).events) = λ is.
-    rw (sym one) (still_ended on out p.gone out h e g (λ now. step_by h e (told_gone h id e now)) (λ now. or_second on out now) is) in
+    rw (sym one) (still_ended on out p.gone out h e g (λ now. step_by h e (told_gone h id e now)) (λ now. or_right on out now) is) in
     chosen_step (on || out) h e (filter (is_for id) events)
     ∙ (ap (λ (x : Heard). heard x (filter (is_for id) events)) one
     ∙ reads_from events z (with_event p id e) id ends leaves)

@@ -1,6 +1,7 @@
 pub mod ReadLemmas
 pub mod UseLemmas
 pub mod ItemLemmas
+pub mod EachAnswer
 pub mod FramedLemmas
 pub mod HearLemmas
 pub mod WireLemmas
@@ -19,8 +20,13 @@ pub mod AskLemmas
 pub mod AskingLemmas
 pub mod SendLemmas
 pub mod EachLemmas
+pub mod KeepLemmas
+pub mod CarriedLemmas
 pub mod CallerLemmas
 pub mod StreamedLemmas
 pub mod AskedLemmas
 pub mod BatchLemmas
 pub mod RefusedLemmas
+pub mod HonestLemmas
+pub mod JoinedLemmas
+pub mod RunningLemmas

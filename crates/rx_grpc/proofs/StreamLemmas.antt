@@ -1,6 +1,7 @@
 -- Streams that are opened for calls, and those that are given up.
-use Rattle.std.proofs.Common.{◌≡◌, ◌≢◌, ℕ, ◌+◌, ◌*◌, ◌/◌, Bool, true, false, ◌&&◌, cond, List, [], ◌∷◌, ◌++◌, length, filter, append-nil, nat_lt, refl, sym, ap, subst, ◌∙◌, arith, Option, None, Some, Result, Ok, Err, IfOk, IfSome, MatchOption}
+use Rattle.std.proofs.Common.{◌≡◌, ◌≢◌, ℕ, ◌+◌, ◌*◌, ◌/◌, Bool, true, false, cond, List, [], ◌∷◌, ◌++◌, length, filter, append-nil, nat_lt, refl, sym, ap, subst, ◌∙◌, arith, Option, None, Some, Result, Ok, Err, IfOk, IfSome, MatchOption}
 use Rattle.std.proofs.lemmas.Bool.{le-ltb}
+use Rattle.std.proofs.Math.Bool.{and-false}
 use Rattle.std.specs.List.{list_any}
 use Rattle.rx_hpack.specs.Header.{Field}
 use Rattle.rx_h2conn.specs.declared.fault.ConnFault.{ConnFault}
@@ -106,10 +107,6 @@ refuses (Some x) old mid new fields last e is g d not = λ bad. let no : Some x 
 refuses None old mid new fields last e is g d not = absurd (not d.1)
 
 -- nothing was told of the next stream
-pub and_nothing : (b : Bool) → (b && false) ≡ false
-and_nothing true = refl
-and_nothing false = refl
-
 pub not_out : (id : ℕ) (e : Event) → is_away e ≡ false → leaves_out id e ≡ false
 not_out id (Gone last) is = absurd cc
 not_out id (Headers stream list last) is = refl
@@ -121,7 +118,7 @@ next_unopened s =
     let n = length s.streams in
     let place : (n * 2 + 1) / 2 ≡ n = omega arith in
     let past : nat_lt ((n * 2 + 1) / 2) n ≡ false = rw place (le-ltb n n (omega arith)) in
-    rw past (and_nothing _)
+    rw past (and-false _)
 
 pub none_for : (id : ℕ) (events : List Event) → filter (is_on id) events ≡ [] → list_any is_away events ≡ false → filter (is_for id) events ≡ []
 none_for id [] a b = refl

@@ -22,6 +22,7 @@ use Rattle.rx_codec.specs.Decoding.{any_form, decoded}
 use Rattle.rx_exec_messages.specs.Calls.{RefusesOneOf}
 use Rattle.rx_exec_messages.specs.Streams.{read_response_from, read_response_parts}
 use Rattle.rx_exec_messages.specs.declared.streams.ReadResponse.{ReadResponse}
+use Rattle.rx_grpc.proofs.KeepLemmas.{keeps-all}
 use Rattle.rx_grpc.proofs.RefusedLemmas.{read-refused, then-err}
 
 -- ---- open answers
@@ -76,26 +77,26 @@ gives-same (Err fault) given e = λ other. sym e
 
 -- ---- calls that weren't begun
 
-pub unbegun : {D L : Type 0} (dial : D → ℕ) (link : links.Ghosts L) (asked : Asked) (channel : ChannelOf D L) → IsBegun dial link asked channel channel (Err NoMemory)
-unbegun dial link asked channel = record { begins = tt; asks = tt; stops = tt; cause = record { later = le_refl _; failed = λ e. absurd cc } }
+pub unbegun : {D L : Type 0} (dial : D → ℕ) (rule : D → List ℕ → List ℕ → Type 0) (link : links.Ghosts L) (asked : Asked) (channel : ChannelOf D L) → IsBegun dial rule link asked channel channel (Err NoMemory)
+unbegun dial rule link asked channel = record { begins = tt; asks = tt; stops = tt; cause = record { later = le_refl _; failed = λ e. absurd cc }; keeps = keeps-all rule channel; ruled = tt }
 
-pub nothing-came : {D L : Type 0} (dial : D → ℕ) (link : links.Ghosts L) (asked : Asked) (old new : ChannelOf D L) (begun : Result (Unit {0}) TransferFault) (IsSuch : Result (Unit {0}) TransferFault → List Came → Type 0)
-    → IsBegun dial link asked old new begun → IsSuch begun [] → HearsItems dial link asked old new IsSuch
-nothing-came dial link asked old new begun IsSuch is such = record { begun = begun; opened = new; is_begun = is; items = []; goes_on = refl; is_such = such }
+pub nothing-came : {D L : Type 0} (dial : D → ℕ) (rule : D → List ℕ → List ℕ → Type 0) (link : links.Ghosts L) (asked : Asked) (old new : ChannelOf D L) (begun : Result (Unit {0}) TransferFault) (IsSuch : Result (Unit {0}) TransferFault → List Came → Type 0)
+    → IsBegun dial rule link asked old new begun → IsSuch begun [] → HearsItems dial rule link asked old new IsSuch
+nothing-came dial rule link asked old new begun IsSuch is such = record { begun = begun; opened = new; is_begun = is; items = []; goes_on = refl; is_such = such }
 
-pub one-came : {D L : Type 0} (dial : D → ℕ) (link : links.Ghosts L) (asked : Asked) (old opened new : ChannelOf D L) (begun : Result (Unit {0}) TransferFault) (came : Came) (IsSuch : Result (Unit {0}) TransferFault → List Came → Type 0)
-    → IsBegun dial link asked old opened begun → GoesOn link opened new came → IsSuch begun (came ∷ []) → HearsItems dial link asked old new IsSuch
-one-came dial link asked old opened new begun came IsSuch is goes such = record { begun = begun; opened = opened; is_begun = is; items = came ∷ []; goes_on = (new, goes, refl); is_such = such }
+pub one-came : {D L : Type 0} (dial : D → ℕ) (rule : D → List ℕ → List ℕ → Type 0) (link : links.Ghosts L) (asked : Asked) (old opened new : ChannelOf D L) (begun : Result (Unit {0}) TransferFault) (came : Came) (IsSuch : Result (Unit {0}) TransferFault → List Came → Type 0)
+    → IsBegun dial rule link asked old opened begun → GoesOn rule link opened new came → IsSuch begun (came ∷ []) → HearsItems dial rule link asked old new IsSuch
+one-came dial rule link asked old opened new begun came IsSuch is goes such = record { begun = begun; opened = opened; is_begun = is; items = came ∷ []; goes_on = (new, goes, refl); is_such = such }
 
-pub all-came : {D L : Type 0} (dial : D → ℕ) (link : links.Ghosts L) (asked : Asked) (old opened new : ChannelOf D L) (begun : Result (Unit {0}) TransferFault) (IsSuch : Result (Unit {0}) TransferFault → List Came → Type 0)
-    → IsBegun dial link asked old opened begun → HearsAll link opened new (λ items. IsSuch begun items) → HearsItems dial link asked old new IsSuch
-all-came dial link asked old opened new begun IsSuch is all = record { begun = begun; opened = opened; is_begun = is; items = all.items; goes_on = all.goes_on; is_such = all.is_such }
+pub all-came : {D L : Type 0} (dial : D → ℕ) (rule : D → List ℕ → List ℕ → Type 0) (link : links.Ghosts L) (asked : Asked) (old opened new : ChannelOf D L) (begun : Result (Unit {0}) TransferFault) (IsSuch : Result (Unit {0}) TransferFault → List Came → Type 0)
+    → IsBegun dial rule link asked old opened begun → HearsAll rule link opened new (λ items. IsSuch begun items) → HearsItems dial rule link asked old new IsSuch
+all-came dial rule link asked old opened new begun IsSuch is all = record { begun = begun; opened = opened; is_begun = is; items = all.items; goes_on = all.goes_on; is_such = all.is_such }
 
 -- ---- item by item
 
-pub goes-snoc : {D L : Type 0} (link : links.Ghosts L) (a b c : ChannelOf D L) (items : List Came) (came : Came) → GoesOnBy link a b items → GoesOn link b c came → GoesOnBy link a c (items ++ came ∷ [])
-goes-snoc link a b c [] came e goes = (c, subst (λ x. GoesOn link x c came) e goes, refl)
-goes-snoc link a b c (item ∷ items) came by goes = (by.0, by.1, goes-snoc link by.0 b c items came by.2 goes)
+pub goes-snoc : {D L : Type 0} (rule : D → List ℕ → List ℕ → Type 0) (link : links.Ghosts L) (a b c : ChannelOf D L) (items : List Came) (came : Came) → GoesOnBy rule link a b items → GoesOn rule link b c came → GoesOnBy rule link a c (items ++ came ∷ [])
+goes-snoc rule link a b c [] came e goes = (c, subst (λ x. GoesOn rule link x c came) e goes, refl)
+goes-snoc rule link a b c (item ∷ items) came by goes = (by.0, by.1, goes-snoc rule link by.0 b c items came by.2 goes)
 
 -- where bytes came the answer is open still
 pub taken-open : (text next : List ℕ) (came : Came) (P : Type 0) → IfOk came (λ item. is_message item ≡ true → P) → taken text came ≡ Ok (Some next) → P
@@ -110,53 +111,53 @@ taken-open text next (Ok StreamItems.LinkEnd) P p e = absurd cc
 taken-open text next (Err fault) P p e = absurd cc
 
 -- the items so far, which gave this text
-pub record IsJoining {D L : Type 0} (link : links.Ghosts L) (old now : ChannelOf D L) (text : List ℕ) : Type 0 where
+pub record IsJoining {D L : Type 0} (rule : D → List ℕ → List ℕ → Type 0) (link : links.Ghosts L) (old now : ChannelOf D L) (text : List ℕ) : Type 0 where
   pub items : List Came
-  pub goes_on : GoesOnBy link old now items
+  pub goes_on : GoesOnBy rule link old now items
   pub so_far : (more : List Came) → joined [] (items ++ more) ≡ joined text more
   pub open_still : is_answering now.transport ≡ true
 
-pub joining-starts : {D L : Type 0} (link : links.Ghosts L) (channel : ChannelOf D L) → is_answering channel.transport ≡ true → IsJoining link channel channel []
-joining-starts link channel still = record { items = []; goes_on = refl; so_far = λ more. refl; open_still = still }
+pub joining-starts : {D L : Type 0} (rule : D → List ℕ → List ℕ → Type 0) (link : links.Ghosts L) (channel : ChannelOf D L) → is_answering channel.transport ≡ true → IsJoining rule link channel channel []
+joining-starts rule link channel still = record { items = []; goes_on = refl; so_far = λ more. refl; open_still = still }
 
 one-joined : (text next : List ℕ) (came : Came) (more : List Came) → taken text came ≡ Ok (Some next) → joined text (came ∷ more) ≡ joined next more
 one-joined text next came more e = rw e refl
 
-with-one : {D L : Type 0} (link : links.Ghosts L) (old now : ChannelOf D L) (text : List ℕ) (j : IsJoining link old now text) (came : Came) (more : List Came) → joined [] ((j.items ++ came ∷ []) ++ more) ≡ joined text (came ∷ more)
-with-one link old now text j came more = ap (λ (all : List Came). joined [] all) (append_assoc j.items (came ∷ []) more) ∙ j.so_far (came ∷ more)
+with-one : {D L : Type 0} (rule : D → List ℕ → List ℕ → Type 0) (link : links.Ghosts L) (old now : ChannelOf D L) (text : List ℕ) (j : IsJoining rule link old now text) (came : Came) (more : List Came) → joined [] ((j.items ++ came ∷ []) ++ more) ≡ joined text (came ∷ more)
+with-one rule link old now text j came more = ap (λ (all : List Came). joined [] all) (append_assoc j.items (came ∷ []) more) ∙ j.so_far (came ∷ more)
 
-pub joining-on : {D L : Type 0} (link : links.Ghosts L) (old mid new : ChannelOf D L) (text next : List ℕ) (came : Came)
-    → IsJoining link old mid text → GoesOn link mid new came → taken text came ≡ Ok (Some next) → is_answering new.transport ≡ true → IsJoining link old new next
-joining-on link old mid new text next came j goes e still = record {
+pub joining-on : {D L : Type 0} (rule : D → List ℕ → List ℕ → Type 0) (link : links.Ghosts L) (old mid new : ChannelOf D L) (text next : List ℕ) (came : Came)
+    → IsJoining rule link old mid text → GoesOn rule link mid new came → taken text came ≡ Ok (Some next) → is_answering new.transport ≡ true → IsJoining rule link old new next
+joining-on rule link old mid new text next came j goes e still = record {
   items = j.items ++ came ∷ [];
-  goes_on = goes-snoc link old mid new j.items came j.goes_on goes;
-  so_far = λ more. with-one link old mid text j came more ∙ one-joined text next came more e;
+  goes_on = goes-snoc rule link old mid new j.items came j.goes_on goes;
+  so_far = λ more. with-one rule link old mid text j came more ∙ one-joined text next came more e;
   open_still = still;
 }
 
-last-joined : {D L : Type 0} (link : links.Ghosts L) (old now : ChannelOf D L) (text : List ℕ) (j : IsJoining link old now text) (came : Came) → joined [] (j.items ++ came ∷ []) ≡ joined text (came ∷ [])
-last-joined link old now text j came = j.so_far (came ∷ [])
+last-joined : {D L : Type 0} (rule : D → List ℕ → List ℕ → Type 0) (link : links.Ghosts L) (old now : ChannelOf D L) (text : List ℕ) (j : IsJoining rule link old now text) (came : Came) → joined [] (j.items ++ came ∷ []) ≡ joined text (came ∷ [])
+last-joined rule link old now text j came = j.so_far (came ∷ [])
 
-pub joining-whole : {D L : Type 0} (link : links.Ghosts L) (old mid new : ChannelOf D L) (text : List ℕ) (came : Came)
-    → IsJoining link old mid text → GoesOn link mid new came → taken text came ≡ Ok None → HearsAll link old new (λ items. Gives Faults.NoMemory (λ (x : List ℕ). x) (Ok text) (joined [] items))
-joining-whole link old mid new text came j goes e = record {
+pub joining-whole : {D L : Type 0} (rule : D → List ℕ → List ℕ → Type 0) (link : links.Ghosts L) (old mid new : ChannelOf D L) (text : List ℕ) (came : Came)
+    → IsJoining rule link old mid text → GoesOn rule link mid new came → taken text came ≡ Ok None → HearsAll rule link old new (λ items. Gives Faults.NoMemory (λ (x : List ℕ). x) (Ok text) (joined [] items))
+joining-whole rule link old mid new text came j goes e = record {
   items = j.items ++ came ∷ [];
-  goes_on = goes-snoc link old mid new j.items came j.goes_on goes;
-  is_such = last-joined link old mid text j came ∙ (rw e refl);
+  goes_on = goes-snoc rule link old mid new j.items came j.goes_on goes;
+  is_such = last-joined rule link old mid text j came ∙ (rw e refl);
 }
 
-pub joining-fails : {D L : Type 0} (link : links.Ghosts L) (old mid new : ChannelOf D L) (text : List ℕ) (came : Came) (fault : CallFault)
-    → IsJoining link old mid text → GoesOn link mid new came → (fault ≢ Faults.NoMemory → taken text came ≡ Err fault)
-    → HearsAll link old new (λ items. Gives Faults.NoMemory (λ (x : List ℕ). x) (Err fault) (joined [] items))
-joining-fails link old mid new text came fault j goes e = record {
+pub joining-fails : {D L : Type 0} (rule : D → List ℕ → List ℕ → Type 0) (link : links.Ghosts L) (old mid new : ChannelOf D L) (text : List ℕ) (came : Came) (fault : CallFault)
+    → IsJoining rule link old mid text → GoesOn rule link mid new came → (fault ≢ Faults.NoMemory → taken text came ≡ Err fault)
+    → HearsAll rule link old new (λ items. Gives Faults.NoMemory (λ (x : List ℕ). x) (Err fault) (joined [] items))
+joining-fails rule link old mid new text came fault j goes e = record {
   items = j.items ++ came ∷ [];
-  goes_on = goes-snoc link old mid new j.items came j.goes_on goes;
-  is_such = λ other. last-joined link old mid text j came ∙ (rw (e other) refl);
+  goes_on = goes-snoc rule link old mid new j.items came j.goes_on goes;
+  is_such = λ other. last-joined rule link old mid text j came ∙ (rw (e other) refl);
 }
 
-pub joining-spent : {D L : Type 0} (link : links.Ghosts L) (old now : ChannelOf D L) (text : List ℕ)
-    → IsJoining link old now text → HearsAll link old now (λ items. Gives Faults.NoMemory (λ (x : List ℕ). x) (Err Faults.NoMemory) (joined [] items))
-joining-spent link old now text j = record { items = j.items; goes_on = j.goes_on; is_such = λ other. absurd (other refl) }
+pub joining-spent : {D L : Type 0} (rule : D → List ℕ → List ℕ → Type 0) (link : links.Ghosts L) (old now : ChannelOf D L) (text : List ℕ)
+    → IsJoining rule link old now text → HearsAll rule link old now (λ items. Gives Faults.NoMemory (λ (x : List ℕ). x) (Err Faults.NoMemory) (joined [] items))
+joining-spent rule link old now text j = record { items = j.items; goes_on = j.goes_on; is_such = λ other. absurd (other refl) }
 
 -- ---- no blob is refused by name
 
@@ -191,16 +192,16 @@ joined-of-refused asked (Err NoMemory) items = tt
 
 -- ---- the first message is kept
 
-pub kept-message : {D L : Type 0} (dial : D → ℕ) (link : links.Ghosts L) (asked : Asked) (old new : ChannelOf D L) (message : List ℕ) (result : Result (List ℕ) CallFault)
-    → result ≡ Ok message → HearsItems dial link asked old new (λ begun items. Gives Faults.NoMemory (λ (x : List ℕ). x) result (first_of begun items))
-    → HearsItems dial link asked old new (λ begun items. Gives Faults.NoMemory (λ (x : Unit {0}). Some message) (Ok tt) (kept_of begun items))
-kept-message dial link asked old new message result e h =
+pub kept-message : {D L : Type 0} (dial : D → ℕ) (rule : D → List ℕ → List ℕ → Type 0) (link : links.Ghosts L) (asked : Asked) (old new : ChannelOf D L) (message : List ℕ) (result : Result (List ℕ) CallFault)
+    → result ≡ Ok message → HearsItems dial rule link asked old new (λ begun items. Gives Faults.NoMemory (λ (x : List ℕ). x) result (first_of begun items))
+    → HearsItems dial rule link asked old new (λ begun items. Gives Faults.NoMemory (λ (x : Unit {0}). Some message) (Ok tt) (kept_of begun items))
+kept-message dial rule link asked old new message result e h =
     let first : first_of h.begun h.items ≡ Ok message = rw e at h.is_such in
     record { begun = h.begun; opened = h.opened; is_begun = h.is_begun; items = h.items; goes_on = h.goes_on; is_such = rw first refl }
 
-pub kept-none : {D L : Type 0} (dial : D → ℕ) (link : links.Ghosts L) (asked : Asked) (old new : ChannelOf D L) (first : Option (List ℕ)) (fault : CallFault) (result : Result (List ℕ) CallFault)
-    → result ≡ Err fault → HearsItems dial link asked old new (λ begun items. Gives Faults.NoMemory (λ (x : List ℕ). x) result (first_of begun items))
-    → HearsItems dial link asked old new (λ begun items. Gives Faults.NoMemory (λ (x : Unit {0}). first) (Err fault) (kept_of begun items))
-kept-none dial link asked old new first fault result e h =
+pub kept-none : {D L : Type 0} (dial : D → ℕ) (rule : D → List ℕ → List ℕ → Type 0) (link : links.Ghosts L) (asked : Asked) (old new : ChannelOf D L) (first : Option (List ℕ)) (fault : CallFault) (result : Result (List ℕ) CallFault)
+    → result ≡ Err fault → HearsItems dial rule link asked old new (λ begun items. Gives Faults.NoMemory (λ (x : List ℕ). x) result (first_of begun items))
+    → HearsItems dial rule link asked old new (λ begun items. Gives Faults.NoMemory (λ (x : Unit {0}). first) (Err fault) (kept_of begun items))
+kept-none dial rule link asked old new first fault result e h =
     let such = rw e at h.is_such in
     record { begun = h.begun; opened = h.opened; is_begun = h.is_begun; items = h.items; goes_on = h.goes_on; is_such = λ other. rw (such other) refl }

@@ -2,6 +2,7 @@
 use Rattle.std.proofs.Common.{◌≡◌, ℕ, ◌+◌, ◌/◌, ◌%◌, ◌<◌, ◌≤◌, zero, suc, Bool, true, false, not, ◌&&◌, ◌||◌, List, [], ◌∷◌, length, take, drop, filter, refl, ap, ◌∙◌, nat_eq, nat_lt, arith, Option, None, Some}
 use Rattle.std.specs.List.{list_any}
 use Rattle.std.proofs.lemmas.Bool.{eqb-true, ltb-true, ltb-false}
+use Rattle.std.proofs.Math.Bool.{and-false}
 use Rattle.std.proofs.lemmas.List.Elements.{filter-append}
 use Rattle.rx_h2frame.specs.declared.kind.Kind.{Kind}
 use Rattle.rx_h2frame.specs.declared.kind.Kind.TheVariants.{Data, Headers, Continuation}
@@ -25,10 +26,6 @@ use Rattle.rx_h2conn.proofs.SoundLemmas.{open_at}
 use Rattle.rx_grpc.specs.Sent.{can_end, ends_stream}
 use Rattle.rx_grpc.proofs.QuietLemmas.{ends_of_streams}
 
-pub and_none : (b : Bool) → (b && false) ≡ false
-and_none true = refl
-and_none false = refl
-
 -- a test of frames that open or fill one stream
 pub record IsOfOne (p : Out → Bool) (id : ℕ) : Type 0 where
   pub streams : IsOfStreams p
@@ -39,14 +36,14 @@ pub bytes_of_one : (id : ℕ) → IsOfOne (is_byte_of id) id
 bytes_of_one id = record {
   streams = bytes_of_streams id;
   reset = λ i code. refl;
-  other = λ k i ne. λ flags body. rw ne (and_none _);
+  other = λ k i ne. λ flags body. rw ne (and-false _);
 }
 
 pub ends_of_one : (id : ℕ) → IsOfOne (ends_stream id) id
 ends_of_one id = record {
   streams = ends_of_streams id;
   reset = λ i code. refl;
-  other = λ k i ne. λ flags body. rw ne (and_none _);
+  other = λ k i ne. λ flags body. rw ne (and-false _);
 }
 
 pub none_by : (p : Out → Bool) (o : Option ConnFault) (os : List Out) → (o ≡ None → filter p os ≡ []) → filter p (outs_unless o os) ≡ []
@@ -92,7 +89,7 @@ unopened_run p (c ∷ cs) r id h held none below =
 
 -- frames without the flag end no stream
 pub unended_one : (id stream flags : ℕ) (k : Kind) (body : List ℕ) → is_set flags 1 ≡ false → ends_stream id (record { kind = k; flags = flags; stream = stream; body = body }) ≡ false
-unended_one id stream flags k body unset = rw unset (ap (λ (b : Bool). can_end k && b) (and_none (nat_eq stream id)) ∙ and_none (can_end k))
+unended_one id stream flags k body unset = rw unset (ap (λ (b : Bool). can_end k && b) (and-false (nat_eq stream id)) ∙ and-false (can_end k))
 
 pub unended_frames : (id : ℕ) (most : ℕ) (first later : Kind) (flags ending stream : ℕ) (bytes : List ℕ) → is_set flags 1 ≡ false → is_set (flags + ending) 1 ≡ false → is_set (0 + ending) 1 ≡ false → list_any (ends_stream id) (frames_of most first later flags ending stream bytes) ≡ false
 unfolding frames_of

@@ -3,7 +3,7 @@ use Rattle.std.specs.Prelude.{ℕ, Bool, false, List, [], Option, None, IfErr, I
 use Rattle.rx_world.specs.declared.links.Link as links
 use Rattle.rx_grpc.specs.declared.caller.Begun.{Begun}
 use Rattle.rx_grpc.specs.Answer.{unary}
-use Rattle.rx_grpc.specs.Channel.{Answers, ChannelOf, Fails, HasCauseOn, Stops, stream_for}
+use Rattle.rx_grpc.specs.Channel.{Answers, ChannelOf, Fails, HasCauseOn, IsRuled, Keeps, Stops, stream_for}
 use Rattle.rx_grpc.specs.Questions.{Asked}
 use Rattle.rx_grpc.specs.Request.{request_fields}
 use Rattle.rx_grpc.specs.Sent.{AnsweredOn}
@@ -22,11 +22,13 @@ abbrev pub hung_up : {D L : Type 0} → CallerOf D L → CallerOf D L
 hung_up c = record c { channel = record c.channel { transport = None }; first = None; streaming = false }
 
 -- This was asked. The channel answered so, as the bytes of its link show, and the result is such.
-pub record Hears {D L : Type 0} (dial_faults : D → ℕ) (link : links.Ghosts L) (asked : Asked) (old new : ChannelOf D L) (IsSuch : Heard → Type 0) : Type 0 where
+pub record Hears {D L : Type 0} (dial_faults : D → ℕ) (dial_rule : D → List ℕ → List ℕ → Type 0) (link : links.Ghosts L) (asked : Asked) (old new : ChannelOf D L) (IsSuch : Heard → Type 0) : Type 0 where
   pub heard : Heard
   pub shown : IfOk heard (Answers link.wire link.rule link.ended old.transport new.transport)
   pub asks : IfOk heard (AnsweredOn unary link.wire link.rule link.ended new.transport (stream_for old.transport) (request_fields asked.path old.authority) asked.messages [])
   pub fails : IfErr heard (Fails link.wire link.rule old.transport new.transport)
   pub stops : IfErr heard (Stops new.transport)
   pub cause : HasCauseOn (dial_faults old.dial) (dial_faults new.dial) link.faults old.transport new.transport heard
+  pub keeps : Keeps dial_rule old new
+  pub ruled : IfOk heard (λ answer. IsRuled (dial_rule new.dial) link.rule new.transport)
   pub is_such : IsSuch heard

@@ -87,6 +87,11 @@ abbrev pub IsRuled : {L : Type 0} → (List ℕ → List ℕ → Type 0) → (L 
 IsRuled dial rule None = Unit {0}
 IsRuled dial rule (Some t) = SameRule dial (rule t.link)
 
+-- the rule of the dial and the name of the farm stay
+pub record Keeps {D L : Type 0} (dial_rule : D → List ℕ → List ℕ → Type 0) (old new : ChannelOf D L) : Type 0 where
+  pub same_rule : SameRule (dial_rule old.dial) (dial_rule new.dial)
+  pub authority : new.authority ≡ old.authority
+
 -- after a fault other than want of memory no call is made on that link
 abbrev pub Stops : {L : Type 0} → Option (TransportOf L) → TransferFault → Type 0
 Stops new Link = is_kept new ≡ false

@@ -1,5 +1,5 @@
 -- What a farm's client asks: the method, and the messages that are sent to it (remote_execution.proto, bytestream.proto).
-use Rattle.std.specs.Prelude.{ℕ, pos, Bool, true, List, [], ◌∷◌, length, map, Some}
+use Rattle.std.specs.Prelude.{◌≡◌, ℕ, pos, Bool, true, List, [], ◌∷◌, length, map, Some}
 use Rattle.rx_base.specs.declared.digests.Digest.{Digest}
 use Rattle.rx_codec.specs.FieldBytes.{fields_bytes}
 use Rattle.rx_messages.specs.Batches.{batch_read_blobs_request_fields, batch_update_blobs_request_fields}
@@ -17,6 +17,8 @@ use Rattle.rx_exec_messages.specs.declared.executions.ExecuteRequest.{ExecuteReq
 use Rattle.rx_exec_messages.specs.declared.executions.GetActionResultRequest.{GetActionResultRequest}
 use Rattle.rx_exec_messages.specs.declared.executions.WaitExecutionRequest.{WaitExecutionRequest}
 use Rattle.rx_exec_messages.specs.declared.streams.ReadRequest.{ReadRequest}
+use Rattle.rx_grpc.specs.declared.caller.Begun.{Begun}
+use Rattle.rx_grpc.specs.declared.caller.Begun.TheVariants.{Executed, Waited}
 use Rattle.rx_grpc.specs.declared.method.Method.{Method}
 use Rattle.rx_grpc.specs.declared.method.Method.TheVariants as Methods
 use Rattle.rx_grpc.specs.Methods.{path_of}
@@ -89,3 +91,8 @@ asks_blob instance digest = one Methods.ReadStream (fields_bytes (read_request_f
 -- a blob is written piece by piece, under this name
 abbrev pub asks_write : List ℕ → List ℕ → Asked
 asks_write name bytes = record { path = path_of Methods.WriteStream; messages = map (piece_message name bytes) (offsets_of (length bytes)) }
+
+-- what was begun was asked: the execution of an action, or the states of the execution of a name
+abbrev pub AsksBegun : List ℕ → Begun → Asked → Type 0
+AsksBegun instance (Executed action) asked = (skip_cache : Bool) × (asked ≡ asks_execute instance action skip_cache)
+AsksBegun instance (Waited name) asked = asked ≡ asks_wait name

@@ -13,7 +13,7 @@ use Rattle.rx_world.specs.declared.links.Link as links
 use Rattle.rx_grpc.specs.declared.stream_item.StreamItem.{StreamItem}
 use Rattle.rx_grpc.specs.declared.stream_item.StreamItem.TheVariants as StreamItems
 use Rattle.rx_grpc.specs.declared.transfer_fault.TransferFault.{TransferFault}
-use Rattle.rx_grpc.specs.Channel.{ChannelOf, HasCauseOn, Stops, stream_for}
+use Rattle.rx_grpc.specs.Channel.{ChannelOf, HasCauseOn, IsRuled, Keeps, Stops, stream_for}
 use Rattle.rx_grpc.specs.Operations.{operation_by}
 use Rattle.rx_grpc.specs.Questions.{Asked}
 use Rattle.rx_grpc.specs.Replies.{failed, read}
@@ -25,41 +25,48 @@ use Rattle.rx_grpc.specs.Streamed.{Begins, NextCause, NextFailsOn, NextsOn}
 abbrev pub Came : Type 0
 Came = Result StreamItem TransferFault
 
+abbrev pub came_of : List ℕ → Came
+came_of message = Ok (StreamItems.Message message)
+
 -- ---- what the channel did
 
 -- The answer that is open went on so, as the bytes of its link show.
-pub record GoesOn {D L : Type 0} (link : links.Ghosts L) (old new : ChannelOf D L) (came : Came) : Type 0 where
+pub record GoesOn {D L : Type 0} (dial_rule : D → List ℕ → List ℕ → Type 0) (link : links.Ghosts L) (old new : ChannelOf D L) (came : Came) : Type 0 where
   pub shown : IfOk came (NextsOn link.wire link.rule link.ended old.transport new.transport)
   pub asks : IfOk came (NextAsksOn link.wire link.rule link.ended old.transport new.transport)
   pub fails : IfErr came (NextFailsOn link.wire link.rule old.transport new.transport)
   pub stops : IfErr came (Stops new.transport)
   pub cause : NextCause link.faults old.transport new.transport came
+  pub keeps : Keeps dial_rule old new
+  pub ruled : IsRuled (dial_rule new.dial) link.rule new.transport
 
 -- several times
-abbrev pub GoesOnBy : {D L : Type 0} → links.Ghosts L → ChannelOf D L → ChannelOf D L → List Came → Type 0
-GoesOnBy link old new [] = new ≡ old
-GoesOnBy {D} {L} link old new (came ∷ more) = (mid : ChannelOf D L) × GoesOn link old mid came × GoesOnBy link mid new more
+abbrev pub GoesOnBy : {D L : Type 0} → (D → List ℕ → List ℕ → Type 0) → links.Ghosts L → ChannelOf D L → ChannelOf D L → List Came → Type 0
+GoesOnBy dial_rule link old new [] = new ≡ old
+GoesOnBy {D} {L} dial_rule link old new (came ∷ more) = (mid : ChannelOf D L) × GoesOn dial_rule link old mid came × GoesOnBy dial_rule link mid new more
 
 -- A call with a streamed answer was begun, which asks this.
-pub record IsBegun {D L : Type 0} (dial_faults : D → ℕ) (link : links.Ghosts L) (asked : Asked) (old new : ChannelOf D L) (begun : Result (Unit {0}) TransferFault) : Type 0 where
+pub record IsBegun {D L : Type 0} (dial_faults : D → ℕ) (dial_rule : D → List ℕ → List ℕ → Type 0) (link : links.Ghosts L) (asked : Asked) (old new : ChannelOf D L) (begun : Result (Unit {0}) TransferFault) : Type 0 where
   pub begins : OnOk begun (Begins link.wire old.transport new.transport)
   pub asks : OnOk begun (AsksOn link.wire link.rule new.transport (stream_for old.transport) (request_fields asked.path old.authority) asked.messages [])
   pub stops : IfErr begun (Stops new.transport)
   pub cause : HasCauseOn (dial_faults old.dial) (dial_faults new.dial) link.faults old.transport new.transport begun
+  pub keeps : Keeps dial_rule old new
+  pub ruled : OnOk begun (IsRuled (dial_rule new.dial) link.rule new.transport)
 
 -- A call was begun, its answer went on so, and the result is such; where it couldn't be begun nothing came.
-pub record HearsItems {D L : Type 0} (dial_faults : D → ℕ) (link : links.Ghosts L) (asked : Asked) (old new : ChannelOf D L) (IsSuch : Result (Unit {0}) TransferFault → List Came → Type 0) : Type 0 where
+pub record HearsItems {D L : Type 0} (dial_faults : D → ℕ) (dial_rule : D → List ℕ → List ℕ → Type 0) (link : links.Ghosts L) (asked : Asked) (old new : ChannelOf D L) (IsSuch : Result (Unit {0}) TransferFault → List Came → Type 0) : Type 0 where
   pub begun : Result (Unit {0}) TransferFault
   pub opened : ChannelOf D L
-  pub is_begun : IsBegun dial_faults link asked old opened begun
+  pub is_begun : IsBegun dial_faults dial_rule link asked old opened begun
   pub items : List Came
-  pub goes_on : GoesOnBy link opened new items
+  pub goes_on : GoesOnBy dial_rule link opened new items
   pub is_such : IsSuch begun items
 
 -- the answer that is open went on so, and the result is such
-pub record HearsAll {D L : Type 0} (link : links.Ghosts L) (old new : ChannelOf D L) (IsSuch : List Came → Type 0) : Type 0 where
+pub record HearsAll {D L : Type 0} (dial_rule : D → List ℕ → List ℕ → Type 0) (link : links.Ghosts L) (old new : ChannelOf D L) (IsSuch : List Came → Type 0) : Type 0 where
   pub items : List Came
-  pub goes_on : GoesOnBy link old new items
+  pub goes_on : GoesOnBy dial_rule link old new items
   pub is_such : IsSuch items
 
 -- ---- an execution
@@ -82,18 +89,18 @@ first_of (Ok x) [] = Err Faults.NoMemory
 first_of (Ok x) (came ∷ items) = message_of came
 
 -- the next message of an answer that is open
-pub record HearsMessage {D L : Type 0} (link : links.Ghosts L) (old new : ChannelOf D L) (IsSuch : Came → Type 0) : Type 0 where
+pub record HearsMessage {D L : Type 0} (dial_rule : D → List ℕ → List ℕ → Type 0) (link : links.Ghosts L) (old new : ChannelOf D L) (IsSuch : Came → Type 0) : Type 0 where
   pub came : Came
-  pub goes_on : GoesOn link old new came
+  pub goes_on : GoesOn dial_rule link old new came
   pub is_such : IsSuch came
 
 abbrev pub kept_of : Result (Unit {0}) TransferFault → List Came → Result (Option (List ℕ)) CallFault
 kept_of begun items = first_of begun items >>= (λ message. Ok (Some message))
 
 -- The next state is told by the message that was kept, or by the next one.
-abbrev pub HearsState : {D L : Type 0} → links.Ghosts L → Option (List ℕ) → ChannelOf D L → ChannelOf D L → (Result (List ℕ) CallFault → Type 0) → Type 0
-HearsState link (Some message) old new IsSuch = (new ≡ old) × IsSuch (Ok message)
-HearsState link None old new IsSuch = HearsMessage link old new (λ came. IsSuch (message_of came))
+abbrev pub HearsState : {D L : Type 0} → (D → List ℕ → List ℕ → Type 0) → links.Ghosts L → Option (List ℕ) → ChannelOf D L → ChannelOf D L → (Result (List ℕ) CallFault → Type 0) → Type 0
+HearsState dial_rule link (Some message) old new IsSuch = (new ≡ old) × IsSuch (Ok message)
+HearsState dial_rule link None old new IsSuch = HearsMessage dial_rule link old new (λ came. IsSuch (message_of came))
 
 abbrev pub state_of : Result (List ℕ) CallFault → Result Operation CallFault
 state_of message = message >>= operation_by

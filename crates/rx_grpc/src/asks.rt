@@ -41,7 +41,7 @@ fn ask<D: Dial + Drop, Q: Message, A: Message>(
     method: Method,
     question: &Q,
 ) -> Result<A, CallFault>
-    ensures { Hears D.faults D.L.Link (one method (fields_bytes (Q.fields question.now)))
+    ensures { Hears D.faults D.rule D.L.Link (one method (fields_bytes (Q.fields question.now)))
         channel.old channel.new (λ heard.
         Gives starved (λ x. x) result (reply (decoded A.parts A.from A.is_canonical) heard)) }
 {
@@ -105,7 +105,7 @@ pub fn ask_capabilities<D: Dial + Drop>(
     channel: &mut Channel<D>,
     instance: &Text,
 ) -> Result<Capabilities, CallFault>
-    ensures { Hears D.faults D.L.Link (asks_capabilities instance.now)
+    ensures { Hears D.faults D.rule D.L.Link (asks_capabilities instance.now)
         channel.old channel.new (λ heard.
         Gives starved (λ x. x) result (capabilities_by heard)) }
 {
@@ -140,7 +140,7 @@ pub fn ask_result<D: Dial + Drop>(
     instance: &Text,
     action: &Digest,
 ) -> Result<Option<ActionResult>, CallFault>
-    ensures { Hears D.faults D.L.Link (asks_result instance.now action.now)
+    ensures { Hears D.faults D.rule D.L.Link (asks_result instance.now action.now)
         channel.old channel.new (λ heard.
         Gives starved (λ x. x) result (found_by heard)) }
 {
@@ -178,7 +178,7 @@ pub fn ask_missing<D: Dial + Drop>(
     instance: &Text,
     digests: &[Digest],
 ) -> Result<Items<Digest>, CallFault>
-    ensures { Hears D.faults D.L.Link (asks_missing instance.now digests.now)
+    ensures { Hears D.faults D.rule D.L.Link (asks_missing instance.now digests.now)
         channel.old channel.new (λ heard.
         Gives starved (λ x. x) result (missing_by digests.now heard)) }
 {
@@ -236,7 +236,7 @@ pub fn ask_update<D: Dial + Drop>(
     instance: &Text,
     blobs: &[NamedBlob],
 ) -> Result<(), CallFault>
-    ensures { Hears D.faults D.L.Link (asks_update instance.now blobs.now)
+    ensures { Hears D.faults D.rule D.L.Link (asks_update instance.now blobs.now)
         channel.old channel.new (λ heard.
         Gives starved (λ x. x) result (updated_by (digests_of blobs.now) heard)) }
 {
@@ -273,7 +273,7 @@ pub fn ask_read<D: Dial + Drop>(
     instance: &Text,
     digests: &[Digest],
 ) -> Result<Items<Bytes>, CallFault>
-    ensures { Hears D.faults D.L.Link (asks_read instance.now digests.now)
+    ensures { Hears D.faults D.rule D.L.Link (asks_read instance.now digests.now)
         channel.old channel.new (λ heard.
         Gives starved (λ x. x) result (read_by digests.now heard)) }
 {

@@ -61,7 +61,7 @@ fn join<D: Dial + Drop>(
     size: usize,
 ) -> Result<Bytes, CallFault>
     requires { is_answering channel.old.transport ≡ true }
-    ensures { HearsAll D.L.Link channel.old channel.new (λ items.
+    ensures { HearsAll D.rule D.L.Link channel.old channel.new (λ items.
         Gives starved (λ x. x) result (joined [] items)) }
 {
     let Ok(mut text) = Vec::with_capacity(alloc, size) else {
@@ -99,7 +99,7 @@ pub fn read_blob<D: Dial + Drop>(
     instance: &Text,
     digest: &Digest,
 ) -> Result<Bytes, CallFault>
-    ensures { HearsItems D.faults D.L.Link (asks_blob instance.now digest.now) channel.old
+    ensures { HearsItems D.faults D.rule D.L.Link (asks_blob instance.now digest.now) channel.old
         channel.new (λ begun items.
         Gives starved (λ x. x) result (joined_of begun items)) }
 {

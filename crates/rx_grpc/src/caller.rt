@@ -48,6 +48,7 @@ impl<D: Dial + Drop> Model for GrpcCaller<D> {
     ghost Value = { CallerOf D D.L };
 
     ghost use Rattle.std.specs.Prelude.{◌≡◌, true};
+    ghost use Rattle.rx_grpc.specs.Running.{IsRunning};
     ghost use Rattle.rx_grpc.specs.Streamed.{is_answering};
 
     ghost view = { λ c. record {
@@ -59,7 +60,8 @@ impl<D: Dial + Drop> Model for GrpcCaller<D> {
       faults = c.faults;
     } };
 
-    ghost invariant = { λ c. c.streaming ≡ true → is_answering c.channel.transport ≡ true };
+    ghost invariant = { λ c. c.streaming ≡ true → (is_answering c.channel.transport ≡ true)
+        × IsRunning D.rule D.L.Link c.channel c.instance c.begun c.first };
 }
 
 impl<D: Dial + Drop> GrpcCaller<D> {

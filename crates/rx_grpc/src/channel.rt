@@ -5,7 +5,7 @@ ghost use Rattle.std.specs.List.{All};
 ghost use Rattle.rx_hpack.specs.Encoder.{IsWritable};
 ghost use Rattle.rx_hpack.specs.Header.{views};
 ghost use Rattle.rx_grpc.specs.Answer.{unary};
-ghost use Rattle.rx_grpc.specs.Channel.{Answers, Fails, HasCauseOn, IsLinkOf, IsRuled, OpensOn, Stops, is_kept, stream_for};
+ghost use Rattle.rx_grpc.specs.Channel.{Answers, Fails, HasCauseOn, IsLinkOf, IsRuled, Keeps, OpensOn, Stops, is_kept, stream_for};
 ghost use Rattle.rx_grpc.specs.Faults.{IsOther};
 ghost use Rattle.rx_grpc.specs.Request.{request_fields};
 ghost use Rattle.rx_grpc.specs.Sent.{AnsweredOn, AskedOn, AsksOn, NextAsksOn, SendsOn};
@@ -119,6 +119,7 @@ impl<D: Dial + Drop> Channel<D> {
             self.new.transport) }
         ensures stops { IfErr result (Stops self.new.transport) }
         ensures ruled { IsRuled (D.rule self.new.dial) D.L.rule self.new.transport }
+        ensures keeps { Keeps D.rule self.old self.new }
         ensures cause { HasCauseOn (D.faults self.old.dial) (D.faults self.new.dial) D.L.faults
             self.old.transport self.new.transport result }
         ensures asks { IfOk result (AnsweredOn unary D.L.wire D.L.rule D.L.ended
@@ -148,6 +149,7 @@ impl<D: Dial + Drop> Channel<D> {
             self.new.transport) }
         ensures stops { IfErr result (Stops self.new.transport) }
         ensures ruled { IsRuled (D.rule self.new.dial) D.L.rule self.new.transport }
+        ensures keeps { Keeps D.rule self.old self.new }
         ensures cause { HasCauseOn (D.faults self.old.dial) (D.faults self.new.dial) D.L.faults
             self.old.transport self.new.transport result }
         ensures asks { IfOk result (AnsweredOn unary D.L.wire D.L.rule D.L.ended
@@ -180,6 +182,7 @@ impl<D: Dial + Drop> Channel<D> {
         ensures other { IfErr result IsOther }
         ensures stops { IfErr result (Stops self.new.transport) }
         ensures ruled { IsRuled (D.rule self.new.dial) D.L.rule self.new.transport }
+        ensures keeps { Keeps D.rule self.old self.new }
         ensures cause { HasCauseOn (D.faults self.old.dial) (D.faults self.new.dial) D.L.faults
             self.old.transport self.new.transport result }
     {
@@ -209,6 +212,7 @@ impl<D: Dial + Drop> Channel<D> {
         ensures closed { OnErr result (is_answering self.new.transport ≡ false) }
         ensures dial { self.new.dial ≡ self.old.dial }
         ensures ruled { IsRuled (D.rule self.new.dial) D.L.rule self.new.transport }
+        ensures keeps { Keeps D.rule self.old self.new }
         ensures cause { NextCause D.L.faults self.old.transport self.new.transport result }
     {
         let Some(transport) = &mut self.transport else {
@@ -229,6 +233,7 @@ impl<D: Dial + Drop> Channel<D> {
             self.new.transport) }
         ensures stops { IfErr result (Stops self.new.transport) }
         ensures ruled { IsRuled (D.rule self.new.dial) D.L.rule self.new.transport }
+        ensures keeps { Keeps D.rule self.old self.new }
         ensures cause { HasCauseOn (D.faults self.old.dial) (D.faults self.new.dial) D.L.faults
             self.old.transport self.new.transport result }
     {
@@ -251,6 +256,7 @@ impl<D: Dial + Drop> Channel<D> {
         ensures memory { IfErr result (λ fault. fault ≡ starved) }
         ensures dial { self.new.dial ≡ self.old.dial }
         ensures ruled { IsRuled (D.rule self.new.dial) D.L.rule self.new.transport }
+        ensures keeps { Keeps D.rule self.old self.new }
     {
         match &mut self.transport {
             None => Ok(None),
@@ -270,6 +276,7 @@ impl<D: Dial + Drop> Channel<D> {
         ensures fails { IfErr result (Fails D.L.wire D.L.rule None self.new.transport) }
         ensures stops { IfErr result (Stops self.new.transport) }
         ensures ruled { IsRuled (D.rule self.new.dial) D.L.rule self.new.transport }
+        ensures keeps { Keeps D.rule self.old self.new }
         ensures cause { HasCauseOn (D.faults self.old.dial) (D.faults self.new.dial) D.L.faults
             None self.new.transport result }
     {

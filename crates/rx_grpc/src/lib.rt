@@ -14,6 +14,7 @@ mod caller;
 mod came;
 mod channel;
 mod end;
+mod farm_calls;
 mod framing;
 mod head;
 mod headers;

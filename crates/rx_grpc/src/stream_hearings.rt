@@ -1,14 +1,15 @@
 //! The calls of a farm's client that are answered by streams, each with what it heard, as the bytes of its link show it, and what
 //! is made of it. Each fault but want of memory is counted.
 
-ghost use Rattle.std.specs.Prelude.{◌≡◌, ◌∷◌, [], length, true, List, ℕ, None, IfErr, IfOk, OnOk};
+ghost use Rattle.std.specs.Prelude.{◌≡◌, ◌∷◌, [], length, true, List, ℕ, None, IfErr, IfOk, IfSome, OnOk};
 ghost use Rattle.rx_base.specs.Results.{Gives};
 ghost use Rattle.rx_world.specs.declared.call_faults.CallFault.TheVariants.{NoMemory as starved};
 ghost use Rattle.rx_exec_messages.specs.Calls.{HasCallCause, RefusesOneOf};
 ghost use Rattle.rx_grpc.specs.declared.caller.Begun.TheVariants.{Executed as executed, Waited as waited};
 ghost use Rattle.rx_codec.specs.FieldBytes.{fields_bytes};
 ghost use Rattle.rx_grpc.specs.Caller.{Hears};
-ghost use Rattle.rx_grpc.specs.Questions.{asks_blob, asks_execute, asks_wait, asks_write, execute_question, one, wait_question};
+ghost use Rattle.rx_grpc.specs.Honest.{HonestName, HonestResponse, HonestTexts, StaysHonest};
+ghost use Rattle.rx_grpc.specs.Questions.{AsksBegun, asks_blob, asks_execute, asks_wait, asks_write, execute_question, one, wait_question};
 ghost use Rattle.rx_grpc.specs.Resources.{write_name};
 ghost use Rattle.rx_grpc.specs.StreamedCalls.{HearsItems, HearsState, joined_of, kept_of, state_of};
 ghost use Rattle.rx_grpc.specs.Writes.{written_by};
@@ -56,15 +57,24 @@ fn wait_question(alloc: Global, name: &str) -> Result<(WaitExecutionRequest, Tex
 
 impl<D: Dial + Drop> GrpcCaller<D> {
     /// Begins an execution or a wait for one, and keeps the first message that it hears.
-    fn start<Q: Message>(&mut self, method: Method, question: &Q) -> Result<(), CallFault>
-        ensures heard { HearsItems D.faults D.L.Link
+    fn start<Q: Message>(
+        &mut self,
+        begun: Begun,
+        method: Method,
+        question: &Q,
+    ) -> Result<(), CallFault>
+        requires { AsksBegun self.old.instance begun
+            (one method (fields_bytes (Q.fields question.now))) }
+        ensures heard { HearsItems D.faults D.rule D.L.Link
             (one method (fields_bytes (Q.fields question.now))) self.old.channel self.new.channel
             (λ begun items. Gives starved (λ x. self.new.first) result (kept_of begun items)) }
-        ensures begun { self.new.begun ≡ self.old.begun }
+        ensures stays { StaysHonest D.rule self.old self.new }
+        ensures begun { self.new.begun ≡ begun }
         ensures streaming { OnOk result (self.new.streaming ≡ true) }
         ensures faults { self.new.faults ≡ self.old.faults }
     {
         self.streaming = false;
+        self.begun = begun;
         match begin_states(self.alloc, &mut self.channel, method, question) {
             Ok(message) => {
                 self.first = Some(message);
@@ -77,9 +87,10 @@ impl<D: Dial + Drop> GrpcCaller<D> {
 
     /// Begins an execution. `skip_cache` asks the farm not to answer from its action cache.
     pub fn hear_execute(&mut self, action: &Digest, skip_cache: bool) -> Result<(), CallFault>
-        ensures heard { HearsItems D.faults D.L.Link
+        ensures heard { HearsItems D.faults D.rule D.L.Link
             (asks_execute self.old.instance action.now skip_cache) self.old.channel self.new.channel
             (λ begun items. Gives starved (λ x. self.new.first) result (kept_of begun items)) }
+        ensures stays { StaysHonest D.rule self.old self.new }
         ensures begun { OnOk result (self.new.begun ≡ executed action.now) }
         ensures streaming { OnOk result (self.new.streaming ≡ true) }
         ensures cause { HasCallCause self.old.faults self.new.faults result }
@@ -87,16 +98,16 @@ impl<D: Dial + Drop> GrpcCaller<D> {
         let Ok(question) = execute_question(self.alloc, &self.instance, action, skip_cache) else {
             return Err(CallFault::NoMemory);
         };
-        self.begun = Begun::Executed(*action);
-        let answer = self.start(Method::Execute, &question);
+        let answer = self.start(Begun::Executed(*action), Method::Execute, &question);
         self.counted(answer)
     }
 
     /// Waits for the execution of this name.
     pub fn hear_wait(&mut self, name: &str) -> Result<(), CallFault>
-        ensures heard { HearsItems D.faults D.L.Link
+        ensures heard { HearsItems D.faults D.rule D.L.Link
             (asks_wait name.now) self.old.channel self.new.channel
             (λ begun items. Gives starved (λ x. self.new.first) result (kept_of begun items)) }
+        ensures stays { StaysHonest D.rule self.old self.new }
         ensures begun { OnOk result (self.new.begun ≡ waited name.now) }
         ensures streaming { OnOk result (self.new.streaming ≡ true) }
         ensures cause { HasCallCause self.old.faults self.new.faults result }
@@ -104,16 +115,19 @@ impl<D: Dial + Drop> GrpcCaller<D> {
         let Ok((question, kept)) = wait_question(self.alloc, name) else {
             return Err(CallFault::NoMemory);
         };
-        self.begun = Begun::Waited(kept);
-        let answer = self.start(Method::WaitExecution, &question);
+        let answer = self.start(Begun::Waited(kept), Method::WaitExecution, &question);
         self.counted(answer)
     }
 
     /// The next state of the execution that was begun or waited for last.
     pub fn hear_operation(&mut self) -> Result<Operation, CallFault>
         requires { self.old.streaming ≡ true }
-        ensures heard { HearsState D.L.Link self.old.first self.old.channel self.new.channel
+        ensures heard { HearsState D.rule D.L.Link self.old.first self.old.channel self.new.channel
             (λ message. Gives starved (λ x. x) result (state_of message)) }
+        ensures agrees { IfOk result (λ operation.
+            IfSome operation.done (HonestResponse D.rule self.old)) }
+        ensures named { IfOk result (λ operation. HonestName D.rule self.old operation.name) }
+        ensures stays { StaysHonest D.rule self.old self.new }
         ensures begun { self.new.begun ≡ self.old.begun }
         ensures streaming { IfOk result (λ operation.
             operation.done ≡ None → self.new.streaming ≡ true) }
@@ -130,10 +144,13 @@ impl<D: Dial + Drop> GrpcCaller<D> {
 
     /// The bytes of one blob, as a stream.
     pub fn hear_blob(&mut self, digest: &Digest) -> Result<Bytes, CallFault>
-        ensures heard { HearsItems D.faults D.L.Link
+        ensures heard { HearsItems D.faults D.rule D.L.Link
             (asks_blob self.old.instance digest.now) self.old.channel self.new.channel
             (λ begun items. Gives starved (λ x. x) result (joined_of begun items)) }
         ensures refused { IfErr result (RefusesOneOf (digest.now ∷ [])) }
+        ensures honest { IfOk result (λ text.
+            HonestTexts D.rule self.old (digest.now ∷ []) (text ∷ [])) }
+        ensures stays { StaysHonest D.rule self.old self.new }
         ensures begun { self.new.begun ≡ self.old.begun }
         ensures cause { HasCallCause self.old.faults self.new.faults result }
     {
@@ -144,10 +161,11 @@ impl<D: Dial + Drop> GrpcCaller<D> {
 
     /// Stores one blob as a stream.
     pub fn hear_write(&mut self, digest: &Digest, bytes: &[u8]) -> Result<(), CallFault>
-        ensures heard { (upload : List ℕ) × Hears D.faults D.L.Link
+        ensures heard { (upload : List ℕ) × Hears D.faults D.rule D.L.Link
             (asks_write (write_name self.old.instance upload digest.now) bytes.now)
             self.old.channel self.new.channel (λ heard.
             Gives starved (λ x. x) result (written_by (length bytes.now) heard)) }
+        ensures stays { StaysHonest D.rule self.old self.new }
         ensures begun { self.new.begun ≡ self.old.begun }
         ensures cause { HasCallCause self.old.faults self.new.faults result }
     {

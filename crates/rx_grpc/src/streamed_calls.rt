@@ -6,6 +6,7 @@ ghost use Rattle.rx_world.specs.declared.call_faults.CallFault.TheVariants.{NoMe
 ghost use Rattle.rx_codec.specs.FieldBytes.{fields_bytes};
 ghost use Rattle.rx_grpc.specs.Item.{is_message};
 ghost use Rattle.rx_grpc.specs.Questions.{one};
+ghost use Rattle.rx_grpc.specs.Running.{HasBegun};
 ghost use Rattle.rx_grpc.specs.StreamedCalls.{GoesOn, HearsItems, HearsMessage, HearsState, IsBegun, first_of, message_of, state_of};
 ghost use Rattle.rx_grpc.specs.Streamed.{is_answering};
 
@@ -28,8 +29,8 @@ pub fn begin<D: Dial + Drop, Q: Message>(
     method: Method,
     question: &Q,
 ) -> Result<(), TransferFault>
-    ensures begun { IsBegun D.faults D.L.Link (one method (fields_bytes (Q.fields question.now)))
-        channel.old channel.new result }
+    ensures begun { IsBegun D.faults D.rule D.L.Link
+        (one method (fields_bytes (Q.fields question.now))) channel.old channel.new result }
     ensures open { OnOk result (is_answering channel.new.transport ≡ true) }
 {
     let Ok(message) = question.encode(alloc) else {
@@ -44,7 +45,7 @@ pub fn begin<D: Dial + Drop, Q: Message>(
 /// The next item of the answer that is open.
 pub fn next<D: Dial + Drop>(channel: &mut Channel<D>) -> Result<StreamItem, TransferFault>
     requires { is_answering channel.old.transport ≡ true }
-    ensures goes { GoesOn D.L.Link channel.old channel.new result }
+    ensures goes { GoesOn D.rule D.L.Link channel.old channel.new result }
     ensures open { IfOk result (λ item. is_message item ≡ true →
         is_answering channel.new.transport ≡ true) }
 {
@@ -70,7 +71,7 @@ fn message_of(came: Result<StreamItem, TransferFault>) -> Result<Bytes, CallFaul
 /// The next message of the execution whose answer is open.
 fn next_message<D: Dial + Drop>(channel: &mut Channel<D>) -> Result<Bytes, CallFault>
     requires { is_answering channel.old.transport ≡ true }
-    ensures heard { HearsMessage D.L.Link channel.old channel.new (λ came.
+    ensures heard { HearsMessage D.rule D.L.Link channel.old channel.new (λ came.
         result ≡ message_of came) }
     ensures open { OnOk result (is_answering channel.new.transport ≡ true) }
 {
@@ -84,9 +85,11 @@ pub fn begin_states<D: Dial + Drop, Q: Message>(
     method: Method,
     question: &Q,
 ) -> Result<Bytes, CallFault>
-    ensures heard { HearsItems D.faults D.L.Link
+    ensures heard { HearsItems D.faults D.rule D.L.Link
         (one method (fields_bytes (Q.fields question.now))) channel.old channel.new (λ begun items.
         Gives starved (λ x. x) result (first_of begun items)) }
+    ensures begun { IfOk result (HasBegun D.rule D.L.Link
+        (one method (fields_bytes (Q.fields question.now))) channel.old channel.new) }
     ensures open { OnOk result (is_answering channel.new.transport ≡ true) }
 {
     match begin(alloc, channel, method, question) {
@@ -102,7 +105,7 @@ pub fn next_state<D: Dial + Drop>(
     first: Option<Bytes>,
 ) -> Result<Operation, CallFault>
     requires { is_answering channel.old.transport ≡ true }
-    ensures heard { HearsState D.L.Link first channel.old channel.new (λ message.
+    ensures heard { HearsState D.rule D.L.Link first channel.old channel.new (λ message.
         Gives starved (λ x. x) result (state_of message)) }
     ensures open { OnOk result (is_answering channel.new.transport ≡ true) }
 {

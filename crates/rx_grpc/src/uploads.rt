@@ -120,8 +120,8 @@ pub fn write_blob<D: Dial + Drop>(
     name: Text,
     bytes: &[u8],
 ) -> Result<(), CallFault>
-    ensures { Hears D.faults D.L.Link (asks_write name bytes.now) channel.old channel.new (λ heard.
-        Gives starved (λ x. x) result (written_by (length bytes.now) heard)) }
+    ensures { Hears D.faults D.rule D.L.Link (asks_write name bytes.now) channel.old channel.new
+        (λ heard. Gives starved (λ x. x) result (written_by (length bytes.now) heard)) }
 {
     let Ok(offsets) = offsets_of(alloc, bytes.len()) else {
         return Err(CallFault::NoMemory);

@@ -1,7 +1,7 @@
 -- The bytes of a stream are those that `send` wrote for it.
 use Rattle.std.proofs.Common.{◌≡◌, ℕ, ◌+◌, ◌<◌, Bool, true, false, cond, not, ◌&&◌, ◌||◌, zero, suc, List, [], ◌∷◌, ◌++◌, length, take, drop, refl, sym, ap, ◌∙◌, Option, None, Some, nat_lt, nat_eq, arith, length-drop, append_assoc, append-nil}
 use Rattle.std.specs.List.{filter}
-use Rattle.std.proofs.lemmas.Bool.{ltb-true, ltb-false}
+use Rattle.std.proofs.lemmas.Bool.{ltb-true, ltb-false, or_parts}
 use Rattle.std.proofs.lemmas.List.{take-append-drop}
 use Rattle.std.proofs.lemmas.List.Elements.{filter-append}
 use Rattle.rx_hpack.specs.Header.{Field}
@@ -16,7 +16,6 @@ use Rattle.rx_h2conn.specs.Open.{refusal, next_id, header_frames, header_block}
 use Rattle.rx_h2conn.specs.Output.{frames_of, end_stream, data_frames, allowed, ends, send_frames, reset_frame}
 use Rattle.rx_h2conn.specs.History.{Call, Feeds, Starves, Hands, Takes, Opens, Sends, Resets, after, emitted, all_emitted}
 use Rattle.rx_h2conn.specs.Carried.{is_data, payload, bytes_on, written, bytes_unless, written_by, all_written}
-use Rattle.rx_h2conn.proofs.ListLemmas.{or_false}
 use Rattle.rx_h2conn.proofs.FrameLemmas.{frames_of-long, frames_of-short}
 use Rattle.rx_h2conn.proofs.ChosenLemmas.{IsOfStreams, IsAll, none_fed, none_due, none_unless, chosen_frames, chosen_if, chosen_unless}
 
@@ -44,7 +43,7 @@ payload_data id bytes last = payload_frames (length bytes + 1) Data Data 0 (end_
 -- where nothing is allowed and nothing ends, nothing is written
 pub nothing_taken : (n : ℕ) (over : Bool) (piece : List ℕ) → (nat_lt 0 n || over) ≡ false → [] ≡ take n piece
 nothing_taken zero over piece h = refl
-nothing_taken (suc n) over piece h = let some : nat_lt 0 (suc n) ≡ false = (or_false _ _ h).0 in absurd (omega (arith, ltb-false _ _ some))
+nothing_taken (suc n) over piece h = let some : nat_lt 0 (suc n) ≡ false = (or_parts _ _ h).0 in absurd (omega (arith, ltb-false _ _ some))
 
 pub payload_if : (n : ℕ) (over : Bool) (id : ℕ) (piece : List ℕ) → payload (cond (nat_lt 0 n || over) (data_frames id (take n piece) over) []) ≡ take n piece
 payload_if n over id piece =

@@ -1,6 +1,6 @@
 -- The calls of the client leave what is told, and a fault stays.
 use Rattle.std.proofs.Common.{◌≡◌, ℕ, ◌/◌, ◌%◌, ◌<◌, zero, suc, Bool, true, false, not, ◌&&◌, List, [], ◌∷◌, ◌++◌, length, get_or, set, map, append_assoc, append-nil, length-append, length-set, filter, refl, sym, ap, subst, ◌∙◌, nat_eq, nat_lt, arith, Option, None, Some}
-use Rattle.std.proofs.lemmas.Bool.{eqb-true, eqb-false, lt-ltb}
+use Rattle.std.proofs.lemmas.Bool.{eqb-true, eqb-false, lt-ltb, and_parts}
 use Rattle.std.proofs.lemmas.List.{get_or-set_same, get_or-set_other, get_or_append_left}
 use Rattle.rx_hpack.specs.Header.{Field}
 use Rattle.rx_h2conn.specs.declared.fault.ConnFault.{ConnFault}
@@ -12,7 +12,7 @@ use Rattle.rx_h2conn.specs.Open.{refusal, opened}
 use Rattle.rx_h2conn.specs.Output.{given_up, sent, reset, told, emptied}
 use Rattle.rx_h2conn.specs.Steps.{unless_failed, broken, first, handed}
 use Rattle.rx_h2conn.specs.History.{Call, Feeds, Starves, Hands, Takes, Opens, Sends, Resets, unless, after, run}
-use Rattle.rx_h2conn.proofs.ListLemmas.{either, and_true}
+use Rattle.rx_h2conn.proofs.ListLemmas.{either}
 use Rattle.rx_h2conn.proofs.SoundLemmas.{open_at}
 use Rattle.rx_h2conn.proofs.ConnLemmas.{length_told, opened-fault, sent-fault, reset-fault}
 use Rattle.rx_h2conn.proofs.PieceLemmas.{handed-fault}
@@ -112,14 +112,14 @@ hearing_opened h s t fields last hear =
                 let at = get_or_append_left s.streams (y ∷ []) fresh (id / 2) (open_at s id was) in
                 rw at (hear.opened id was (ap (λ (z : Stream). z.client_reset) (sym at) ∙ kept))
             | false ↦ λ was.
-                let odd : nat_eq (id % 2) 1 ≡ true = (and_true (nat_eq (id % 2) 1) (nat_lt (id / 2) (length (s.streams ++ y ∷ []))) is).0 in
+                let odd : nat_eq (id % 2) 1 ≡ true = (and_parts (nat_eq (id % 2) 1) (nat_lt (id / 2) (length (s.streams ++ y ∷ []))) is).0 in
                 let past : id / 2 < length s.streams → ⊥ = λ small. let yes : is_open s id ≡ true = rw (odd, lt-ltb (id / 2) (length s.streams) small) refl in let no : true ≡ false = sym yes ∙ was in absurd cc in
                 rw (pushed_done s.streams (id / 2) y refl past) (hear.unopened id was)
           ] refl;
       unopened = λ id is.
           elim (is_open s id) as (λ b. is_open s id ≡ b → SameAt id false (h ++ events_of s.events) t.events) [
             | true ↦ λ was.
-                let odd : nat_eq (id % 2) 1 ≡ true = (and_true (nat_eq (id % 2) 1) (nat_lt (id / 2) (length s.streams)) was).0 in
+                let odd : nat_eq (id % 2) 1 ≡ true = (and_parts (nat_eq (id % 2) 1) (nat_lt (id / 2) (length s.streams)) was).0 in
                 let yes : is_open (record s { streams = s.streams ++ y ∷ [] }) id ≡ true = rw (odd, lt-ltb (id / 2) (length (s.streams ++ y ∷ [])) (omega (arith, count, open_at s id was))) refl in
                 let no : true ≡ false = sym yes ∙ is in
                 absurd cc
@@ -128,7 +128,7 @@ hearing_opened h s t fields last hear =
       silent = λ id is.
           elim (is_open s id) as (λ b. is_open s id ≡ b → filter (is_on id) (h ++ events_of s.events) ≡ []) [
             | true ↦ λ was.
-                let odd : nat_eq (id % 2) 1 ≡ true = (and_true (nat_eq (id % 2) 1) (nat_lt (id / 2) (length s.streams)) was).0 in
+                let odd : nat_eq (id % 2) 1 ≡ true = (and_parts (nat_eq (id % 2) 1) (nat_lt (id / 2) (length s.streams)) was).0 in
                 let yes : is_open (record s { streams = s.streams ++ y ∷ [] }) id ≡ true = rw (odd, lt-ltb (id / 2) (length (s.streams ++ y ∷ [])) (omega (arith, count, open_at s id was))) refl in
                 let no : true ≡ false = sym yes ∙ is in
                 absurd cc

@@ -1,5 +1,6 @@
 -- Each frame that breaks no rule tells what its bytes tell.
 use Rattle.std.proofs.Common.{◌⊎◌, inl, inr, ◌≡◌, ℕ, ◌+◌, ◌/◌, Bool, true, false, cond, not, ◌&&◌, ◌||◌, List, [], ◌∷◌, ◌++◌, length, set, append-nil, refl, sym, ap, subst, ◌∙◌, nat_eq, nat_lt, Option, None, Some, Result, Ok, Err}
+use Rattle.std.proofs.lemmas.Bool.{or_parts, and_parts, not-true, not-false}
 use Rattle.std.proofs.Math.Bool.{or-false, or-true}
 use Rattle.rx_hpack.specs.declared.fault.HpackFault.{HpackFault}
 use Rattle.rx_hpack.specs.declared.fault.HpackFault.TheVariants.{BadIndex, BadInteger, BadHuffman, SizeUpdate, ListTooLarge, NoMemory}
@@ -23,7 +24,7 @@ use Rattle.rx_h2conn.specs.Ping.{is_flooded, on_ping}
 use Rattle.rx_h2conn.specs.Settings.{widens, on_entries, on_settings}
 use Rattle.rx_h2conn.specs.Ends.{reset_events, on_reset, on_go_away}
 use Rattle.rx_h2conn.specs.Steps.{took_by}
-use Rattle.rx_h2conn.proofs.ListLemmas.{either, or_false, and_true, not_true, not_false}
+use Rattle.rx_h2conn.proofs.ListLemmas.{either}
 use Rattle.rx_h2conn.specs.Incoming.{Incoming, telling, uninterrupted, data_told, block_read, block_told, headers_told, block_goes_on, continuation_told, frame_in}
 use Rattle.rx_h2conn.specs.Heard.{events_of}
 use Rattle.rx_h2conn.proofs.EventLemmas.{OnStream}
@@ -92,7 +93,7 @@ goes_entries h s t a hear =
     either P (widens s a) _ _ (λ _. fails h _ s 3) (λ _.
     either P (is_flooded s) _ _ (λ _. fails h _ s 11) (λ _.
     either P (is_interrupted s || a.is_wrong) _ _ (λ _. fails h _ s 1) (λ fine.
-    inl (refl, quiet h s _ t hear (or_false _ _ fine).0 (quiet_same s _ refl refl) refl refl))))
+    inl (refl, quiet h s _ t hear (or_parts _ _ fine).0 (quiet_same s _ refl refl) refl refl))))
 
 pub goes_settings : (h : List Event) (s : Session) (t : Incoming) (f : Whole) → Hearing h s t → Goes h s (uninterrupted t t) (on_settings s f)
 unfolding on_settings
@@ -104,7 +105,7 @@ goes_connection_update h s t n hear =
     let P = Goes h s (uninterrupted t t) in
     either P (nat_lt 2147483647 (s.send + n)) _ _ (λ _. fails h _ s 3) (λ _.
     either P (is_interrupted s || nat_eq n 0) _ _ (λ _. fails h _ s 1) (λ fine.
-    inl (refl, quiet h s _ t hear (or_false _ _ fine).0 (quiet_same s _ refl refl) refl refl)))
+    inl (refl, quiet h s _ t hear (or_parts _ _ fine).0 (quiet_same s _ refl refl) refl refl)))
 
 pub goes_stream_update : (h : List Event) (s : Session) (t : Incoming) (id n : ℕ) → Hearing h s t → Goes h s (uninterrupted t t) (on_stream_update s id n)
 unfolding on_stream_update
@@ -155,11 +156,11 @@ goes_data h s t f hear =
     let P = Goes h s (uninterrupted t (telling t (data_told f.stream f.body (is_set f.flags 1)))) in
     either P (passes_window s f) _ _ (λ _. fails h _ s 3) (λ _.
     either P (is_interrupted s || not (is_open s f.stream)) _ _ (λ _. fails h _ s 1) (λ fine.
-    let i = (or_false _ _ fine).0 in
-    let is = not_false _ (or_false _ _ fine).1 in
+    let i = (or_parts _ _ fine).0 in
+    let is = not-false _ (or_parts _ _ fine).1 in
     either P (is_dropped (stream_at s f.stream)) _ _
     (λ dropped. inl (refl, on_going h s _ t _ hear.sequence i (data_dropped b h s t f last hear is dropped)))
-    (λ _. inl (refl, on_going h s _ t _ hear.sequence i (data_taken b h s (taken_data s f last) t f.stream f.body last (heard (stream_at s f.stream) f.size _ last) (record { event = Bytes f.stream f.body last; stream = f.stream; credit = carried f }) hear (λ e. not_true last (and_true _ _ e).1) is refl refl refl refl refl refl refl)))))
+    (λ _. inl (refl, on_going h s _ t _ hear.sequence i (data_taken b h s (taken_data s f last) t f.stream f.body last (heard (stream_at s f.stream) f.size _ last) (record { event = Bytes f.stream f.body last; stream = f.stream; credit = carried f }) hear (λ e. not-true last (and_parts _ _ e).1) is refl refl refl refl refl refl refl)))))
 
 -- header lists
 pub in_block : (h : List Event) (s : Session) (t : Incoming) (o : Option Block) → Hearing h s t → Hearing h (record s { sequence = o }) (record t { sequence = o })
@@ -173,7 +174,7 @@ unfolding told_headers
 goes_list h s t u i list last hear going d e events =
     let P = Goes h s u in
     either P (not (is_open s i)) _ _ (λ _. fails h _ s 1) (λ opened.
-    let is = not_false _ opened in
+    let is = not-false _ opened in
     either P (is_dropped (stream_at s i)) _ _
     (λ dropped. inl (refl, hearing_dropped h s s t u i (HeaderList i list last) hear is dropped (on_list i list last) (quiet_same s s refl refl) going d e events))
     (λ _. inl (refl, hearing_event h s _ t u i _ (HeaderList i list last) hear is (on_list i list last) refl refl refl (events_of_append s.events _) going d e events)))
@@ -245,8 +246,8 @@ unfolding on_reset
 goes_reset h s t f hear =
     let P = Goes h s (uninterrupted t (telling t (Reset f.stream (number f.body) ∷ []))) in
     either P (is_interrupted s || not (is_open s f.stream)) _ _ (λ _. fails h _ s 1) (λ fine.
-    let i = (or_false _ _ fine).0 in
-    let is = not_false _ (or_false _ _ fine).1 in
+    let i = (or_parts _ _ fine).0 in
+    let is = not-false _ (or_parts _ _ fine).1 in
     either P (stream_at s f.stream).client_reset _ _
     (λ given. inl (refl, on_going h s s t _ hear.sequence i (hearing_dropped h s s t _ f.stream (Reset f.stream (number f.body)) hear is (rw given refl) (on_end f.stream (number f.body)) (quiet_same s s refl refl) hear.going hear.decoder hear.sequence refl)))
     (λ _. inl (refl, on_going h s _ t _ hear.sequence i (reset_taken (stream_at s f.stream).server_done h s _ t f _ hear refl is refl refl refl refl refl refl))))

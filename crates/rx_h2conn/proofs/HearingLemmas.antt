@@ -1,12 +1,12 @@
 -- What a connection tells, and what the bytes tell, go on together.
 use Rattle.std.proofs.Common.{◌≡◌, ℕ, ◌/◌, ◌%◌, Bool, true, false, not, ◌&&◌, ◌||◌, List, [], ◌∷◌, ◌++◌, length, get_or, set, append_assoc, length-set, filter, refl, sym, ap, subst, ◌∙◌, nat_eq, arith}
 use Rattle.std.proofs.Math.Bool.{or-false}
-use Rattle.std.proofs.lemmas.Bool.{eqb-true, eqb-false}
+use Rattle.std.proofs.lemmas.Bool.{eqb-true, eqb-false, and_parts}
 use Rattle.std.proofs.lemmas.List.{get_or-set_same, get_or-set_other}
 use Rattle.rx_h2conn.specs.declared.stream.Stream.{Stream}
 use Rattle.rx_h2conn.specs.Session.{Session, Event}
 use Rattle.rx_h2conn.specs.Streams.{fresh, is_open, stream_at, is_dropped}
-use Rattle.rx_h2conn.proofs.ListLemmas.{and_true, each_beside}
+use Rattle.rx_h2conn.proofs.ListLemmas.{each_beside}
 use Rattle.rx_h2conn.proofs.SoundLemmas.{open_at}
 use Rattle.rx_h2conn.specs.Part.{is_on, ends_stream}
 use Rattle.rx_h2conn.specs.Incoming.{Incoming}
@@ -118,8 +118,8 @@ hearing_dropped h s new t u i e hear is_there dropped on q going decoder sequenc
 -- the stream at another number stays
 pub other_stream : (s : Session) (i id : ℕ) (x : Stream) → is_open s i ≡ true → is_open s id ≡ true → nat_eq i id ≡ false → get_or (set s.streams (i / 2) x) (id / 2) fresh ≡ get_or s.streams (id / 2) fresh
 other_stream s i id x first second other =
-    let odd : i % 2 ≡ 1 = eqb-true _ _ (and_true _ _ first).0 in
-    let odd2 : id % 2 ≡ 1 = eqb-true _ _ (and_true _ _ second).0 in
+    let odd : i % 2 ≡ 1 = eqb-true _ _ (and_parts _ _ first).0 in
+    let odd2 : id % 2 ≡ 1 = eqb-true _ _ (and_parts _ _ second).0 in
     get_or-set_other s.streams (i / 2) (id / 2) x fresh (λ e. eqb-false i id other (omega (arith, odd, odd2, e)))
 
 -- whether the server has ended a stream after an event of the stream at i

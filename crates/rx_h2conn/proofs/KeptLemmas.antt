@@ -1,5 +1,6 @@
 -- What the server sends, events and output leave the streams to the client.
 use Rattle.std.proofs.Common.{◌≡◌, ℕ, ◌+◌, ◌/◌, ◌<◌, zero, suc, Bool, true, not, ◌&&◌, ◌||◌, List, [], ◌∷◌, length, get_or, set, map, refl, ◌∙◌, nat_lt, nat_eq, arith, length-set, Option, None, Some, Result, Ok, Err, OnOk, OnErr}
+use Rattle.std.proofs.lemmas.Bool.{or_parts, and_parts, not-false}
 use Rattle.rx_hpack.specs.declared.fault.HpackFault.{HpackFault}
 use Rattle.rx_hpack.specs.declared.fault.HpackFault.TheVariants.{BadIndex, BadInteger, BadHuffman, SizeUpdate, ListTooLarge, NoMemory}
 use Rattle.rx_hpack.specs.Header.{Field}
@@ -24,7 +25,7 @@ use Rattle.rx_h2conn.specs.Ends.{on_reset, on_go_away}
 use Rattle.rx_h2conn.specs.State.{UnlessStarved}
 use Rattle.rx_h2conn.specs.Steps.{took_by, code_of, judged, settled, more, unless_failed, byte, fed, handed, FeedsAt}
 use Rattle.rx_h2conn.specs.Output.{told, emptied}
-use Rattle.rx_h2conn.proofs.ListLemmas.{either, or_false, and_true, not_false}
+use Rattle.rx_h2conn.proofs.ListLemmas.{either}
 use Rattle.rx_h2conn.proofs.SoundLemmas.{open_at}
 use Rattle.rx_h2conn.proofs.ConnLemmas.{length_told}
 
@@ -89,14 +90,14 @@ leaves_data s f =
     either (Leaves s) (passes_window s f) _ _ (λ _. leaves_failed s 3) (λ _.
     either (Leaves s) (is_interrupted s || not (is_open s f.stream)) _ _ (λ _. leaves_failed s 1) (λ fine.
     either (Leaves s) (is_dropped (stream_at s f.stream)) _ _ (λ _. leaves_same s _ refl) (λ _.
-    leaves_set s (taken_data s f (is_set f.flags 1)) f.stream _ (not_false _ (or_false _ _ fine).1) (record { kept = refl; done = refl; gone = λ r. r }) refl)))
+    leaves_set s (taken_data s f (is_set f.flags 1)) f.stream _ (not-false _ (or_parts _ _ fine).1) (record { kept = refl; done = refl; gone = λ r. r }) refl)))
 
 pub leaves_reset : (s : Session) (f : Whole) → Leaves s (on_reset s f)
 unfolding on_reset
 leaves_reset s f =
     either (Leaves s) (is_interrupted s || not (is_open s f.stream)) _ _ (λ _. leaves_failed s 1) (λ fine.
     either (Leaves s) (stream_at s f.stream).client_reset _ _ (λ _. leaves_same s s refl) (λ _.
-    leaves_set s _ f.stream _ (not_false _ (or_false _ _ fine).1) (record { kept = refl; done = refl; gone = λ _. refl }) refl))
+    leaves_set s _ f.stream _ (not-false _ (or_parts _ _ fine).1) (record { kept = refl; done = refl; gone = λ _. refl }) refl))
 
 pub leaves_go_away : (s : Session) (f : Whole) → Leaves s (on_go_away s f)
 unfolding on_go_away
@@ -116,7 +117,7 @@ leaves_stream_update s id n =
     either (Leaves s) (is_interrupted s) _ _ (λ _. leaves_failed s 1) (λ _.
     either (Leaves s) (stream_at s id).client_reset _ _ (λ _. leaves_same s s refl) (λ _.
     either (Leaves s) (nat_eq n 0) _ _ (λ _. leaves_failed s 1) (λ _.
-    leaves_set s _ id _ (not_false _ opened) (record { kept = refl; done = refl; gone = λ r. r }) refl)))))
+    leaves_set s _ id _ (not-false _ opened) (record { kept = refl; done = refl; gone = λ r. r }) refl)))))
 
 pub leaves_window_update : (s : Session) (f : Whole) → Leaves s (on_window_update s f)
 unfolding on_window_update
@@ -127,7 +128,7 @@ unfolding told_headers
 leaves_told s id list last =
     either (Leaves s) (not (is_open s id)) _ _ (λ _. leaves_failed s 1) (λ opened.
     either (Leaves s) (is_dropped (stream_at s id)) _ _ (λ _. leaves_same s s refl) (λ _.
-    leaves_set s _ id _ (not_false _ opened) (record { kept = refl; done = refl; gone = λ r. r }) refl))
+    leaves_set s _ id _ (not-false _ opened) (record { kept = refl; done = refl; gone = λ r. r }) refl))
 
 pub leaves_block : (x : Result Progress HpackFault) (s : Session) (id : ℕ) (last : Bool) → Leaves s (told_block x s id last)
 leaves_block (Ok read) s id last = leaves_trans s (record s { decoder = Ready read.table }) _ (leaves_same s (record s { decoder = Ready read.table }) refl) (leaves_told (record s { decoder = Ready read.table }) id read.fields last)
@@ -240,7 +241,7 @@ pub leaves_owe : (s : Session) (id credit : ℕ) → Leaves s (owe s id credit)
 unfolding owe
 leaves_owe s id credit =
     either (Leaves s) (is_open s id && not (stream_at s id).client_reset) _ _
-    (λ b. leaves_set s _ id _ (and_true _ _ b).0 (record { kept = refl; done = refl; gone = λ r. r }) refl)
+    (λ b. leaves_set s _ id _ (and_parts _ _ b).0 (record { kept = refl; done = refl; gone = λ r. r }) refl)
     (λ _. leaves_same s _ refl)
 
 pub leaves_handed : (s : Session) (qs : List Queued) → Leaves s (handed s qs)

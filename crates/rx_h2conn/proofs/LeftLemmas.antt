@@ -1,6 +1,6 @@
 -- No more bytes of a stream are sent than its window lets through.
 use Rattle.std.proofs.Common.{◌≡◌, ℕ, ◌+◌, ◌-◌, ◌/◌, ◌%◌, ◌≤◌, Bool, true, false, cond, not, ◌||◌, List, [], ◌∷◌, ◌++◌, length, get_or, set, refl, sym, ap, ◌∙◌, Option, None, Some, Result, Ok, Err, nat_eq, arith, length-take, length-append}
-use Rattle.std.proofs.lemmas.Bool.{eqb-true, eq-eqb}
+use Rattle.std.proofs.lemmas.Bool.{eqb-true, eq-eqb, and_parts, not-false}
 use Rattle.rx_h2frame.specs.declared.frame.FrameFault.{FrameFault}
 use Rattle.rx_h2frame.specs.declared.kind.Kind.{Kind}
 use Rattle.rx_h2frame.specs.declared.kind.Kind.TheVariants.{Data, Headers, Priority, ResetStream, Settings, PushPromise, Ping, GoAway, WindowUpdate, Continuation, Unknown}
@@ -25,7 +25,7 @@ use Rattle.rx_h2conn.specs.Output.{allowed, charged, ends, sent, reset, emptied}
 use Rattle.rx_h2conn.specs.History.{Call, Feeds, Starves, Hands, Takes, Opens, Sends, Resets, after, run, unless, emitted}
 use Rattle.rx_h2conn.specs.Carried.{bytes_on, written, bytes_unless, written_by, all_written}
 use Rattle.rx_h2conn.specs.Granted.{grant_of, judged_grant, settled_grant, grant_unless, byte_grant, fed_grant, granted_by, all_granted, window_left, SendsHeld, AllSendHeld}
-use Rattle.rx_h2conn.proofs.ListLemmas.{each_set, and_true, not_false, either}
+use Rattle.rx_h2conn.proofs.ListLemmas.{each_set, either}
 use Rattle.rx_h2conn.proofs.SoundLemmas.{open_at}
 use Rattle.rx_h2conn.proofs.ConnLemmas.{opened-fault, reset-fault}
 use Rattle.rx_h2conn.proofs.PieceLemmas.{handed-fault}
@@ -44,7 +44,7 @@ widens_granted w n = omega arith
 
 -- the client's streams are odd, so the half tells them apart
 pub is_odd : (s : Session) (id : ℕ) → is_open s id ≡ true → id % 2 ≡ 1
-is_odd s id h = eqb-true _ _ (and_true _ _ h).0
+is_odd s id h = eqb-true _ _ (and_parts _ _ h).0
 
 pub same_half : (i id : ℕ) → i % 2 ≡ 1 → id % 2 ≡ 1 → i / 2 ≡ id / 2 → i ≡ id
 same_half i id a b h = omega arith
@@ -91,7 +91,7 @@ allows_stream s i id n none odd =
     either P (is_interrupted s) _ _ (λ _. allows_none more id s (failed s 1) refl) (λ _.
     either P (stream_at s i).client_reset _ _ (λ _. allows_none more id s s refl) (λ _.
     either P (nat_eq n 0) _ _ (λ _. allows_none more id s (failed s 1) refl) (λ _.
-    allows_granted s i id n none (not_false _ opened) odd)))))
+    allows_granted s i id n none (not-false _ opened) odd)))))
 
 pub allows_update : (s : Session) (f : Whole) (id : ℕ) → s.fault ≡ None → id % 2 ≡ 1 → Allows (grant_of id WindowUpdate f) id s (on_window_update s f)
 unfolding on_window_update

@@ -1,5 +1,7 @@
 -- Streams in a list, and fronts of lists.
-use Rattle.std.proofs.Common.{◌≡◌, ℕ, ◌<◌, Bool, true, false, cond, zero, suc, List, [], ◌∷◌, ◌++◌, length, get_or, set, refl, sym, ap, ◌∙◌, arith, append_assoc, append-nil, not, ◌&&◌, ◌||◌}
+use Rattle.std.proofs.Common.{◌≡◌, ℕ, ◌<◌, Bool, true, false, cond, zero, suc, List, [], ◌∷◌, ◌++◌, length, get_or, set, refl, sym, ap, ◌∙◌, arith, append_assoc, append-nil}
+-- std's lemmas on tests by other names
+pub use Rattle.std.proofs.lemmas.Bool.{or_parts as or_false, and_parts as and_true, not-true as not_true}
 use Rattle.rx_h2conn.specs.declared.stream.Stream.{Stream}
 use Rattle.rx_h2conn.specs.State.{Extends}
 
@@ -24,24 +26,6 @@ pub get_or_within : (a b : Stream) (xs : List Stream) (k : ℕ) → k < length x
 get_or_within a b [] k small = absurd (omega arith)
 get_or_within a b (x ∷ xs) zero small = refl
 get_or_within a b (x ∷ xs) (suc k) small = get_or_within a b xs k (omega arith)
-
-pub or_false : (a b : Bool) → (a || b) ≡ false → (a ≡ false) × (b ≡ false)
-or_false true b h = cc
-or_false false true h = cc
-or_false false false h = (refl, refl)
-
-pub and_true : (a b : Bool) → (a && b) ≡ true → (a ≡ true) × (b ≡ true)
-and_true true true h = (refl, refl)
-and_true true false h = cc
-and_true false b h = cc
-
-pub not_true : (a : Bool) → not a ≡ true → a ≡ false
-not_true true h = cc
-not_true false h = refl
-
-pub not_false : (a : Bool) → not a ≡ false → a ≡ true
-not_false true h = refl
-not_false false h = cc
 
 -- what holds of both arms holds of the choice
 pub either : {A : Type 0} (P : A → Type 0) (b : Bool) (x y : A) → (b ≡ true → P x) → (b ≡ false → P y) → P (cond b x y)

@@ -1,6 +1,6 @@
 -- Credit is whole again once the events and the output were taken.
 use Rattle.std.proofs.Common.{◌≡◌, ℕ, ◌+◌, ◌/◌, ◌<◌, ◌≤◌, inl, inr, Bool, true, false, cond, not, ◌&&◌, ◌||◌, List, [], ◌∷◌, length, drop, get_or, length-set, length-drop, refl, sym, subst, ◌∙◌, nat_eq, nat_lt, arith, None, Some, Result, Ok, Err}
-use Rattle.std.proofs.lemmas.Bool.{eqb-true, ltb-true, ltb-false}
+use Rattle.std.proofs.lemmas.Bool.{eqb-true, ltb-true, ltb-false, or_parts, and_parts}
 use Rattle.std.proofs.lemmas.Bool.Decides.{nat_tests}
 use Rattle.rx_h2frame.specs.declared.frame.FrameFault.{FrameFault}
 use Rattle.rx_h2frame.specs.declared.frame.FrameFault.TheVariants.{FrameSize}
@@ -13,7 +13,7 @@ use Rattle.rx_h2conn.specs.Streams.{fresh, is_open, stream_at, is_dropped}
 use Rattle.rx_h2conn.specs.Sound.{credits, waiting}
 use Rattle.rx_h2conn.specs.Data.{owe, owing}
 use Rattle.rx_h2conn.specs.Steps.{code_of, judged, settled, more, byte, fed, handed}
-use Rattle.rx_h2conn.proofs.ListLemmas.{each_set, either, or_false, and_true}
+use Rattle.rx_h2conn.proofs.ListLemmas.{each_set, either}
 use Rattle.rx_h2conn.proofs.SoundLemmas.{open_at}
 use Rattle.rx_h2conn.proofs.FedLemmas.{byte_ready, byte_failed}
 use Rattle.rx_h2conn.proofs.UsesLemmas.{AllOwned, IsOwned, IsFull, full_by, uses_failed}
@@ -36,8 +36,8 @@ lacks_size rest n e =
           elim (is_wrong_size 16384 h) as (λ b. is_wrong_size 16384 h ≡ b → length rest ≤ 16392) [
             | true ↦ λ bad. let no : Err FrameSize ≡ Ok (Lacks n) = sym (wrong_size 16384 h (drop 9 rest) bad) ∙ payload in absurd cc
             | false ↦ λ fine.
-                let first = (or_false (nat_lt 16384 h.size || nat_lt h.size (pad_length_size h + priority_size h)) (not (fits_kind h.kind h.flags h.size)) fine).0 in
-                let small : h.size ≤ 16384 = ltb-false _ _ (or_false (nat_lt 16384 h.size) (nat_lt h.size (pad_length_size h + priority_size h)) first).0 in
+                let first = (or_parts (nat_lt 16384 h.size || nat_lt h.size (pad_length_size h + priority_size h)) (not (fits_kind h.kind h.flags h.size)) fine).0 in
+                let small : h.size ≤ 16384 = ltb-false _ _ (or_parts (nat_lt 16384 h.size) (nat_lt h.size (pad_length_size h + priority_size h)) first).0 in
                 let sum = count.0 in let some = count.1 in
                 omega (arith, long, small, sum, some, length-drop 9 rest)
           ] refl
@@ -107,7 +107,7 @@ full_handed (q ∷ qs) s is f =
     let t : Stream = owing (stream_at s q.stream) q.credit in
     either IsFull (is_open (record s { events = qs }) q.stream && not (stream_at s q.stream).client_reset) _ _
     (λ b.
-    let small = open_at s q.stream (and_true _ _ b).0 in
+    let small = open_at s q.stream (and_parts _ _ b).0 in
     record {
       connection = omega (arith, all);
       stream = each_set fresh (λ k x. is_dropped x ≡ false → 1048576 ≤ x.receive + x.owed + waiting k qs) s.streams i t small

@@ -1,6 +1,6 @@
 -- A run without a fault keeps its credit, and has told all of it once the events and the output were taken.
 use Rattle.std.proofs.Common.{◌≡◌, ℕ, ◌+◌, ◌/◌, ◌%◌, ◌<◌, inl, inr, zero, suc, Bool, true, false, List, [], ◌∷◌, ◌++◌, length, get_or, set, map, append-nil, length-append, length-set, refl, sym, ap, subst, ◌∙◌, nat_eq, nat_lt, arith, Option, None, Some}
-use Rattle.std.proofs.lemmas.Bool.{ltb-true, lt-ltb}
+use Rattle.std.proofs.lemmas.Bool.{ltb-true, lt-ltb, and_parts}
 use Rattle.rx_hpack.specs.Header.{Field}
 use Rattle.rx_h2conn.specs.declared.fault.ConnFault.{ConnFault}
 use Rattle.rx_h2conn.specs.declared.stream.Stream.{Stream}
@@ -13,7 +13,7 @@ use Rattle.rx_h2conn.specs.Output.{given_up, sent, reset, told, emptied}
 use Rattle.rx_h2conn.specs.Steps.{unless_failed, broken}
 use Rattle.rx_h2conn.specs.History.{Call, Feeds, Starves, Hands, Takes, Opens, Sends, Resets, unless, after, run}
 use Rattle.rx_h2conn.proofs.ConnLemmas.{get_or_told, get_or_pushed, length_told}
-use Rattle.rx_h2conn.proofs.ListLemmas.{and_true, each_beside}
+use Rattle.rx_h2conn.proofs.ListLemmas.{each_beside}
 use Rattle.rx_h2conn.specs.Paced.{IsRestored, Restores, FitsNext}
 use Rattle.rx_h2conn.proofs.UsesLemmas.{AllOwned, IsOwned, IsFull, full_by, uses_set}
 use Rattle.rx_h2conn.proofs.FitLemmas.{restored_fits}
@@ -46,7 +46,7 @@ dropped_pushed (x ∷ xs) (suc k) t e = dropped_pushed xs k t e
 pub owned_one : (n : ℕ) (q : Queued) → IsOwned n q → IsOwned (n + 1) q
 owned_one n q (inr none) = inr none
 owned_one n q (inl is) =
-    let both = and_true (nat_eq (q.stream % 2) 1) (nat_lt (q.stream / 2) n) is in
+    let both = and_parts (nat_eq (q.stream % 2) 1) (nat_lt (q.stream / 2) n) is in
     let odd = both.0 in
     let small : q.stream / 2 < n = ltb-true _ _ both.1 in
     let more : nat_lt (q.stream / 2) (n + 1) ≡ true = lt-ltb _ _ (omega (arith, small)) in

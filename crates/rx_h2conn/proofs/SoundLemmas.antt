@@ -1,6 +1,6 @@
 -- Each step keeps the windows sound.
 use Rattle.std.proofs.Common.{◌≡◌, ℕ, ◌+◌, ◌-◌, ◌/◌, ◌<◌, ◌≤◌, Bool, true, false, cond, not, ◌&&◌, ◌||◌, List, [], ◌∷◌, ◌++◌, length, get_or, set, refl, nat_lt, nat_eq, arith, length-set, Option, None, Some, Result, Ok, Err}
-use Rattle.std.proofs.lemmas.Bool.{ltb-true, ltb-false}
+use Rattle.std.proofs.lemmas.Bool.{ltb-true, ltb-false, or_parts, and_parts, not-false}
 use Rattle.std.proofs.lemmas.Bool.Decides.{nat_tests}
 use Rattle.rx_h2frame.specs.declared.kind.Kind.{Kind}
 use Rattle.rx_h2frame.specs.declared.kind.Kind.TheVariants.{Data, Headers, Priority, ResetStream, Settings, PushPromise, Ping, GoAway, WindowUpdate, Continuation, Unknown}
@@ -22,7 +22,7 @@ use Rattle.rx_h2conn.specs.Settings.{widens, on_entries, on_settings}
 use Rattle.rx_h2conn.specs.Ends.{reset_events, on_reset, on_go_away}
 use Rattle.rx_h2conn.specs.Steps.{took_by, took, handed}
 use Rattle.rx_h2conn.specs.Sound.{credits, waiting, IsSoundBy, IsSound}
-use Rattle.rx_h2conn.proofs.ListLemmas.{each_set, get_or_within, or_false, and_true, not_false, either}
+use Rattle.rx_h2conn.proofs.ListLemmas.{each_set, get_or_within, either}
 
 pub credits-append : (qs ps : List Queued) → credits (qs ++ ps) ≡ credits qs + credits ps
 credits-append [] ps = omega arith
@@ -33,7 +33,7 @@ waiting-append k [] ps = omega arith
 waiting-append k (q ∷ qs) ps = omega (arith, waiting-append k qs ps)
 
 pub open_at : (s : Session) (id : ℕ) → is_open s id ≡ true → id / 2 < length s.streams
-open_at s id h = ltb-true (id / 2) (length s.streams) (and_true _ _ h).1
+open_at s id h = ltb-true (id / 2) (length s.streams) (and_parts _ _ h).1
 
 -- a step that leaves receive windows, credit and events
 pub record Leaves (old new : Session) : Type 0 where
@@ -113,7 +113,7 @@ sound_stream_update s id n h =
     either IsSound (is_interrupted s) _ _ (λ _. sound_failed fresh s 1 h) (λ _.
     either IsSound (stream_at s id).client_reset _ _ (λ _. h) (λ _.
     either IsSound (nat_eq n 0) _ _ (λ _. sound_failed fresh s 1 h) (λ _.
-    sound_set fresh s (id / 2) _ (open_at s id (not_false _ opened)) refl h)))))
+    sound_set fresh s (id / 2) _ (open_at s id (not-false _ opened)) refl h)))))
 
 pub sound_window_update : (s : Session) (f : Whole) → IsSound s → IsSound (on_window_update s f)
 unfolding on_window_update
@@ -136,7 +136,7 @@ unfolding on_reset
 sound_reset s f h =
     either IsSound (is_interrupted s || not (is_open s f.stream)) _ _ (λ _. sound_failed fresh s 1 h) (λ fine.
     either IsSound (stream_at s f.stream).client_reset _ _ (λ _. h) (λ _.
-    let small = open_at s f.stream (not_false _ (or_false _ _ fine).1) in
+    let small = open_at s f.stream (not-false _ (or_parts _ _ fine).1) in
     let t : Stream = record (stream_at s f.stream) { server_done = true; server_reset = true } in
     let ps = reset_events f (stream_at s f.stream).server_done in
     sound_told fresh (record s { streams = set s.streams (f.stream / 2) t }) ps (free_reset f _) (none_waits_reset f _) (sound_set fresh s (f.stream / 2) t small refl h)))
@@ -178,7 +178,7 @@ sound_taken s f last opened room stream_room h =
 -- what the test of the windows tells of bytes that aren't dropped
 pub room_for : (s : Session) (f : Whole) → passes_window s f ≡ false → is_open s f.stream ≡ true → is_dropped (stream_at s f.stream) ≡ false → (f.size ≤ s.receive) × (f.size ≤ (stream_at s f.stream).receive)
 room_for s f fits opened kept =
-    let both = or_false _ _ fits in
+    let both = or_parts _ _ fits in
     let stream : nat_lt (stream_at s f.stream).receive f.size ≡ false = rw kept at (rw opened at both.1) in
     (ltb-false _ _ both.0, ltb-false _ _ stream)
 
@@ -188,9 +188,9 @@ sound_data s f h =
     either IsSound (passes_window s f) _ _ (λ _. sound_failed fresh s 3 h) (λ fits.
     either IsSound (is_interrupted s || not (is_open s f.stream)) _ _ (λ _. sound_failed fresh s 1 h) (λ fine.
     either IsSound (is_dropped (stream_at s f.stream)) _ _
-    (λ _. let room : f.size ≤ s.receive = ltb-false _ _ (or_false _ _ fits).0 in record { connection = omega (arith, room, h.connection); stream = h.stream; count = h.count })
+    (λ _. let room : f.size ≤ s.receive = ltb-false _ _ (or_parts _ _ fits).0 in record { connection = omega (arith, room, h.connection); stream = h.stream; count = h.count })
     (λ kept.
-    let opened = not_false _ (or_false _ _ fine).1 in
+    let opened = not-false _ (or_parts _ _ fine).1 in
     let rooms = room_for s f fits opened kept in
     sound_taken s f (is_set f.flags 1) opened rooms.0 rooms.1 h)))
 
@@ -199,7 +199,7 @@ unfolding told_headers
 sound_told_headers s id list last h =
     either IsSound (not (is_open s id)) _ _ (λ _. sound_failed fresh s 1 h) (λ opened.
     either IsSound (is_dropped (stream_at s id)) _ _ (λ _. h) (λ _.
-    let small = open_at s id (not_false _ opened) in
+    let small = open_at s id (not-false _ opened) in
     let t : Stream = record (stream_at s id) { server_done = (stream_at s id).server_done || last } in
     let q : Queued = record { event = HeadersEvent id list last; stream = id; credit = 0 } in
     sound_told fresh (record s { streams = set s.streams (id / 2) t }) (q ∷ []) refl (λ k. cond_same (nat_eq (id / 2) k)) (sound_set fresh s (id / 2) t small refl h)))
@@ -275,7 +275,7 @@ sound_owed none s q qs e h =
     let t : Stream = owing (stream_at s q.stream) q.credit in
     either (IsSoundBy none) (is_open (record s { events = qs }) q.stream && not (stream_at s q.stream).client_reset) _ _
     (λ b.
-    let small = open_at s q.stream (and_true _ _ b).0 in
+    let small = open_at s q.stream (and_parts _ _ b).0 in
     let same = get_or_within none fresh s.streams i small in
     let there = each i in
     let at_i : t.receive + t.owed + waiting i qs ≤ 1048576 = grind (arith, nat_tests, rw same at there) in

@@ -1,5 +1,6 @@
 -- Each kind of frame uses no more of a window than its size.
 use Rattle.std.proofs.Common.{◌≡◌, ℕ, ◌+◌, ◌/◌, inr, Bool, true, false, not, ◌&&◌, ◌||◌, List, [], ◌∷◌, ◌++◌, length, get_or, append-nil, refl, sym, ap, subst, ◌∙◌, nat_eq, nat_lt, arith, Option, None, Some, Result, Ok, Err}
+use Rattle.std.proofs.lemmas.Bool.{or_parts, not-false}
 use Rattle.rx_hpack.specs.declared.fault.HpackFault.{HpackFault}
 use Rattle.rx_hpack.specs.declared.fault.HpackFault.TheVariants.{BadIndex, BadInteger, BadHuffman, SizeUpdate, ListTooLarge, NoMemory}
 use Rattle.rx_hpack.specs.Header.{Field}
@@ -20,7 +21,7 @@ use Rattle.rx_h2conn.specs.Settings.{widens, on_entries, on_settings}
 use Rattle.rx_h2conn.specs.Sound.{waiting}
 use Rattle.rx_h2conn.specs.Ends.{reset_events, on_reset, on_go_away}
 use Rattle.rx_h2conn.specs.Steps.{took_by}
-use Rattle.rx_h2conn.proofs.ListLemmas.{either, or_false, not_false}
+use Rattle.rx_h2conn.proofs.ListLemmas.{either}
 use Rattle.rx_h2conn.proofs.UsesLemmas.{AllOwned, UsesAt, Uses, at_none, uses_told, uses_none, uses_failed, uses_set, or_both, uses_taken}
 
 pub uses_passed : (n : ℕ) (s : Session) → Uses n s (passed s)
@@ -45,7 +46,7 @@ uses_data s f =
       stream = λ k. at_none n 0 (get_or s.streams k fresh);
       acks = omega arith;
     })
-    (λ _. uses_taken s f (is_set f.flags 1) (not_false _ (or_false _ _ fine).1))))
+    (λ _. uses_taken s f (is_set f.flags 1) (not-false _ (or_parts _ _ fine).1))))
 
 pub owned_reset : (n : ℕ) (f : Whole) (done : Bool) → AllOwned n (reset_events f done)
 owned_reset n f true = tt

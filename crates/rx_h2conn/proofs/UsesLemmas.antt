@@ -1,5 +1,6 @@
 -- What a frame of so many bytes uses of the windows that the client gave, and of its acknowledgements.
 use Rattle.std.proofs.Common.{◌≡◌, ℕ, ◌+◌, ◌-◌, ◌/◌, ◌%◌, ◌≤◌, ◌⊎◌, inl, Bool, true, false, cond, not, ◌&&◌, ◌||◌, List, [], ◌∷◌, ◌++◌, length, get_or, set, append-nil, length-set, refl, sym, ap, ◌∙◌, nat_eq, nat_lt, arith}
+use Rattle.std.proofs.lemmas.Bool.{and_parts}
 use Rattle.std.proofs.lemmas.Bool.Decides.{nat_tests}
 use Rattle.rx_h2frame.specs.Frame.{Whole}
 use Rattle.rx_h2conn.specs.declared.stream.Stream.{Stream}
@@ -7,7 +8,7 @@ use Rattle.rx_h2conn.specs.Session.{Session, Queued, Bytes}
 use Rattle.rx_h2conn.specs.Streams.{failed, fresh, is_open, stream_at, is_dropped}
 use Rattle.rx_h2conn.specs.Data.{carried, heard, taken_data}
 use Rattle.rx_h2conn.specs.Sound.{credits, waiting}
-use Rattle.rx_h2conn.proofs.ListLemmas.{and_true, each_beside}
+use Rattle.rx_h2conn.proofs.ListLemmas.{each_beside}
 use Rattle.rx_h2conn.proofs.SoundLemmas.{credits-append, waiting-append, carried_few}
 
 -- the credit of an event is that of a stream that was opened
@@ -105,7 +106,7 @@ waiting_data true f q none is at = sym (none refl)
 waiting_data false f q none is at = grind (arith, nat_tests)
 
 pub carried_none : (f : Whole) (last : Bool) → (nat_eq (length f.body) 0 && not last) ≡ true → carried f ≡ 0
-carried_none f last h = rw (and_true (nat_eq (length f.body) 0) (not last) h).0 refl
+carried_none f last h = rw (and_parts (nat_eq (length f.body) 0) (not last) h).0 refl
 
 pub owned_data : (b : Bool) (n : ℕ) (q : Queued) → ((nat_eq (q.stream % 2) 1 && nat_lt (q.stream / 2) n) ≡ true) → AllOwned n (cond b [] (q ∷ []))
 owned_data true n q is = tt

@@ -1,5 +1,5 @@
 -- Streams that the client opens (RFC 9113 5.1.1, 8.1).
-use Rattle.std.specs.Prelude.{ℕ, ◌+◌, ◌*◌, Bool, true, false, List, [], ◌∷◌, ◌++◌, length, nat_lt, Option, None, Some}
+use Rattle.std.specs.Prelude.{ℕ, ◌+◌, ◌*◌, Bool, true, false, List, [], ◌∷◌, ◌++◌, length, nat_lt, Option, None, Some, Result}
 use Rattle.rx_hpack.specs.Header.{Field}
 use Rattle.rx_hpack.specs.Encoder.{block_bytes}
 use Rattle.rx_h2frame.specs.declared.kind.Kind.TheVariants.{Headers, Continuation}
@@ -11,7 +11,7 @@ use Rattle.rx_h2conn.specs.declared.settings.SizeUpdate.TheVariants.{NotAsked, D
 use Rattle.rx_h2conn.specs.Session.{Session}
 use Rattle.rx_h2conn.specs.Streams.{fresh}
 use Rattle.rx_h2conn.specs.Emitted.{bytes_of}
-use Rattle.rx_h2conn.specs.Output.{frames_of, end_stream}
+use Rattle.rx_h2conn.specs.Output.{frames_of, end_stream, AnswersAt}
 
 -- why no stream can be opened: the fault, that the server went away, or that the stream 2^31 - 1 was used
 abbrev pub refused_by : Option ConnFault → Option ℕ → Bool → Option ConnFault
@@ -51,3 +51,7 @@ opened s fields last = record s {
   size_update = told_update s.size_update;
   queued = s.queued ++ bytes_of (header_frames s fields last);
 }
+
+-- what `open_stream` leaves and answers: the number of the stream
+abbrev pub Opens : Session → List Field → Bool → Session → Result ℕ ConnFault → Type 0
+Opens old fields last new r = AnswersAt (refusal old) old (opened old fields last) (next_id old) new r

@@ -5,6 +5,7 @@ use Rattle.rx_h2frame.specs.declared.kind.Kind.TheVariants.{Data, ResetStream, W
 use Rattle.rx_h2frame.specs.Write.{Out, out_bytes, four}
 use Rattle.rx_h2conn.specs.declared.fault.ConnFault.{ConnFault}
 use Rattle.rx_h2conn.specs.declared.fault.ConnFault.TheVariants.{NoMemory}
+use Rattle.rx_h2conn.specs.declared.output.Framing.{Framing}
 use Rattle.rx_h2conn.specs.declared.stream.Stream.{Stream}
 use Rattle.rx_h2conn.specs.Session.{Session}
 use Rattle.rx_h2conn.specs.Window.{room, spent}
@@ -19,6 +20,10 @@ frames_of (suc most) first later flags ending id bytes =
     if nat_lt 16384 (length bytes)
     then record { kind = first; flags = flags; stream = id; body = take 16384 bytes } ∷ frames_of most later later 0 ending id (drop 16384 bytes)
     else record { kind = first; flags = flags + ending; stream = id; body = bytes } ∷ []
+
+-- bytes in the frames that a framing asks for
+abbrev pub framed : Framing → List ℕ → List Out
+framed framing bytes = frames_of (length bytes + 1) framing.first framing.later framing.flags framing.ending framing.stream bytes
 
 abbrev pub end_stream : Bool → ℕ
 end_stream last = if last then 1 else 0
@@ -57,6 +62,10 @@ AnswersAt (Some e) old want value new r = (new ≡ old) × (r ≡ Err e)
 AnswersAt None old want value new (Ok n) = (new ≡ want) × (n ≡ value)
 AnswersAt None old want value new (Err e) = (new ≡ old) × (e ≡ NoMemory)
 
+-- what `send` leaves and answers: how many bytes of the piece it took
+abbrev pub Sends : Session → ℕ → List ℕ → Bool → Session → Result ℕ ConnFault → Type 0
+Sends old id piece last new r = AnswersAt old.fault old (sent old id piece last) (allowed old id (length piece)) new r
+
 -- RST_STREAM (RFC 9113 6.4)
 abbrev pub reset_frame : ℕ → ℕ → Out
 reset_frame id code = record { kind = ResetStream; flags = 0; stream = id; body = four code }
@@ -71,6 +80,10 @@ reset s id code = record s {
   streams = slice_set s.streams (id / 2) (given_up (stream_at s id));
   queued = s.queued ++ out_bytes (reset_frame id code);
 }
+
+-- what `reset` leaves and answers
+abbrev pub Resets : Session → ℕ → ℕ → Session → Result (Unit {0}) ConnFault → Type 0
+Resets old id code new r = AnswersAt old.fault old (reset old id code) tt new r
 
 -- the credit that is due: on the connection, and then on each stream
 abbrev pub update_frame : ℕ → ℕ → Out

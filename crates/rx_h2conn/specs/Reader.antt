@@ -17,6 +17,10 @@ Reads old new want (Ok _) = (new ≡ want) × (want.state.fault ≡ None)
 Reads old new want (Err NoMemory) = Keeps old.state new.state
 Reads old new want (Err e) = (new ≡ want) × (want.state.fault ≡ Some e)
 
+-- A reader does this step: it leaves and tells what the step makes of what it had read.
+abbrev pub ReadsBy : (Reading → Reading) → Reader → Reader → Result (Unit {0}) ConnFault → Type 0
+ReadsBy step old new r = Reads (reading_of old) (reading_of new) (step (reading_of old)) r
+
 -- so many bytes are lacking to the next frame
 pub record IsReady (r : Reading) (lacking : ℕ) : Type 0 where
   pub fault : r.state.fault ≡ None

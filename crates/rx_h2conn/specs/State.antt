@@ -37,6 +37,10 @@ Does old new want (Ok _) = (new ≡ want) × (want.fault ≡ None)
 Does old new want (Err NoMemory) = Keeps old new
 Does old new want (Err e) = (new ≡ want) × (want.fault ≡ Some e)
 
+-- A machine does this step: it leaves and tells what the step makes of the state that it had.
+abbrev pub DoesBy : (Session → Session) → Machine → Machine → Result (Unit {0}) ConnFault → Type 0
+DoesBy step old new r = Does (state_of old) (state_of new) (step (state_of old)) r
+
 -- what holds of a call unless memory ran out in it
 abbrev pub UnlessStarved : {A : Type 0} → Result A ConnFault → Type 0 → Type 0
 UnlessStarved (Err NoMemory) P = Unit {0}

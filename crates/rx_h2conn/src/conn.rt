@@ -8,8 +8,8 @@ ghost use Rattle.rx_h2conn.specs.Conn.{started};
 ghost use Rattle.rx_h2conn.specs.Emitted.{bytes_of};
 ghost use Rattle.rx_h2conn.specs.Event.{Hands};
 ghost use Rattle.rx_h2conn.specs.History.{Call, run, bytewise, SameRuns, all_given, emitted, all_emitted};
-ghost use Rattle.rx_h2conn.specs.Open.{refusal, next_id, opened};
-ghost use Rattle.rx_h2conn.specs.Output.{AnswersAt, allowed, sent, reset, output, emptied};
+ghost use Rattle.rx_h2conn.specs.Open.{Opens};
+ghost use Rattle.rx_h2conn.specs.Output.{Sends, Resets, output, emptied};
 ghost use Rattle.rx_h2conn.specs.Parts.{part_of, all_parts};
 ghost use Rattle.rx_h2conn.specs.Blocks.{WritesEachBlock};
 ghost use Rattle.rx_h2conn.specs.Carried.{bytes_on, all_written, bytes_in};
@@ -115,26 +115,35 @@ impl Conn {
         ensures is { IfOk result (λ conn. conn ≡ started) }
 
         // However the received bytes are cut, with each other call at the same place of them, the answers are the same.
-        ensures any_cutting { IfOk result (λ conn. (a b : List Call) → bytewise a ≡ bytewise b → SameRuns conn a b) }
+        ensures any_cutting { IfOk result (λ conn. (a b : List Call) →
+            bytewise a ≡ bytewise b → SameRuns conn a b) }
 
         // What was given out, with what is still queued, is what was queued first and the frames of the calls.
-        ensures output { IfOk result (λ conn. (calls : List Call) → all_given conn calls ++ (run conn calls).state.queued ≡ conn.state.queued ++ bytes_of (all_emitted conn calls)) }
+        ensures output { IfOk result (λ conn. (calls : List Call) →
+            all_given conn calls ++ (run conn calls).state.queued
+            ≡ conn.state.queued ++ bytes_of (all_emitted conn calls)) }
 
         // Of these, the frames of a stream are its headers, then what `send` took with the end, and its reset.
-        ensures streams { IfOk result (λ conn. (id : ℕ) (calls : List Call) → part_of id (all_emitted conn calls) ≡ all_parts conn id calls) }
+        ensures streams { IfOk result (λ conn. (id : ℕ) (calls : List Call) →
+            part_of id (all_emitted conn calls) ≡ all_parts conn id calls) }
 
         // The header block of a stream is that of the call that opened it, whatever calls stand before and after.
         ensures blocks { IfOk result WritesEachBlock }
 
         // The bytes of a stream are those that `send` took and wrote, in their order.
-        ensures bytes { IfOk result (λ conn. (id : ℕ) (calls : List Call) → bytes_on id (all_emitted conn calls) ≡ all_written conn id calls) }
+        ensures bytes { IfOk result (λ conn. (id : ℕ) (calls : List Call) →
+            bytes_on id (all_emitted conn calls) ≡ all_written conn id calls) }
 
         // Those of all streams never pass the window of the connection: what it is at first, and what the server allowed more.
-        ensures window { IfOk result (λ conn. (calls : List Call) → length (bytes_in (all_emitted conn calls)) ≤ conn.state.send + all_granted conn 0 calls) }
+        ensures window { IfOk result (λ conn. (calls : List Call) →
+            length (bytes_in (all_emitted conn calls))
+            ≤ conn.state.send + all_granted conn 0 calls) }
 
         // What a call writes of a stream never passes what the stream's own window then lets through, in each run whose
         // calls of `send` are on streams that are held.
-        ensures stream_window { IfOk result (λ conn. (id : ℕ) (calls : List Call) (last : Call) → AllSendHeld conn (calls ++ last ∷ []) → length (bytes_on id (emitted (run conn calls) last)) ≤ window_left conn id calls) }
+        ensures stream_window { IfOk result (λ conn. (id : ℕ) (calls : List Call) (last : Call) →
+            AllSendHeld conn (calls ++ last ∷ []) →
+            length (bytes_on id (emitted (run conn calls) last)) ≤ window_left conn id calls) }
 
         // What is told of a stream that the client holds is its part of the received bytes, whatever calls stand between.
         ensures heard { IfOk result (λ conn. (calls : List Call) → Hears conn calls) }
@@ -154,7 +163,7 @@ impl Conn {
     /// was opened; `NoMemory`, and then nothing has changed.
     pub fn open_stream(&mut self, headers: &[Header], last: bool) -> Result<u32, ConnFault>
         requires { All IsWritable headers.now }
-        ensures answers { AnswersAt (refusal self.old.state) self.old.state (opened self.old.state (views headers.now) last) (next_id self.old.state) self.new.state result }
+        ensures answers { Opens self.old.state (views headers.now) last self.new.state result }
         ensures rest { self.new.rest ≡ self.old.rest }
         ensures held { IfOk result (λ id. IsHeld self.new.state id last) }
     {
@@ -168,9 +177,10 @@ impl Conn {
     /// Errors: the connection's fault; `NoMemory`, and then nothing has changed.
     pub fn send(&mut self, stream: u32, piece: &[u8], last: bool) -> Result<usize, ConnFault>
         requires { self.old.state.fault ≡ None → IsHeld self.old.state stream false }
-        ensures answers { AnswersAt self.old.state.fault self.old.state (sent self.old.state stream piece.now last) (allowed self.old.state stream (length piece.now)) self.new.state result }
+        ensures answers { Sends self.old.state stream piece.now last self.new.state result }
         ensures rest { self.new.rest ≡ self.old.rest }
-        ensures held { IfOk result (λ n. IsHeld self.new.state stream (last && (n == length piece.now))) }
+        ensures held { IfOk result (λ n.
+            IsHeld self.new.state stream (last && (n == length piece.now))) }
     {
         self.reader.send(stream, piece, last)
     }
@@ -181,8 +191,9 @@ impl Conn {
     /// Errors: the connection's fault; `NoMemory`, and then nothing has changed.
     pub fn reset(&mut self, stream: u32, code: u32) -> Result<(), ConnFault>
         requires opened { self.old.state.fault ≡ None → is_open self.old.state stream ≡ true }
-        requires kept { self.old.state.fault ≡ None → (stream_at self.old.state stream).client_reset ≡ false }
-        ensures answers { AnswersAt self.old.state.fault self.old.state (reset self.old.state stream code) tt self.new.state result }
+        requires kept { self.old.state.fault ≡ None →
+            (stream_at self.old.state stream).client_reset ≡ false }
+        ensures answers { Resets self.old.state stream code self.new.state result }
         ensures rest { self.new.rest ≡ self.old.rest }
     {
         self.reader.reset(stream, code)

@@ -2,7 +2,7 @@
 
 ghost use Rattle.std.specs.Prelude.{◌≡◌, ◌+◌, ◌≤◌, ◌++◌, true, false, None, OnOk, OnErr, IfErr};
 ghost use Rattle.rx_h2conn.specs.declared.fault.ConnFault.TheVariants.{NoMemory};
-ghost use Rattle.rx_h2conn.specs.State.{state_of, Does};
+ghost use Rattle.rx_h2conn.specs.State.{state_of, DoesBy};
 ghost use Rattle.rx_h2conn.specs.Streams.{is_dropped, is_open, stream_at};
 ghost use Rattle.rx_h2conn.specs.Data.{passes_window, on_data, taken_data, carried, data_events, owe};
 ghost use Rattle.rx_h2conn.specs.Sound.{IsSound};
@@ -51,7 +51,10 @@ impl Machine {
 
     /// Tells the bytes, where there are any or the stream ends.
     fn tell_data(&mut self, f: &Frame, credit: u32, last: bool) -> Result<(), ConnFault>
-        ensures ok { OnOk result (state_of self.new ≡ record (state_of self.old) { events = self.old.events.items ++ data_events f.now.stream f.now.body.now credit last }) }
+        ensures ok { OnOk result (state_of self.new ≡ record (state_of self.old) {
+          events = self.old.events.items
+              ++ data_events f.now.stream f.now.body.now credit last;
+        }) }
         ensures err { OnErr result (state_of self.new ≡ state_of self.old) }
         ensures none { IfErr result (λ e. e ≡ NoMemory) }
     {
@@ -85,7 +88,8 @@ impl Machine {
         requires size { f.now.size ≤ 16384 }
         requires window { passes_window (state_of self.old) (frame_view f.now) ≡ false }
         requires kept { is_dropped (stream_at (state_of self.old) f.now.stream) ≡ false }
-        ensures { Does (state_of self.old) (state_of self.new) (taken_data (state_of self.old) (frame_view f.now) (is_set f.now.flags 1)) result }
+        ensures { DoesBy (λ s. taken_data s (frame_view f.now) (is_set f.now.flags 1))
+            self.old self.new result }
     {
         let last = is_set(f.flags, END_STREAM);
         let size = f.size as u32;
@@ -110,7 +114,7 @@ impl Machine {
         requires none { self.old.fault ≡ None }
         requires sound { IsSound (state_of self.old) }
         requires size { f.now.size ≤ 16384 }
-        ensures { Does (state_of self.old) (state_of self.new) (on_data (state_of self.old) (frame_view f.now)) result }
+        ensures { DoesBy (λ s. on_data s (frame_view f.now)) self.old self.new result }
     {
         if self.passes_window(f) {
             return self.fail(FLOW_CONTROL_ERROR);
@@ -130,7 +134,8 @@ impl Machine {
     #[tactic(auto, unfolding(crate::specs::Data::owe))]
     pub fn owe(&mut self, id: u32, credit: u32)
         requires connection { self.old.owed + credit ≤ 65535 }
-        requires stream { is_open (state_of self.old) id ≡ true → (stream_at (state_of self.old) id).owed + credit ≤ 1048576 }
+        requires stream { is_open (state_of self.old) id ≡ true →
+            (stream_at (state_of self.old) id).owed + credit ≤ 1048576 }
         ensures { state_of self.new ≡ owe (state_of self.old) id credit }
     {
         self.owed += credit;

@@ -1,7 +1,7 @@
 //! The ends of streams and of the connection that the server tells (RFC 9113 6.4, 6.8).
 
 ghost use Rattle.std.specs.Prelude.{◌≡◌, ◌≤◌, length, None};
-ghost use Rattle.rx_h2conn.specs.State.{state_of, Does};
+ghost use Rattle.rx_h2conn.specs.State.{DoesBy};
 ghost use Rattle.rx_h2conn.specs.Ends.{on_reset, on_go_away};
 ghost use Rattle.rx_h2frame.specs.Seen.{frame_view};
 
@@ -23,7 +23,7 @@ impl Machine {
     pub fn on_reset(&mut self, f: &Frame) -> Result<(), ConnFault>
         requires none { self.old.fault ≡ None }
         requires body { 4 ≤ length f.now.body.now }
-        ensures { Does (state_of self.old) (state_of self.new) (on_reset (state_of self.old) (frame_view f.now)) result }
+        ensures { DoesBy (λ s. on_reset s (frame_view f.now)) self.old self.new result }
     {
         if self.is_interrupted() || !self.is_open(f.stream) {
             return self.fail(PROTOCOL_ERROR);
@@ -67,7 +67,7 @@ impl Machine {
     pub fn on_go_away(&mut self, f: &Frame) -> Result<(), ConnFault>
         requires none { self.old.fault ≡ None }
         requires body { 4 ≤ length f.now.body.now }
-        ensures { Does (state_of self.old) (state_of self.new) (on_go_away (state_of self.old) (frame_view f.now)) result }
+        ensures { DoesBy (λ s. on_go_away s (frame_view f.now)) self.old self.new result }
     {
         if self.is_interrupted() {
             return self.fail(PROTOCOL_ERROR);

@@ -47,5 +47,9 @@ impl Model for Waiting {
 
     ghost use Rattle.rx_h2conn.specs.Event.{event_view};
 
-    ghost view = { λ w. record { event = event_view w.event; stream = w.stream; credit = w.credit } };
+    ghost view = { λ w. record {
+      event = event_view w.event;
+      stream = w.stream;
+      credit = w.credit;
+    } };
 }

@@ -1,11 +1,9 @@
 //! Header blocks that come in, in one frame or several (RFC 9113 4.3, 6.2, 6.10).
 
-ghost use Rattle.std.specs.Prelude.{◌≡◌, ◌+◌, ◌≤◌, ◌++◌, None, OnOk, OnErr, length};
-ghost use Rattle.rx_hpack.specs.Header.{Field, views};
-ghost use Rattle.rx_hpack.specs.Decoder.{Decodes, seen};
-ghost use Rattle.rx_h2conn.specs.State.{state_of, Does};
-ghost use Rattle.rx_h2conn.specs.Headers.{told_headers, told_block, headers_of, ended, on_headers, continued, on_continuation};
-ghost use Rattle.rx_h2conn.specs.Streams.{is_open, is_dropped, stream_at};
+ghost use Rattle.std.specs.Prelude.{◌≡◌, ◌+◌, None};
+ghost use Rattle.rx_hpack.specs.Header.{views};
+ghost use Rattle.rx_h2conn.specs.State.{DoesBy};
+ghost use Rattle.rx_h2conn.specs.Headers.{told_headers, ended, on_headers, continued, on_continuation};
 ghost use Rattle.rx_h2frame.specs.Seen.{frame_view};
 
 use crate::event::{ConnEvent, Waiting};
@@ -38,7 +36,12 @@ impl Model for Sequence {
 
     ghost Value = { Block };
 
-    ghost view = { λ s. record { stream = s.stream; last = s.last; block = s.block.items; count = s.count } };
+    ghost view = { λ s. record {
+      stream = s.stream;
+      last = s.last;
+      block = s.block.items;
+      count = s.count;
+    } };
 }
 
 impl Machine {
@@ -46,7 +49,7 @@ impl Machine {
     #[tactic(auto, unfolding(crate::specs::Headers::told_headers))]
     fn tell_headers(&mut self, id: u32, list: Vec<Header>, last: bool) -> Result<(), ConnFault>
         requires none { self.old.fault ≡ None }
-        ensures { Does (state_of self.old) (state_of self.new) (told_headers (state_of self.old) id (views list.items) last) result }
+        ensures { DoesBy (λ s. told_headers s id (views list.items) last) self.old self.new result }
     {
         if !self.is_open(id) {
             return self.fail(PROTOCOL_ERROR);
@@ -77,7 +80,7 @@ impl Machine {
     #[tactic(auto, unfolding(crate::specs::Headers::ended))]
     fn end_block(&mut self, id: u32, block: &[u8], last: bool) -> Result<(), ConnFault>
         requires none { self.old.fault ≡ None }
-        ensures { Does (state_of self.old) (state_of self.new) (ended (state_of self.old) id block.now last) result }
+        ensures { DoesBy (λ s. ended s id block.now last) self.old self.new result }
     {
         match self.decoder.block(self.alloc, block) {
             Ok(list) => self.tell_headers(id, list, last),
@@ -91,7 +94,7 @@ impl Machine {
     #[tactic(auto, unfolding(crate::specs::Headers::on_headers))]
     pub fn on_headers(&mut self, f: &Frame) -> Result<(), ConnFault>
         requires none { self.old.fault ≡ None }
-        ensures { Does (state_of self.old) (state_of self.new) (on_headers (state_of self.old) (frame_view f.now)) result }
+        ensures { DoesBy (λ s. on_headers s (frame_view f.now)) self.old self.new result }
     {
         if self.is_interrupted() {
             return self.fail(PROTOCOL_ERROR);
@@ -118,7 +121,7 @@ impl Machine {
     fn go_on(&mut self, sequence: Sequence, f: &Frame) -> Result<(), ConnFault>
         requires none { self.old.fault ≡ None }
         requires taken { self.old.sequence ≡ None }
-        ensures { Does (state_of self.old) (state_of self.new) (continued sequence (state_of self.old) (frame_view f.now)) result }
+        ensures { DoesBy (λ s. continued sequence s (frame_view f.now)) self.old self.new result }
     {
         let Sequence {
             stream,
@@ -149,7 +152,7 @@ impl Machine {
     #[tactic(auto, unfolding(crate::specs::Headers::on_continuation))]
     pub fn on_continuation(&mut self, f: &Frame) -> Result<(), ConnFault>
         requires none { self.old.fault ≡ None }
-        ensures { Does (state_of self.old) (state_of self.new) (on_continuation (state_of self.old) (frame_view f.now)) result }
+        ensures { DoesBy (λ s. on_continuation s (frame_view f.now)) self.old self.new result }
     {
         match self.sequence.take() {
             Some(sequence) => self.go_on(sequence, f),

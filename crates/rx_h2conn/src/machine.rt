@@ -2,8 +2,8 @@
 //! What each kind of frame does stands in a file of its own.
 
 ghost use Rattle.std.specs.Prelude.{◌≡◌, ◌+◌, ◌<◌, ◌≤◌, ◌^◌, ◌/◌, length, slice_set, true, None};
-ghost use Rattle.rx_h2conn.specs.State.{state_of, Does};
-ghost use Rattle.rx_h2conn.specs.Streams.{failed, number, number_31, is_open, is_interrupted, is_dropped, stream_at, passed};
+ghost use Rattle.rx_h2conn.specs.State.{state_of, DoesBy};
+ghost use Rattle.rx_h2conn.specs.Streams.{failed, number, number_31, is_open, is_interrupted, stream_at, passed};
 ghost use Rattle.rx_h2conn.specs.Steps.{took};
 ghost use Rattle.rx_h2conn.specs.Sound.{IsSound};
 ghost use Rattle.rx_h2frame.specs.Frame.{IsSound as IsSoundFrame};
@@ -84,7 +84,7 @@ pub fn number_31(bytes: &[u8]) -> u32
 impl Machine {
     /// Breaks the connection off for good.
     pub fn fail(&mut self, code: u32) -> Result<(), ConnFault>
-        ensures { Does (state_of self.old) (state_of self.new) (failed (state_of self.old) code) result }
+        ensures { DoesBy (λ s. failed s code) self.old self.new result }
     {
         self.fault = Some(ConnFault::Protocol(code));
         Err(ConnFault::Protocol(code))
@@ -115,7 +115,9 @@ impl Machine {
     /// Writes the stream of a number that is open.
     pub fn set_stream(&mut self, id: u32, stream: Stream)
         requires { is_open (state_of self.old) id ≡ true }
-        ensures { state_of self.new ≡ record (state_of self.old) { streams = slice_set (state_of self.old).streams (id / 2) stream } }
+        ensures { state_of self.new ≡ record (state_of self.old) {
+          streams = slice_set (state_of self.old).streams (id / 2) stream;
+        } }
     {
         self.streams.set((id / 2) as usize, stream);
     }
@@ -124,7 +126,7 @@ impl Machine {
     #[tactic(auto, unfolding(crate::specs::Streams::passed))]
     pub fn pass(&mut self) -> Result<(), ConnFault>
         requires none { self.old.fault ≡ None }
-        ensures { Does (state_of self.old) (state_of self.new) (passed (state_of self.old)) result }
+        ensures { DoesBy passed self.old self.new result }
     {
         if self.is_interrupted() {
             return self.fail(PROTOCOL_ERROR);
@@ -137,7 +139,7 @@ impl Machine {
         requires none { self.old.fault ≡ None }
         requires sound { IsSound (state_of self.old) }
         requires frame { IsSoundFrame 16384 (frame_view f.now) }
-        ensures { Does (state_of self.old) (state_of self.new) (took (state_of self.old) (frame_view f.now)) result }
+        ensures { DoesBy (λ s. took s (frame_view f.now)) self.old self.new result }
     {
         match f.kind {
             Kind::Data => self.on_data(f),

@@ -1,11 +1,10 @@
 //! Streams that the client opens (RFC 9113 5.1.1, 8.1).
 
-ghost use Rattle.std.specs.Prelude.{◌≡◌, ◌<◌, ◌≤◌, ◌^◌, ◌++◌, length, IfOk, OnOk, OnErr};
+ghost use Rattle.std.specs.Prelude.{◌≡◌, ◌<◌, length, IfOk, OnOk, OnErr};
 ghost use Rattle.std.specs.List.{All};
 ghost use Rattle.rx_hpack.specs.Header.{views};
 ghost use Rattle.rx_hpack.specs.Encoder.{IsWritable};
-ghost use Rattle.rx_h2conn.specs.Output.{AnswersAt};
-ghost use Rattle.rx_h2conn.specs.Open.{refusal, header_block, told_update, next_id, opened};
+ghost use Rattle.rx_h2conn.specs.Open.{refusal, header_block, told_update, next_id, opened, Opens};
 ghost use Rattle.rx_h2conn.specs.State.{state_of};
 
 use crate::fault::ConnFault;
@@ -55,7 +54,8 @@ impl Machine {
     /// The block of a header list, behind a size update where that is due.
     fn header_block(&self, headers: &[Header]) -> Result<Vec<u8>, AllocError>
         requires { All IsWritable headers.now }
-        ensures { IfOk result (λ block. block.items ≡ header_block self.now.size_update (views headers.now)) }
+        ensures { IfOk result (λ block.
+            block.items ≡ header_block self.now.size_update (views headers.now)) }
     {
         let block = Encoder::new().block(self.alloc, headers)?;
         match self.size_update {
@@ -74,7 +74,8 @@ impl Machine {
     fn add_stream(&mut self, headers: &[Header], last: bool) -> Result<u32, AllocError>
         requires writable { All IsWritable headers.now }
         requires room { length (state_of self.old).streams < 1073741824 }
-        ensures ok { OnOk result (state_of self.new ≡ opened (state_of self.old) (views headers.now) last) }
+        ensures ok { OnOk result
+            (state_of self.new ≡ opened (state_of self.old) (views headers.now) last) }
         ensures id { IfOk result (λ id. id ≡ next_id (state_of self.old)) }
         ensures err { OnErr result (state_of self.new ≡ state_of self.old) }
     {
@@ -104,7 +105,7 @@ impl Machine {
     /// Opens the next stream by a header list, and ends this side of it where nothing follows.
     pub fn open_stream(&mut self, headers: &[Header], last: bool) -> Result<u32, ConnFault>
         requires { All IsWritable headers.now }
-        ensures { AnswersAt (refusal (state_of self.old)) (state_of self.old) (opened (state_of self.old) (views headers.now) last) (next_id (state_of self.old)) (state_of self.new) result }
+        ensures { Opens (state_of self.old) (views headers.now) last (state_of self.new) result }
     {
         if let Some(fault) = self.refusal() {
             return Err(fault);

@@ -2,11 +2,10 @@
 //!
 //! A byte that is sent is copied once, into the queue.
 
-ghost use Rattle.std.specs.Prelude.{◌≡◌, ℕ, List, true, false, None, min, not, ◌&&◌, ◌||◌, ◌==◌, nat_lt, ◌+◌, ◌*◌, ◌<◌, ◌≤◌, ◌^◌, ◌++◌, length, take, map, OnOk, OnErr, IfOk};
-ghost use Rattle.std.specs.List.{All};
+ghost use Rattle.std.specs.Prelude.{◌≡◌, ℕ, List, true, None, ◌&&◌, ◌||◌, ◌==◌, ◌+◌, ◌*◌, ◌<◌, ◌≤◌, ◌^◌, ◌++◌, length, OnOk, OnErr, IfOk};
 ghost use Rattle.rx_h2frame.specs.Write.{four, out_bytes};
 ghost use Rattle.rx_h2conn.specs.Emitted.{bytes_of};
-ghost use Rattle.rx_h2conn.specs.Output.{frames_of, end_stream, data_frames, allowed, ends, charged, send_frames, credit_frames, stream_credits, told, output, emptied, sent, reset, reset_frame, AnswersAt};
+ghost use Rattle.rx_h2conn.specs.Output.{framed, end_stream, allowed, ends, charged, send_frames, credit_frames, stream_credits, output, emptied, sent, reset, reset_frame, Sends, Resets};
 ghost use Rattle.rx_h2conn.specs.State.{state_of};
 ghost use Rattle.rx_h2conn.specs.Streams.{is_open, stream_at};
 ghost use Rattle.rx_h2conn.specs.Window.{room};
@@ -40,7 +39,8 @@ pub struct Framing {
 fn write_frames(framing: Framing, bytes: &[u8], out: &mut Vec<u8>) -> Result<(), AllocError>
     requires stream { framing.stream < 2 ^ 31 }
     requires flags { framing.flags + framing.ending < 256 }
-    ensures ok { OnOk result (out.new.items ≡ out.old.items ++ bytes_of (frames_of (length bytes.now + 1) framing.first framing.later framing.flags framing.ending framing.stream bytes.now)) }
+    ensures ok { OnOk result
+        (out.new.items ≡ out.old.items ++ bytes_of (framed framing bytes.now)) }
     ensures front { (more : List ℕ) × (out.new.items ≡ out.old.items ++ more) }
 {
     let mut kind = framing.first;
@@ -73,7 +73,8 @@ fn write_frames(framing: Framing, bytes: &[u8], out: &mut Vec<u8>) -> Result<(),
 pub fn put_frames(framing: Framing, bytes: &[u8], out: &mut Vec<u8>) -> Result<(), AllocError>
     requires stream { framing.stream < 2 ^ 31 }
     requires flags { framing.flags + framing.ending < 256 }
-    ensures ok { OnOk result (out.new.items ≡ out.old.items ++ bytes_of (frames_of (length bytes.now + 1) framing.first framing.later framing.flags framing.ending framing.stream bytes.now)) }
+    ensures ok { OnOk result
+        (out.new.items ≡ out.old.items ++ bytes_of (framed framing bytes.now)) }
     ensures err { OnErr result (out.new.items ≡ out.old.items) }
 {
     let kept = out.len();
@@ -139,7 +140,8 @@ fn put_reset(id: u32, code: u32, out: &mut Vec<u8>) -> Result<(), AllocError>
 /// Writes the credit of streams behind so many others.
 fn write_credits(before: usize, streams: &[Stream], out: &mut Vec<u8>) -> Result<(), AllocError>
     requires { before + length streams.now ≤ 1073741824 }
-    ensures ok { OnOk result (out.new.items ≡ out.old.items ++ bytes_of (stream_credits (before * 2 + 1) streams.now)) }
+    ensures ok { OnOk result (out.new.items
+        ≡ out.old.items ++ bytes_of (stream_credits (before * 2 + 1) streams.now)) }
     ensures front { (more : List ℕ) × (out.new.items ≡ out.old.items ++ more) }
 {
     let mut id = before as u32 * 2 + 1;
@@ -153,7 +155,8 @@ fn write_credits(before: usize, streams: &[Stream], out: &mut Vec<u8>) -> Result
 /// Writes all credit that is due, or nothing.
 fn put_credits(owed: u32, streams: &Streams, out: &mut Vec<u8>) -> Result<(), AllocError>
     requires { length streams.now ≤ 1073741824 }
-    ensures ok { OnOk result (out.new.items ≡ out.old.items ++ bytes_of (credit_frames 0 owed ++ stream_credits 1 streams.now)) }
+    ensures ok { OnOk result (out.new.items
+        ≡ out.old.items ++ bytes_of (credit_frames 0 owed ++ stream_credits 1 streams.now)) }
     ensures err { OnErr result (out.new.items ≡ out.old.items) }
 {
     let kept = out.len();
@@ -220,7 +223,10 @@ impl Machine {
     fn put_data(&mut self, id: u32, piece: &[u8], last: bool) -> Result<(), AllocError>
         requires open { is_open (state_of self.old) id ≡ true }
         requires id { id < 2 ^ 31 }
-        ensures ok { OnOk result (state_of self.new ≡ record (state_of self.old) { queued = self.old.queued.items ++ bytes_of (send_frames (state_of self.old) id piece.now last) }) }
+        ensures ok { OnOk result (state_of self.new ≡ record (state_of self.old) {
+          queued = self.old.queued.items
+              ++ bytes_of (send_frames (state_of self.old) id piece.now last);
+        }) }
         ensures err { OnErr result (state_of self.new ≡ state_of self.old) }
     {
         let count = self.allowed(id, piece.len());
@@ -267,7 +273,7 @@ impl Machine {
     pub fn send(&mut self, id: u32, piece: &[u8], last: bool) -> Result<usize, ConnFault>
         requires open { self.old.fault ≡ None → is_open (state_of self.old) id ≡ true }
         requires id { self.old.fault ≡ None → id < 2 ^ 31 }
-        ensures { AnswersAt self.old.fault (state_of self.old) (sent (state_of self.old) id piece.now last) (allowed (state_of self.old) id (length piece.now)) (state_of self.new) result }
+        ensures { Sends (state_of self.old) id piece.now last (state_of self.new) result }
     {
         if let Some(fault) = self.fault {
             return Err(fault);
@@ -300,7 +306,7 @@ impl Machine {
     pub fn reset(&mut self, id: u32, code: u32) -> Result<(), ConnFault>
         requires open { self.old.fault ≡ None → is_open (state_of self.old) id ≡ true }
         requires id { self.old.fault ≡ None → id < 2 ^ 31 }
-        ensures { AnswersAt self.old.fault (state_of self.old) (reset (state_of self.old) id code) tt (state_of self.new) result }
+        ensures { Resets (state_of self.old) id code (state_of self.new) result }
     {
         if let Some(fault) = self.fault {
             return Err(fault);

@@ -1,7 +1,7 @@
 //! PING (RFC 9113 6.7): what the server asks is answered.
 
 ghost use Rattle.std.specs.Prelude.{◌≡◌, ◌≤◌, length, None};
-ghost use Rattle.rx_h2conn.specs.State.{state_of, Does};
+ghost use Rattle.rx_h2conn.specs.State.{DoesBy};
 ghost use Rattle.rx_h2conn.specs.Ping.{on_ping};
 ghost use Rattle.rx_h2frame.specs.Seen.{frame_view};
 
@@ -19,7 +19,7 @@ impl Machine {
     pub fn on_ping(&mut self, f: &Frame) -> Result<(), ConnFault>
         requires none { self.old.fault ≡ None }
         requires body { length f.now.body.now ≤ 16384 }
-        ensures { Does (state_of self.old) (state_of self.new) (on_ping (state_of self.old) (frame_view f.now)) result }
+        ensures { DoesBy (λ s. on_ping s (frame_view f.now)) self.old self.new result }
     {
         let is_ack = is_set(f.flags, ACK);
         if !is_ack && MOST_ACKS <= self.acks {

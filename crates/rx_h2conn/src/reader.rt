@@ -2,15 +2,15 @@
 //!
 //! A byte of DATA is copied twice, into the rest and from there into its event.
 
-ghost use Rattle.std.specs.Prelude.{◌≡◌, ◌+◌, ◌<◌, ◌≤◌, true, length, take, None, Ok, OnOk, OnErr, IfOk};
+ghost use Rattle.std.specs.Prelude.{◌≡◌, ◌<◌, ◌≤◌, true, length, take, None, Ok, OnOk, OnErr, IfOk};
 ghost use Rattle.std.specs.List.{All};
 ghost use Rattle.rx_hpack.specs.Header.{views};
 ghost use Rattle.rx_hpack.specs.Encoder.{IsWritable};
-ghost use Rattle.rx_h2conn.specs.Open.{refusal, next_id, opened};
-ghost use Rattle.rx_h2conn.specs.Output.{AnswersAt, allowed, sent, reset, output, emptied};
+ghost use Rattle.rx_h2conn.specs.Open.{Opens};
+ghost use Rattle.rx_h2conn.specs.Output.{Sends, Resets, output, emptied};
 ghost use Rattle.rx_h2conn.specs.State.{state_of};
 ghost use Rattle.rx_h2conn.specs.Streams.{is_open};
-ghost use Rattle.rx_h2conn.specs.Reader.{reading_of, Reads, IsReady, IsConn};
+ghost use Rattle.rx_h2conn.specs.Reader.{reading_of, ReadsBy, IsReady, IsConn};
 ghost use Rattle.rx_h2conn.specs.Steps.{code_of, settled, more, fed, broken, Feeds, first, after_event};
 ghost use Rattle.rx_h2conn.specs.Event.{Hands};
 
@@ -51,7 +51,7 @@ impl Reader {
         requires ready { IsReady (reading_of self.old) self.old.lacking }
         requires some { 0 < length front.now }
         requires few { length front.now ≤ self.old.lacking }
-        ensures reads { Reads (reading_of self.old) (reading_of self.new) (settled (more (reading_of self.old) front.now)) result }
+        ensures reads { ReadsBy (λ r. settled (more r front.now)) self.old self.new result }
         ensures ready { OnOk result (IsReady (reading_of self.new) self.new.lacking) }
     {
         self.rest.extend_from_slice(front)?;
@@ -76,7 +76,7 @@ impl Reader {
     /// Takes the next bytes that the server sent.
     fn take_piece(&mut self, piece: &[u8]) -> Result<(), ConnFault>
         requires ready { IsReady (reading_of self.old) self.old.lacking }
-        ensures reads { Reads (reading_of self.old) (reading_of self.new) (fed (reading_of self.old) piece.now) result }
+        ensures reads { ReadsBy (λ r. fed r piece.now) self.old self.new result }
         ensures ready { OnOk result (IsReady (reading_of self.new) self.new.lacking) }
     {
         let mut left = piece;
@@ -91,7 +91,12 @@ impl Reader {
 
     /// Forgets all but what was told and queued before.
     fn break_off(&mut self, told: usize, queued: usize)
-        ensures { reading_of self.new ≡ record (broken (reading_of self.old)) { state = record ((broken (reading_of self.old)).state) { events = take told self.old.machine.events.items; queued = take queued self.old.machine.queued.items } } }
+        ensures { reading_of self.new ≡ record (broken (reading_of self.old)) {
+          state = record ((broken (reading_of self.old)).state) {
+            events = take told self.old.machine.events.items;
+            queued = take queued self.old.machine.queued.items;
+          };
+        } }
     {
         self.machine.fault = Some(ConnFault::NoMemory);
         self.machine.streams.clear();
@@ -161,7 +166,8 @@ impl Reader {
     pub fn open_stream(&mut self, headers: &[Header], last: bool) -> Result<u32, ConnFault>
         requires conn { IsConn (reading_of self.old) self.old.lacking }
         requires writable { All IsWritable headers.now }
-        ensures answers { AnswersAt (refusal (state_of self.old.machine)) (state_of self.old.machine) (opened (state_of self.old.machine) (views headers.now) last) (next_id (state_of self.old.machine)) (state_of self.new.machine) result }
+        ensures answers { Opens (state_of self.old.machine) (views headers.now) last
+            (state_of self.new.machine) result }
         ensures rest { self.new.rest.items ≡ self.old.rest.items }
         ensures conn { IsConn (reading_of self.new) self.new.lacking }
     {
@@ -171,8 +177,10 @@ impl Reader {
     /// Takes as many bytes as both windows allow.
     pub fn send(&mut self, id: u32, piece: &[u8], last: bool) -> Result<usize, ConnFault>
         requires conn { IsConn (reading_of self.old) self.old.lacking }
-        requires opened { self.old.machine.fault ≡ None → is_open (state_of self.old.machine) id ≡ true }
-        ensures answers { AnswersAt self.old.machine.fault (state_of self.old.machine) (sent (state_of self.old.machine) id piece.now last) (allowed (state_of self.old.machine) id (length piece.now)) (state_of self.new.machine) result }
+        requires opened { self.old.machine.fault ≡ None →
+            is_open (state_of self.old.machine) id ≡ true }
+        ensures answers { Sends (state_of self.old.machine) id piece.now last
+            (state_of self.new.machine) result }
         ensures rest { self.new.rest.items ≡ self.old.rest.items }
         ensures conn { IsConn (reading_of self.new) self.new.lacking }
     {
@@ -182,8 +190,10 @@ impl Reader {
     /// Gives a stream up.
     pub fn reset(&mut self, id: u32, code: u32) -> Result<(), ConnFault>
         requires conn { IsConn (reading_of self.old) self.old.lacking }
-        requires opened { self.old.machine.fault ≡ None → is_open (state_of self.old.machine) id ≡ true }
-        ensures answers { AnswersAt self.old.machine.fault (state_of self.old.machine) (reset (state_of self.old.machine) id code) tt (state_of self.new.machine) result }
+        requires opened { self.old.machine.fault ≡ None →
+            is_open (state_of self.old.machine) id ≡ true }
+        ensures answers { Resets (state_of self.old.machine) id code
+            (state_of self.new.machine) result }
         ensures rest { self.new.rest.items ≡ self.old.rest.items }
         ensures conn { IsConn (reading_of self.new) self.new.lacking }
     {
@@ -194,7 +204,8 @@ impl Reader {
     pub fn take_output(&mut self) -> Result<Vec<u8>, AllocError>
         requires conn { IsConn (reading_of self.old) self.old.lacking }
         ensures ok { IfOk result (λ bytes. bytes.items ≡ output (state_of self.old.machine)) }
-        ensures after { OnOk result (state_of self.new.machine ≡ emptied (state_of self.old.machine)) }
+        ensures after { OnOk result
+            (state_of self.new.machine ≡ emptied (state_of self.old.machine)) }
         ensures err { OnErr result (state_of self.new.machine ≡ state_of self.old.machine) }
         ensures rest { self.new.rest.items ≡ self.old.rest.items }
         ensures conn { IsConn (reading_of self.new) self.new.lacking }

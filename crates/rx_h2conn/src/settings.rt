@@ -3,9 +3,9 @@
 //! Of its entries SETTINGS_INITIAL_WINDOW_SIZE shifts the windows of all streams. SETTINGS_MAX_FRAME_SIZE is judged and
 //! needs no more, since no frame that is sent has more than 16,384 bytes, the least that it may be.
 
-ghost use Rattle.std.specs.Prelude.{◌≡◌, ◌≤◌, ◌%◌, length, None, List, ℕ};
+ghost use Rattle.std.specs.Prelude.{◌≡◌, ◌%◌, length, None};
 ghost use Rattle.std.specs.List.{list_any};
-ghost use Rattle.rx_h2conn.specs.State.{state_of, Does};
+ghost use Rattle.rx_h2conn.specs.State.{state_of, DoesBy};
 ghost use Rattle.rx_h2conn.specs.Settings.{settings_of, asks, asked, blank_asked, widens, asked_update, on_entries, on_settings};
 ghost use Rattle.rx_h2conn.specs.Updates.{overflows};
 ghost use Rattle.rx_h2frame.specs.Seen.{frame_view};
@@ -142,7 +142,7 @@ impl Machine {
     #[tactic(auto, unfolding(crate::specs::Settings::on_entries))]
     fn on_entries(&mut self, all: Asked) -> Result<(), ConnFault>
         requires none { self.old.fault ≡ None }
-        ensures { Does (state_of self.old) (state_of self.new) (on_entries (state_of self.old) all) result }
+        ensures { DoesBy (λ s. on_entries s all) self.old self.new result }
     {
         if self.widens(all) {
             return self.fail(FLOW_CONTROL_ERROR);
@@ -171,7 +171,7 @@ impl Machine {
     pub fn on_settings(&mut self, f: &Frame) -> Result<(), ConnFault>
         requires none { self.old.fault ≡ None }
         requires body { length f.now.body.now % 6 ≡ 0 }
-        ensures { Does (state_of self.old) (state_of self.new) (on_settings (state_of self.old) (frame_view f.now)) result }
+        ensures { DoesBy (λ s. on_settings s (frame_view f.now)) self.old self.new result }
     {
         if is_set(f.flags, ACK) {
             return self.pass();

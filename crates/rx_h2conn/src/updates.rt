@@ -1,7 +1,7 @@
 //! WINDOW_UPDATE (RFC 9113 6.9): more may be sent, on the connection or on a stream.
 
-ghost use Rattle.std.specs.Prelude.{◌≡◌, ◌≤◌, ◌<◌, ◌^◌, length, None};
-ghost use Rattle.rx_h2conn.specs.State.{state_of, Does};
+ghost use Rattle.std.specs.Prelude.{◌≡◌, ◌≤◌, ◌<◌, length, None};
+ghost use Rattle.rx_h2conn.specs.State.{DoesBy};
 ghost use Rattle.rx_h2conn.specs.Updates.{on_window_update, on_connection_update, on_stream_update, overflows};
 ghost use Rattle.rx_h2frame.specs.Seen.{frame_view};
 
@@ -25,7 +25,7 @@ impl Machine {
     #[tactic(auto, unfolding(crate::specs::Updates::on_connection_update))]
     fn on_connection_update(&mut self, size: u32) -> Result<(), ConnFault>
         requires none { self.old.fault ≡ None }
-        ensures { Does (state_of self.old) (state_of self.new) (on_connection_update (state_of self.old) size) result }
+        ensures { DoesBy (λ s. on_connection_update s size) self.old self.new result }
     {
         if (LARGEST_WINDOW as u64) < self.send as u64 + size as u64 {
             return self.fail(FLOW_CONTROL_ERROR);
@@ -41,7 +41,7 @@ impl Machine {
     #[tactic(auto, unfolding(crate::specs::Updates::on_stream_update))]
     fn on_stream_update(&mut self, id: u32, size: u32) -> Result<(), ConnFault>
         requires none { self.old.fault ≡ None }
-        ensures { Does (state_of self.old) (state_of self.new) (on_stream_update (state_of self.old) id size) result }
+        ensures { DoesBy (λ s. on_stream_update s id size) self.old self.new result }
     {
         if !self.is_open(id) {
             return self.fail(PROTOCOL_ERROR);
@@ -78,7 +78,7 @@ impl Machine {
     pub fn on_window_update(&mut self, f: &Frame) -> Result<(), ConnFault>
         requires none { self.old.fault ≡ None }
         requires body { 4 ≤ length f.now.body.now }
-        ensures { Does (state_of self.old) (state_of self.new) (on_window_update (state_of self.old) (frame_view f.now)) result }
+        ensures { DoesBy (λ s. on_window_update s (frame_view f.now)) self.old self.new result }
     {
         let size = number_31(f.body);
         if f.stream == 0 {

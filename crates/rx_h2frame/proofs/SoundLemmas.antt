@@ -1,26 +1,17 @@
 -- A frame that is read is sound, and is the same whatever follows it.
-use Rattle.std.proofs.Common.{◌≡◌, ℕ, ◌+◌, ◌-◌, ◌≤◌, Bool, true, false, cond, not, ◌&&◌, ◌||◌, List, [], ◌∷◌, ◌++◌, length, get_or, take, drop, refl, sym, ap, subst, ◌∙◌, Ok, nat_lt, arith, length-append, length-drop, length-take}
-use Rattle.std.proofs.lemmas.Bool.{ltb-true, ltb-false, lt-ltb, le-ltb}
+use Rattle.std.proofs.Common.{◌≡◌, ℕ, ◌+◌, ◌-◌, ◌≤◌, true, false, cond, not, ◌&&◌, ◌||◌, List, [], ◌∷◌, ◌++◌, length, get_or, take, drop, refl, sym, ap, subst, ◌∙◌, Ok, nat_lt, arith, length-append, length-drop, length-take}
+use Rattle.std.proofs.lemmas.Bool.{ltb-true, ltb-false, lt-ltb, le-ltb, or_parts, not-false}
 use Rattle.std.proofs.lemmas.List.{drop-append-le, take-append-le}
 use Rattle.std.proofs.Math.ListN.{get_or-append}
 use Rattle.rx_h2frame.specs.Head.{Header, header_of, is_padded, pad_length_size, priority_size, fits_kind, is_wrong_size, is_wrong_stream}
 use Rattle.rx_h2frame.specs.Frame.{Whole, Complete, padding, is_wrong_padding, whole_of, payload_of, next, IsSound}
 use Rattle.rx_h2frame.proofs.NextLemmas.{payload_complete, next_long, next_short, next_grown}
 
-pub or_false : (a b : Bool) → (a || b) ≡ false → (a ≡ false) × (b ≡ false)
-or_false true b h = cc
-or_false false true h = cc
-or_false false false h = (refl, refl)
-
-pub not_false : (a : Bool) → not a ≡ false → a ≡ true
-not_false true h = refl
-not_false false h = cc
-
 pub right_size : (largest : ℕ) (h : Header) → is_wrong_size largest h ≡ false → (h.size ≤ largest) × (pad_length_size h + priority_size h ≤ h.size) × (fits_kind h.kind h.flags h.size ≡ true)
 right_size largest h e =
-    let a = or_false (nat_lt largest h.size || nat_lt h.size (pad_length_size h + priority_size h)) (not (fits_kind h.kind h.flags h.size)) e in
-    let b = or_false (nat_lt largest h.size) (nat_lt h.size (pad_length_size h + priority_size h)) a.0 in
-    (ltb-false _ _ b.0, ltb-false _ _ b.1, not_false _ a.1)
+    let a = or_parts (nat_lt largest h.size || nat_lt h.size (pad_length_size h + priority_size h)) (not (fits_kind h.kind h.flags h.size)) e in
+    let b = or_parts (nat_lt largest h.size) (nat_lt h.size (pad_length_size h + priority_size h)) a.0 in
+    (ltb-false _ _ b.0, ltb-false _ _ b.1, not-false _ a.1)
 
 pub unpadded_length : (h : Header) (p : List ℕ) → h.size ≤ length p → is_padded h ≡ false → priority_size h ≡ 0 → length (whole_of h p).body ≡ h.size
 unpadded_length h p long bare none =

@@ -63,10 +63,6 @@ impl<R: Files + AllocGlobal> Below<R> {
         &self.rt
     }
 
-    pub(crate) fn root(&self) -> &str {
-        self.root.as_str()
-    }
-
     /// The text for the system of a path, which may end with a slash here.
     pub(crate) fn text_of(&self, path: &str) -> io::Result<String> {
         let mut text = String::from_str(self.rt.alloc(), self.root.as_str())?;

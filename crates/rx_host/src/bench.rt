@@ -1,39 +1,77 @@
 //! A bench of the host: a staged directory of its own, in which a child program runs.
 
-ghost use Rattle.std.specs.Prelude.{◌≡◌, None, IfOk, IfSome};
+ghost use Rattle.std.specs.Prelude.{◌≡◌, ◌≤◌, None, Some, IfOk, IfSome};
+ghost use Rattle.rx_world.specs.declared.failures.Refused.TheVariants.{Failed as failed};
+ghost use Rattle.rx_world.specs.Benches.{refused_at};
+ghost use Rattle.rx_world.specs.Causes.{Rose};
 
 use crate::below::Below;
+use crate::hands::Hands;
 use crate::looks::is_executable;
+use crate::runs::Runner;
+use crate::staged::Staged;
+use crate::tells::tell;
 use crate::world::HostWorld;
 use rx_base::{Bytes, RelPath, TryClone};
 use rx_streams::Faults;
-use rx_world::{Bench, Command, Exit, Failed, FileOut, Refused};
-use std::fs::Files;
+use rx_world::{Bench, BenchStep, Command, Exit, Failed, FileOut, Refused};
+use std::alloc::Global;
 use std::io::{Error, ErrorKind};
-use std::process::{Output, Processes};
+use std::process::Output;
+use std::sync::Arc;
 use std::{io, process};
 
 /// A staged directory. A command runs in it as this user, and nothing holds it in there.
 #[derive(Drop)]
-pub struct HostBench<R> {
-    tree: Below<R>,
+pub struct HostBench<H> {
+    tree: Below<HostRuntime>,
+    runner: Runner<H>,
     pub(crate) faults: Faults,
+    /// The step of the last call that failed.
+    pub(crate) failed: Option<BenchStep>,
 }
 
-impl<R: Files + Processes + AllocGlobal> HostBench<R> {
+impl<H: Hands> HostBench<H> {
     /// The bench of an empty directory.
-    pub(crate) fn new(rt: R, root: String) -> HostBench<R>
-        ensures { result.faults.count ≡ 0 }
+    pub(crate) fn new(root: String, runner: Runner<H>) -> HostBench<H>
+        ensures faults { result.faults.count ≡ 0 }
+        ensures failed { result.failed ≡ None }
     {
         HostBench {
-            tree: Below::new(rt, root),
+            tree: Below::new(runner.rt, root),
+            runner,
             faults: Faults::new(),
+            failed: None,
         }
     }
 
-    /// The staged directory.
-    pub(crate) fn root(&self) -> &str {
-        self.tree.root()
+    /// The use of its directory.
+    pub(crate) fn into_staged(self) -> Arc<Staged, Global> {
+        let runner = self.runner;
+        runner.staged
+    }
+
+    /// Counts a fault of this step.
+    fn fault_at(&mut self, step: BenchStep, error: Error) -> Failed
+        ensures step { self.new.failed ≡ Some step }
+        ensures later { self.old.faults.count ≤ self.new.faults.count }
+        ensures rose { Rose self.old.faults.count self.new.faults.count }
+    {
+        self.failed = Some(step);
+        self.faults.failed(error)
+    }
+
+    /// Counts a fault of this step, unless the error is want of memory.
+    fn refusal_at(&mut self, step: BenchStep, error: Error) -> Refused
+        ensures step { self.new.failed ≡ refused_at step self.old.failed result }
+        ensures later { self.old.faults.count ≤ self.new.faults.count }
+        ensures counted { result ≡ failed → Rose self.old.faults.count self.new.faults.count }
+    {
+        let refused = self.faults.refused(error);
+        if let Refused::Failed = refused {
+            self.failed = Some(step);
+        }
+        refused
     }
 
     fn put_at(&self, path: &RelPath, bytes: &[u8], executable: bool) -> io::Result<()> {
@@ -55,8 +93,7 @@ impl<R: Files + Processes + AllocGlobal> HostBench<R> {
         })
     }
 
-    /// Runs a command with its environment alone and without input, and collects what it writes,
-    /// from both streams by turns. A program without a slash is sought in the `PATH` of that
+    /// Runs a command with its environment alone. A program without a slash is sought in the `PATH` of that
     /// environment, or in `/bin:/usr/bin` where it has none.
     fn output_of(&self, command: &Command) -> io::Result<Output> {
         let Some((program, arguments)) = command.words.as_slice().split_first() else {
@@ -72,7 +109,17 @@ impl<R: Files + Processes + AllocGlobal> HostBench<R> {
             child.env(variable.name.as_str(), variable.value.as_str())?;
         }
         child.current_dir(directory.as_str())?;
-        child.output(self.tree.runtime())
+        self.runner.output_of(&mut child)
+    }
+
+    /// Tells why a run failed, unless it was halted.
+    fn tell_run(&self, command: &Command, error: &Error) {
+        if self.runner.is_halted() {
+            return;
+        }
+        if let Some(program) = command.words.as_slice().first() {
+            tell(&self.runner.rt, "run", program.as_str(), error);
+        }
     }
 
     /// The regular file at a path. A link isn't followed.
@@ -91,38 +138,52 @@ impl<R: Files + Processes + AllocGlobal> HostBench<R> {
     }
 }
 
-impl<R: Files + Processes + AllocGlobal> Bench<HostWorld> for HostBench<R> {
+impl<H: Hands> Bench<HostWorld> for HostBench<H> {
     ghost tree = { λ s. None };
 
     ghost runs = { λ s. None };
 
     ghost faults = { λ s. s.faults.count };
 
+    ghost failed_at = { λ s. s.failed };
+
     fn make_dir(&mut self, path: &RelPath) -> Result<(), Failed> {
         match self.tree.make_dir(path) {
             Ok(()) => Ok(()),
-            Err(error) => Err(self.faults.failed(error)),
+            Err(error) => {
+                tell(self.tree.runtime(), "make directory", path.as_str(), &error);
+                Err(self.fault_at(BenchStep::MakeDir, error))
+            }
         }
     }
 
     fn put(&mut self, path: &RelPath, bytes: &[u8], executable: bool) -> Result<(), Failed> {
         match self.put_at(path, bytes, executable) {
             Ok(()) => Ok(()),
-            Err(error) => Err(self.faults.failed(error)),
+            Err(error) => {
+                tell(self.tree.runtime(), "put", path.as_str(), &error);
+                Err(self.fault_at(BenchStep::Put, error))
+            }
         }
     }
 
     fn run(&mut self, command: &Command) -> Result<Exit, Refused> {
         match self.run_at(command) {
             Ok(exit) => Ok(exit),
-            Err(error) => Err(self.faults.refused(error)),
+            Err(error) => {
+                self.tell_run(command, &error);
+                Err(self.refusal_at(BenchStep::Run, error))
+            }
         }
     }
 
     fn take(&mut self, path: &RelPath) -> Result<Option<FileOut>, Refused> {
         match self.take_at(path) {
             Ok(file) => Ok(file),
-            Err(error) => Err(self.faults.refused(error)),
+            Err(error) => {
+                tell(self.tree.runtime(), "take", path.as_str(), &error);
+                Err(self.refusal_at(BenchStep::Take, error))
+            }
         }
     }
 }

@@ -3,15 +3,22 @@
 ghost use Rattle.std.specs.Prelude.{◌≡◌, None, IfOk};
 
 use crate::bench::HostBench;
+use crate::children::Children;
+use crate::halting::Halting;
+use crate::hands::Hands;
 use crate::names::FreshNames;
+use crate::runs::Runner;
+use crate::staged::{Staged, give_up};
+use crate::tells::tell;
 use crate::world::HostWorld;
 use rx_streams::Faults;
 use rx_world::{BenchMaker, Failed};
+use std::alloc::AllocError;
 use std::fs::{DirBuilder, Files};
+use std::io;
 use std::io::{Error, ErrorKind};
 use std::os::unix::fs::DirBuilderExt;
-use std::process::Processes;
-use std::{fs, io};
+use std::sync::Arc;
 
 /// How many names are tried for one directory.
 const MAKE_TRIES: u32 = 4096;
@@ -19,38 +26,60 @@ const MAKE_TRIES: u32 = 4096;
 /// The owner alone may enter a staged directory.
 const STAGED_MODE: u32 = 0o700;
 
-/// Makes staged directories, and removes each with all below it once its bench comes back.
+/// Makes staged directories, and removes each with all below it once its bench has come back and no program
+/// runs there.
 #[derive(Drop)]
-pub struct HostBenches<R> {
-    rt: R,
+pub struct HostBenches<H> {
+    rt: HostRuntime,
+    hands: H,
     scratch: String,
     names: FreshNames,
+    halting: Halting,
+    children: Children,
     faults: Faults,
 }
 
-impl<R: Files + Processes + AllocGlobal + Clone + Drop> HostBenches<R> {
-    /// A maker of directories below this one, for the process with this number.
-    pub fn new(rt: R, scratch: String, process: u32) -> HostBenches<R> {
+impl<H: Hands> HostBenches<H> {
+    /// A maker of directories below this one, for the process with this number. What runs there is
+    /// halted by `halting`, and counted in `children`.
+    pub fn new(
+        rt: HostRuntime,
+        hands: H,
+        scratch: String,
+        process: u32,
+        halting: Halting,
+        children: Children,
+    ) -> HostBenches<H> {
         HostBenches {
             rt,
+            hands,
             scratch,
             names: FreshNames::new(process),
+            halting,
+            children,
             faults: Faults::new(),
         }
     }
-}
 
-/// A bench in a directory that wasn't there.
-fn make_fresh<R: Files + Processes + AllocGlobal + Clone + Drop>(
-    rt: &R,
-    scratch: &str,
-    names: &mut FreshNames,
-) -> io::Result<HostBench<R>>
-    ensures { IfOk result (λ bench. bench.faults.count ≡ 0) }
-{
-    let own = rt.clone()?;
-    let root = make_root(rt, scratch, names)?;
-    Ok(HostBench::new(own, root))
+    /// A bench in a directory that wasn't there.
+    fn make_fresh(&mut self) -> io::Result<HostBench<H>>
+        ensures bench { IfOk result (λ bench. bench.faults.count ≡ 0) }
+        ensures unfailed { IfOk result (λ bench. bench.failed ≡ None) }
+        ensures faults { self.new.faults ≡ self.old.faults }
+    {
+        let halting = self.halting.share()?;
+        let children = self.children.share()?;
+        let root = make_root(&self.rt, self.scratch.as_str(), &mut self.names)?;
+        let staged = Staged::new(root.clone()?);
+        let runner = Runner {
+            rt: self.rt,
+            hands: self.hands,
+            staged: Arc::new(self.rt.alloc(), staged).map_err(AllocError::from)?,
+            halting,
+            children,
+        };
+        Ok(HostBench::new(root, runner))
+    }
 }
 
 /// Makes a directory that wasn't there, and answers its path.
@@ -74,24 +103,32 @@ fn make_root<R: Files + AllocGlobal>(
     Err(Error::from(ErrorKind::AlreadyExists))
 }
 
-impl<R: Files + Processes + AllocGlobal + Clone + Drop + Send> BenchMaker<HostWorld>
-    for HostBenches<R> {
-    type B = HostBench<R>;
+impl<H: Hands + Send> BenchMaker<HostWorld> for HostBenches<H> {
+    type B = HostBench<H>;
 
     ghost faults = { λ s. s.faults.count };
 
     ghost returned = { λ s. None };
 
-    fn make(&mut self) -> Result<HostBench<R>, Failed> {
-        match make_fresh(&self.rt, self.scratch.as_str(), &mut self.names) {
+    fn make(&mut self) -> Result<HostBench<H>, Failed> {
+        match self.make_fresh() {
             Ok(bench) => Ok(bench),
-            Err(error) => Err(self.faults.failed(error)),
+            Err(error) => {
+                tell(
+                    &self.rt,
+                    "make a directory in",
+                    self.scratch.as_str(),
+                    &error,
+                );
+                Err(self.faults.failed(error))
+            }
         }
     }
 
-    fn done(&mut self, bench: HostBench<R>) {
-        let is_left = fs::remove_dir_all(&self.rt, bench.root()).is_err();
-        if bench.faults.count > 0 || is_left {
+    fn done(&mut self, bench: HostBench<H>) {
+        let faults = bench.faults.count;
+        let is_left = give_up(&self.rt, bench.into_staged()).is_err();
+        if faults > 0 || is_left {
             self.faults.raise();
         }
     }

@@ -3,43 +3,45 @@
 ghost use Rattle.std.specs.Prelude.{◌≡◌, None, true};
 ghost use Rattle.rx_world.specs.declared.versions.Dialect.TheVariants.{New as new_dialect};
 ghost use Rattle.rx_grpc.specs.Begun.{action_of};
+ghost use Rattle.rx_grpc.specs.Honest.{IsGenuine, Vouches};
+ghost use Rattle.rx_host.specs.Farms.{any_bytes};
 
 use crate::dial::HostDial;
+use crate::hands::Hands;
 use crate::world::HostWorld;
 use rx_base::{Bytes, Digest, Items};
 use rx_exec_messages::{Caller, Capabilities, NamedBlob, Operation};
 use rx_grpc::GrpcCaller;
 use rx_messages::ActionResult;
 use rx_world::{CallFault, World};
-use std::io::Eprint;
 use std::marker::Model;
-use std::net::{Net, TcpStream};
-use std::time::Clock;
 
-/// A farm's client over TCP, with or without a connection. That tells nothing of its bytes, so it vouches for nothing: that the
-/// farm is an honest one is its user's own premise.
+/// A farm's client over TCP, with or without a connection. That tells nothing of its bytes, so the client vouches for an outcome
+/// only where all bytes would tell it, which is never: that the farm is an honest one is its user's own premise.
 #[derive(Drop)]
-pub struct HostFarm<R: Net<Stream = TcpStream> + Clock + Eprint + Drop> {
-    caller: GrpcCaller<HostDial<R>>,
+pub struct HostFarm<H: Hands> {
+    caller: GrpcCaller<HostDial<H>>,
     /// Whether an execution goes on, also where the connection was closed here: then its next state is a fault.
     streaming: bool,
 }
 
-impl<R: Net<Stream = TcpStream> + Clock + Eprint + Drop> Model for HostFarm<R> {
+impl<H: Hands> Model for HostFarm<H> {
     ghost use Rattle.rx_host.specs.Farms.{FarmOf};
 
     ghost Value = { FarmOf };
 
     ghost view = { λ f. record {
+      authority = f.caller.channel.authority;
+      instance = f.caller.instance;
       begun = f.caller.begun;
       streaming = f.streaming;
       faults = f.caller.faults;
     } };
 }
 
-impl<R: Net<Stream = TcpStream> + Clock + Eprint + Drop> HostFarm<R> {
+impl<H: Hands> HostFarm<H> {
     /// The client that makes its calls so.
-    pub fn new(caller: GrpcCaller<HostDial<R>>) -> HostFarm<R> {
+    pub fn new(caller: GrpcCaller<HostDial<H>>) -> HostFarm<H> {
         HostFarm {
             caller,
             streaming: false,
@@ -47,11 +49,12 @@ impl<R: Net<Stream = TcpStream> + Clock + Eprint + Drop> HostFarm<R> {
     }
 
     /// Closes the connection, if there is one. What is told of the client stays; its next call makes another connection.
-    pub fn hang_up(self) -> HostFarm<R>
+    pub fn hang_up(self) -> HostFarm<H>
         ensures { result ≡ self }
     {
         let mut caller = self.caller;
         caller.hang_up();
+        caller.channel().dial().let_go();
         HostFarm {
             caller,
             streaming: self.streaming,
@@ -59,12 +62,14 @@ impl<R: Net<Stream = TcpStream> + Clock + Eprint + Drop> HostFarm<R> {
     }
 }
 
-impl<R: Net<Stream = TcpStream> + Clock + Eprint + Drop> Caller<HostWorld> for HostFarm<R> {
+impl<H: Hands> Caller<HostWorld> for HostFarm<H> {
     ghost conversation = { λ c. None };
 
-    ghost vouches = { λ c digest command outcome. ⊥ };
+    ghost vouches = { λ c. Vouches any_bytes c.authority c.instance
+        ⟦<HostWorld as World>⟧.blob ⟦<HostWorld as World>⟧.operation };
 
-    ghost genuine = { λ c. ⊥ };
+    ghost genuine = { λ c. IsGenuine any_bytes c.authority c.instance
+        ⟦<HostWorld as World>⟧.blob ⟦<HostWorld as World>⟧.operation new_dialect };
 
     ghost dialect = { λ c. new_dialect };
 

@@ -5,12 +5,14 @@ ghost use Rattle.rx_world.specs.Sources.{HasBytes};
 
 use crate::below::Below;
 use crate::looks::{content_mark, look_with, time_mark};
+use crate::tells::tell;
 use crate::world::HostWorld;
 use rx_base::{Bytes, Items, RelPath};
 use rx_streams::Faults;
 use rx_world::{Failed, Found, Look, Refused, Sources};
 use std::fs::{Files, Metadata};
 use std::io;
+use std::io::Eprint;
 
 /// The files below a root directory. A link is Other and is never followed. Nothing stands below
 /// what is no directory.
@@ -79,7 +81,7 @@ fn time_mark_of(metadata: Option<&Metadata>) -> Option<u128> {
     }
 }
 
-impl<R: Files + AllocGlobal + Clone + Drop> Sources<HostWorld> for HostSources<R> {
+impl<R: Files + AllocGlobal + Eprint + Clone + Drop> Sources<HostWorld> for HostSources<R> {
     ghost listed = { λ s. None };
 
     ghost keeps = { λ s. ⊥ };
@@ -91,21 +93,30 @@ impl<R: Files + AllocGlobal + Clone + Drop> Sources<HostWorld> for HostSources<R
     fn look(&mut self, path: &RelPath) -> Result<Look, Failed> {
         match self.look_at(path) {
             Ok(look) => Ok(look),
-            Err(error) => Err(self.faults.failed(error)),
+            Err(error) => {
+                tell(self.tree.runtime(), "look at", path.as_str(), &error);
+                Err(self.faults.failed(error))
+            }
         }
     }
 
     fn read(&mut self, path: &RelPath) -> Result<(Look, Bytes), Refused> {
         match self.read_at(path) {
             Ok(read) => Ok(read),
-            Err(error) => Err(self.faults.refused(error)),
+            Err(error) => {
+                tell(self.tree.runtime(), "read", path.as_str(), &error);
+                Err(self.faults.refused(error))
+            }
         }
     }
 
     fn list(&mut self, under: &RelPath, most: usize) -> Result<Items<Found>, Refused> {
         match self.list_at(under, most) {
             Ok(found) => Ok(found),
-            Err(error) => Err(self.faults.refused(error)),
+            Err(error) => {
+                tell(self.tree.runtime(), "list", under.as_str(), &error);
+                Err(self.faults.refused(error))
+            }
         }
     }
 }

@@ -6,9 +6,15 @@
 mod below;
 mod bench;
 mod benches;
+mod calls;
+mod children;
 mod dial;
 mod farm;
 mod files;
+mod halting;
+#[cfg(test)]
+mod halting_tests;
+mod hands;
 mod link;
 #[cfg(test)]
 mod link_tests;
@@ -17,16 +23,22 @@ mod listing;
 mod looks;
 mod names;
 mod place;
+mod runs;
 mod seeds;
+mod staged;
+mod tells;
 #[cfg(test)]
 mod tests;
 mod world;
 
 pub use bench::HostBench;
 pub use benches::HostBenches;
+pub use children::Children;
 pub use dial::HostDial;
 pub use farm::HostFarm;
 pub use files::HostSources;
+pub use halting::Halting;
+pub use hands::Hands;
 pub use link::HostLink;
 pub use listener::HostListener;
 pub use place::HostPlace;

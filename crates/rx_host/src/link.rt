@@ -1,10 +1,14 @@
 //! A connection to a farm over TCP. Nothing is told of its bytes.
 
 ghost use Rattle.std.specs.Prelude.{◌≡◌, IfOk, None, false};
+ghost use Rattle.rx_host.specs.Farms.{any_bytes};
 
+use crate::halting::Halting;
+use crate::tells::tell;
 use rx_streams::{Faults, read_some, write_some};
 use rx_world::{Failed, Link};
 use std::io;
+use std::io::Error;
 use std::net::TcpStream;
 use std::time::Duration;
 
@@ -13,16 +17,18 @@ use std::time::Duration;
 pub(crate) const SILENCE_SECONDS: u64 = 600;
 
 /// One connection over TCP. What is sent leaves at once (no algorithm of Nagle, RFC 9293 3.7.4).
-#[derive(Debug, Drop)]
+#[derive(Drop)]
 pub struct HostLink {
+    rt: HostRuntime,
     pub(crate) stream: TcpStream,
+    halting: Halting,
     pub(crate) ended: bool,
     pub(crate) faults: Faults,
 }
 
 impl HostLink {
     /// The link over a connection that nothing was sent or received on.
-    pub(crate) fn new(stream: TcpStream) -> io::Result<HostLink>
+    pub(crate) fn new(rt: HostRuntime, stream: TcpStream, halting: Halting) -> io::Result<HostLink>
         ensures ended { IfOk result (λ link. link.ended ≡ false) }
         ensures faults { IfOk result (λ link. link.faults.count ≡ 0) }
     {
@@ -31,10 +37,19 @@ impl HostLink {
         stream.set_read_timeout(limit)?;
         stream.set_write_timeout(limit)?;
         Ok(HostLink {
+            rt,
             stream,
+            halting,
             ended: false,
             faults: Faults::new(),
         })
+    }
+
+    /// Tells why a call failed, unless the farm was halted.
+    fn tell(&self, tried: &str, error: &Error) {
+        if !self.halting.is_farm_halted() {
+            tell(&self.rt, tried, "the farm", error);
+        }
     }
 }
 
@@ -43,14 +58,17 @@ impl Link for HostLink {
 
     ghost ended = { λ l. l.ended };
 
-    ghost rule = { λ l sent received. Unit {0} };
+    ghost rule = { λ l. any_bytes };
 
     ghost faults = { λ l. l.faults.count };
 
     fn send(&mut self, piece: &[u8]) -> Result<usize, Failed> {
         match write_some(&mut self.stream, piece) {
             Ok(count) => Ok(count),
-            Err(error) => Err(self.faults.failed(error)),
+            Err(error) => {
+                self.tell("send to", &error);
+                Err(self.faults.failed(error))
+            }
         }
     }
 
@@ -60,7 +78,10 @@ impl Link for HostLink {
                 self.ended = self.ended || count == 0 && !into.is_empty();
                 Ok(count)
             }
-            Err(error) => Err(self.faults.failed(error)),
+            Err(error) => {
+                self.tell("receive from", &error);
+                Err(self.faults.failed(error))
+            }
         }
     }
 }

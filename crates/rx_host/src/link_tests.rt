@@ -1,7 +1,7 @@
 //! Connections over loopback.
 
 use crate::link::SILENCE_SECONDS;
-use crate::{HostDial, draw_seed};
+use crate::{Halting, HostDial, draw_seed};
 use rx_world::{Dial, Failed, Link};
 use std::io::{Read, Write};
 use std::net::{Ipv4Addr, SocketAddr, TcpListener};
@@ -12,7 +12,8 @@ use std::time::Duration;
 fn links_over_loopback(rt: HostRuntime) -> Result<(), Fail> {
     let listener = TcpListener::bind(&rt, SocketAddr::from((Ipv4Addr::LOCALHOST, 0)))?;
     let port = listener.local_addr()?.port();
-    let mut dial = HostDial::new(rt, Some(format!(in rt.alloc(); "localhost:{port}")?));
+    let address = format!(in rt.alloc(); "localhost:{port}")?;
+    let mut dial = HostDial::new(rt, rt, Some(address), Halting::new(rt.alloc())?);
     let mut link = dial.dial()?;
     let limit = Some(Duration::from_secs(SILENCE_SECONDS));
     assert_eq!(rt; link.stream.read_timeout()?, limit);
@@ -42,7 +43,7 @@ fn no_link_without_a_farm(rt: HostRuntime) -> Result<(), Fail> {
         Some(format!(in rt.alloc(); "127.0.0.1:{port}")?),
         Some(format!(in rt.alloc(); "nowhere.invalid:{port}")?),
     ] {
-        let mut dial = HostDial::new(rt, address);
+        let mut dial = HostDial::new(rt, rt, address, Halting::new(rt.alloc())?);
         assert_eq!(rt; dial.dial().err(), Some(Failed));
     }
     Ok(())

@@ -4,11 +4,12 @@ ghost use Rattle.std.specs.Prelude.{◌≡◌, None};
 
 use crate::below::Below;
 use crate::names::FreshNames;
+use crate::tells::tell;
 use rx_base::RelPath;
 use rx_streams::Faults;
 use rx_world::{Failed, Place};
 use std::fs::Files;
-use std::io::{Error, ErrorKind};
+use std::io::{Eprint, Error, ErrorKind};
 use std::{fs, io};
 
 /// How many names are tried for one new file.
@@ -23,7 +24,7 @@ pub struct HostPlace<R> {
     faults: Faults,
 }
 
-impl<R: Files + AllocGlobal> HostPlace<R> {
+impl<R: Files + AllocGlobal + Eprint> HostPlace<R> {
     /// The files below this directory, for the process with this number.
     pub fn new(rt: R, root: String, process: u32) -> HostPlace<R>
         ensures { ⟦<HostPlace<R> as Place>⟧.faults result ≡ 0 }
@@ -79,7 +80,7 @@ fn write_beside<R: Files + AllocGlobal>(
     Err(Error::from(ErrorKind::AlreadyExists))
 }
 
-impl<R: Files + AllocGlobal> Place for HostPlace<R> {
+impl<R: Files + AllocGlobal + Eprint> Place for HostPlace<R> {
     ghost contents = { λ s. None };
 
     ghost opening = { λ s. None };
@@ -89,7 +90,10 @@ impl<R: Files + AllocGlobal> Place for HostPlace<R> {
     fn place(&mut self, path: &RelPath, bytes: &[u8], executable: bool) -> Result<(), Failed> {
         match put(&self.tree, &mut self.names, path, bytes, executable) {
             Ok(()) => Ok(()),
-            Err(error) => Err(self.faults.failed(error)),
+            Err(error) => {
+                tell(self.tree.runtime(), "place", path.as_str(), &error);
+                Err(self.faults.failed(error))
+            }
         }
     }
 }

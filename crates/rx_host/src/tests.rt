@@ -1,7 +1,7 @@
 //! The adapters on real files and programs, below directories of their own.
 
 use crate::looks::content_mark;
-use crate::{HostBenches, HostPlace, HostSink, HostSource, HostSources};
+use crate::{Children, Halting, Hands, HostBenches, HostPlace, HostSink, HostSource, HostSources};
 use rx_base::{Items, RelPath, Text};
 use rx_world::{
     Bench, BenchMaker, Command, Failed, Found, Look, Pair, Place, Refused, Sink, Source, Sources,
@@ -12,7 +12,7 @@ use std::test::Fail;
 use std::{fs, process};
 
 /// An empty directory of this process, by this name.
-fn staged(rt: HostRuntime, name: &str) -> Result<String, Fail> {
+pub(crate) fn staged(rt: HostRuntime, name: &str) -> Result<String, Fail> {
     let process = process::id(rt.process());
     let root = format!(in rt.alloc(); "/tmp/reproxy-test-{process}-{name}")?;
     fs::create_dir(&rt, root.as_str())?;
@@ -101,7 +101,7 @@ fn places_nothing_elsewhere(rt: HostRuntime) -> Result<(), Fail> {
 }
 
 /// A command of these words, in the directory `work`.
-fn command(alloc: Global, words: &[&str]) -> Result<Command, Fail> {
+pub(crate) fn command(alloc: Global, words: &[&str]) -> Result<Command, Fail> {
     let mut all = Items::new(alloc);
     for word in words {
         all.push(Text::copy_of(alloc, word)?)?;
@@ -121,11 +121,21 @@ fn command(alloc: Global, words: &[&str]) -> Result<Command, Fail> {
     })
 }
 
+/// Benches in this directory, which nobody halts.
+fn benches_below<H: Hands>(
+    rt: HostRuntime,
+    hands: H,
+    root: String,
+) -> Result<HostBenches<H>, Fail> {
+    let (halting, children) = (Halting::new(rt.alloc())?, Children::new(rt.alloc())?);
+    Ok(HostBenches::new(rt, hands, root, 1, halting, children))
+}
+
 #[test]
 fn runs_on_a_bench(rt: HostRuntime) -> Result<(), Fail> {
     let alloc = rt.alloc();
     let root = staged(rt, "bench")?;
-    let mut benches = HostBenches::new(rt, root.clone()?, 1);
+    let mut benches = benches_below(rt, rt, root.clone()?)?;
     let mut bench = benches.make()?;
     bench.put(&RelPath::read(alloc, "work/a")?, b"text", false)?;
     let copied = bench.run(&command(alloc, &["sh", "-c", "cat a > b; cat; exit 7"])?)?;
@@ -145,7 +155,7 @@ fn runs_on_a_bench(rt: HostRuntime) -> Result<(), Fail> {
 fn runs_to_the_end(rt: HostRuntime) -> Result<(), Fail> {
     let alloc = rt.alloc();
     let root = staged(rt, "ends")?;
-    let mut benches = HostBenches::new(rt, root.clone()?, 1);
+    let mut benches = benches_below(rt, rt, root.clone()?)?;
     let mut bench = benches.make()?;
     bench.make_dir(&RelPath::read(alloc, "work")?)?;
     let both = "head -c 300000 /dev/zero; head -c 300000 /dev/zero >&2; ln -s /etc link";

@@ -1,11 +1,11 @@
 -- What the encoder writes stands for the list that it was given.
-use Rattle.std.proofs.Common.{◌≡◌, ℕ, ◌+◌, ◌-◌, ◌/◌, ◌%◌, ◌^◌, ◌<◌, ◌≤◌, ◌&&◌, zero, suc, Bool, true, false, inl, inr, List, [], ◌∷◌, ◌++◌, length, get_or, position, All, Option, Some, None, Result, Ok, Err, refl, sym, ap, subst, ◌∙◌, append_assoc, arith, slice_get}
+use Rattle.std.proofs.Common.{◌≡◌, ℕ, ◌+◌, ◌-◌, ◌/◌, ◌%◌, ◌^◌, ◌<◌, ◌≤◌, zero, suc, inl, inr, List, [], ◌∷◌, ◌++◌, length, get_or, position, All, Option, Some, None, Result, Ok, Err, refl, sym, ap, subst, ◌∙◌, append_assoc, arith, slice_get}
 use Rattle.std.specs.Prelude.{IfOk}
 use Rattle.std.specs.Option.{ok_or}
 use Rattle.std.specs.Global.{Vec}
 use Rattle.std.specs.List.{AllByRecursion}
 use Rattle.std.specs.Str.{bytes_eq}
-use Rattle.std.proofs.lemmas.Bool.{cases_lt, lt-ltb, le-ltb, ne_eqb}
+use Rattle.std.proofs.lemmas.Bool.{cases_lt, lt-ltb, le-ltb, ne_eqb, and_parts}
 use Rattle.std.proofs.lemmas.List.{append-nil}
 use Rattle.std.proofs.lemmas.List.Elements.{recursion_from_All}
 use Rattle.std.proofs.lemmas.List.Quantifiers.{position-Some}
@@ -84,10 +84,6 @@ static_field_at table place lt =
     rw (ne_eqb (place + 1) 0 other) (ap (λ (i : ℕ). ok_or (slice_get (static_fields ++ table.entries) i) BadIndex) before
     ∙ ap (λ (o : Option Field). ok_or o BadIndex) (slice_get-front static_fields table.entries place lt))
 
-both_true : (a b : Bool) → (a && b) ≡ true → (a ≡ true) × (b ≡ true)
-both_true true b h = (refl, h)
-both_true false b h = absurd cc
-
 -- ---- one field
 
 -- a representation that gives the field, whatever the dynamic table
@@ -127,7 +123,7 @@ unfolding form_bytes
 form_written (Some place) name value found fits fits_value =
     let p = position-Some (is_field name value) static_fields place no_field found in
     let field = get_or static_fields place no_field in
-    let both = both_true (bytes_eq field.name name) (bytes_eq field.value value) p.1 in
+    let both = and_parts (bytes_eq field.name name) (bytes_eq field.value value) p.1 in
     let same_name : field.name ≡ name = (bytes_eq-Decides field.name name).0 both.0 in
     let same_value : field.value ≡ value = (bytes_eq-Decides field.value value).0 both.1 in
     let wanted : Field = record { name = name; value = value } in

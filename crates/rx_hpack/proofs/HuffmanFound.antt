@@ -1,16 +1,16 @@
 -- A text that is read from the Huffman code is spelled so.
-use Rattle.std.proofs.Common.{◌≡◌, ℕ, ◌+◌, ◌-◌, ◌^◌, ◌<◌, ◌||◌, ◌&&◌, not, zero, suc, Bool, true, false, cond, nat_lt, nat_eq, List, [], ◌∷◌, ◌++◌, length, get_or, map, replicate, position, unwrap_or, Result, Ok, Err, refl, sym, ap, subst, ◌∙◌, append_assoc, arith, add-zero, zero-add, lit<}
+use Rattle.std.proofs.Common.{◌≡◌, ℕ, ◌+◌, ◌-◌, ◌^◌, ◌<◌, ◌||◌, ◌&&◌, not, zero, suc, Bool, true, false, nat_lt, nat_eq, List, [], ◌∷◌, ◌++◌, length, get_or, map, replicate, position, unwrap_or, Ok, refl, sym, ap, subst, ◌∙◌, append_assoc, arith, add-zero, zero-add, lit<}
 use Rattle.std.specs.List.{flat_map, list_any, list_all, AllByRecursion}
-use Rattle.std.proofs.lemmas.Bool.{ltb-true, eqb-true}
+use Rattle.std.proofs.lemmas.Bool.{ltb-true, eqb-true, and_parts, or_parts}
 use Rattle.std.proofs.lemmas.Bool.Decides.{nat_tests}
 use Rattle.std.proofs.lemmas.List.{append-nil, get_or-map}
 use Rattle.std.proofs.lemmas.Grind.{flat_map-append}
-use Rattle.rx_hpack.specs.declared.fault.HpackFault.{HpackFault}
 use Rattle.rx_hpack.specs.declared.fault.HpackFault.TheVariants.{BadHuffman}
 use Rattle.rx_hpack.specs.Huffman.{rows, bits, code, bits_of, IsHuffman, Walk, start, step, walked, is_padding, is_end_mark, text_of}
 use Rattle.rx_hpack.specs.HuffmanTables.{places, place_at}
 use Rattle.rx_hpack.proofs.Takes.{IsBytes, IsBytes-rest, guard_ok}
 use Rattle.rx_hpack.proofs.HuffmanTableLemmas.{length-places}
+use Rattle.rx_hpack.proofs.HuffmanLemmas.{text_of-judged}
 
 -- the bits that lead to a place
 abbrev path : Walk → List ℕ
@@ -54,14 +54,10 @@ checked zero lt = checked_zero
 checked (suc zero) lt = checked_one
 checked (suc (suc bit)) lt = absurd (omega arith)
 
-both_true : (a b : Bool) → (a && b) ≡ true → (a ≡ true) × (b ≡ true)
-both_true true b h = (refl, h)
-both_true false b h = absurd cc
-
 all_below : (xs : List ℕ) → list_all (λ symbol. nat_lt symbol 257) xs ≡ true → AllByRecursion (λ symbol. symbol < 257) xs
 all_below [] h = tt
 all_below (x ∷ xs) h =
-    let b = both_true (nat_lt x 257) (list_all (λ symbol. nat_lt symbol 257) xs) h in
+    let b = and_parts (nat_lt x 257) (list_all (λ symbol. nat_lt symbol 257) xs) h in
     (ltb-true x 257 b.0, all_below xs b.1)
 
 record Moves (state bit : ℕ) : Type 0 where
@@ -78,7 +74,7 @@ moves state bit lt small =
     let inside : state < length places = omega (arith, lt, length-places) in
     let fine : is_small bit here ≡ true =
     sym (get_or-map (is_small bit) places state start true inside) ∙ ap (λ (xs : List Bool). get_or xs state true) c.small ∙ get_or-map (λ place. true) places state start true inside in
-    let both = both_true (list_all (λ symbol. nat_lt symbol 257) (step rows here bit).0) (nat_lt (number bit here) 256) fine in
+    let both = and_parts (list_all (λ symbol. nat_lt symbol 257) (step rows here bit).0) (nat_lt (number bit here) 256) fine in
     let arrives : place_at places (number bit here) ≡ target bit here =
     sym (get_or-map (λ place. place_at places (number bit place)) places state start start inside) ∙ ap (λ (xs : List Walk). get_or xs state start) c.arrives ∙ get_or-map (target bit) places state start start inside in
     let along : before bit here ≡ after bit here =
@@ -158,7 +154,7 @@ all_ones = refl
 
 path_of_padding : (place : Walk) → is_padding place ≡ true → (place.size < 8) × (path place ≡ replicate place.size 1)
 path_of_padding place h =
-    let both = both_true (nat_lt place.size 8) (nat_eq (place.code + 1) (2 ^ place.size)) h in
+    let both = and_parts (nat_lt place.size 8) (nat_eq (place.code + 1) (2 ^ place.size)) h in
     let short = ltb-true place.size 8 both.0 in
     let last : place.code ≡ 2 ^ place.size - 1 = omega (arith, eqb-true (place.code + 1) (2 ^ place.size) both.1) in (
       short,
@@ -173,25 +169,14 @@ neither true b h = absurd cc
 neither false true h = (refl, refl)
 neither false false h = absurd cc
 
-either_false : (a b : Bool) → (a || b) ≡ false → (a ≡ false) × (b ≡ false)
-either_false true b h = absurd cc
-either_false false b h = (refl, h)
-
 not_equal : (a b : ℕ) → nat_eq a b ≡ false → a ≡ b → ⊥
 not_equal a b h e = grind (arith, nat_tests)
 
 are_text : (symbols : List ℕ) → AllByRecursion (λ symbol. symbol < 257) symbols → list_any is_end_mark symbols ≡ false → AllByRecursion (λ symbol. symbol < 256) symbols
 are_text [] h none = tt
 are_text (symbol ∷ symbols) h none =
-    let both = either_false (nat_eq symbol 256) (list_any is_end_mark symbols) none in
+    let both = or_parts (nat_eq symbol 256) (list_any is_end_mark symbols) none in
     (let other : symbol ≡ 256 → ⊥ = not_equal symbol 256 both.0 in omega (arith, h.0, other), are_text symbols h.1 both.1)
-
-abbrev err : HpackFault → Result (List ℕ) HpackFault
-err e = Err e
-
-text_of-judged : (coded : List ℕ) → text_of coded ≡ cond (list_any is_end_mark (walked rows start (bits_of coded)).0 || not (is_padding (walked rows start (bits_of coded)).1)) (err BadHuffman) (Ok (walked rows start (bits_of coded)).0)
-unfolding text_of
-text_of-judged coded = refl
 
 at_start : place_at places 0 ≡ start
 unfolding places rows

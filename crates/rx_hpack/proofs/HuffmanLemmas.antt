@@ -1,11 +1,12 @@
 -- A text that is read from the Huffman code is spelled so, and one that is spelled is read.
-use Rattle.std.proofs.Common.{◌≡◌, ℕ, ◌+◌, ◌<◌, ◌||◌, not, zero, suc, Bool, true, false, cond, List, [], ◌∷◌, ◌++◌, get_or, replicate, Result, Ok, Err, refl, sym, ap, ◌∙◌, append_assoc, arith, add-zero, zero-add}
+use Rattle.std.proofs.Common.{◌≡◌, ℕ, ◌+◌, ◌<◌, ◌||◌, not, zero, suc, Bool, true, false, cond, List, [], ◌∷◌, ◌++◌, get_or, replicate, Result, Ok, refl, sym, ap, ◌∙◌, append_assoc, arith, add-zero, zero-add}
 use Rattle.std.specs.List.{flat_map, list_any, AllByRecursion}
 use Rattle.std.proofs.lemmas.Bool.{ne_eqb}
 use Rattle.std.proofs.lemmas.List.{append-nil}
 use Rattle.rx_hpack.specs.declared.fault.HpackFault.{HpackFault}
 use Rattle.rx_hpack.specs.declared.fault.HpackFault.TheVariants.{BadHuffman}
 use Rattle.rx_hpack.specs.Huffman.{rows, code, bits_of, IsHuffman, Walk, start, step, walked, is_padding, is_end_mark, text_of}
+use Rattle.rx_hpack.proofs.Takes.{err}
 use Rattle.rx_hpack.proofs.HuffmanTableLemmas.{with_front, walked-append}
 
 -- ---- a code is read as its symbol
@@ -89,13 +90,10 @@ no_end_marks (symbol ∷ text) h =
     let other : symbol ≡ 256 → ⊥ = λ e. omega (arith, h.0, e) in
     rw (ne_eqb symbol 256 other) (no_end_marks text h.1)
 
-abbrev err : HpackFault → Result (List ℕ) HpackFault
-err e = Err e
-
-abbrev judged : List ℕ × Walk → Result (List ℕ) HpackFault
+abbrev pub judged : List ℕ × Walk → Result (List ℕ) HpackFault
 judged read = cond (list_any is_end_mark read.0 || not (is_padding read.1)) (err BadHuffman) (Ok read.0)
 
-text_of-judged : (coded : List ℕ) → text_of coded ≡ judged (walked rows start (bits_of coded))
+pub text_of-judged : (coded : List ℕ) → text_of coded ≡ judged (walked rows start (bits_of coded))
 unfolding text_of
 text_of-judged coded = refl
 

@@ -3,7 +3,7 @@ use Rattle.std.proofs.Common.{◌≡◌, ℕ, ◌+◌, ◌*◌, ◌/◌, ◌%◌
 use Rattle.std.specs.List.{list_any}
 use Rattle.std.proofs.lemmas.List.{get_or-append-add, get_or-map, get_or_append_left, append_assoc}
 use Rattle.std.proofs.lemmas.List.Folds.{list_any-append}
-use Rattle.std.proofs.lemmas.Bool.{cases_lt, lt-ltb, le-ltb, ne_eqb}
+use Rattle.std.proofs.lemmas.Bool.{cases_lt, lt-ltb, le-ltb, ne_eqb, or_from, or_right}
 use Rattle.rx_hpack.specs.declared.fault.HpackFault.{HpackFault}
 use Rattle.rx_hpack.specs.declared.fault.HpackFault.TheVariants.{BadHuffman, BadIndex, BadInteger, SizeUpdate, ListTooLarge, NoMemory}
 use Rattle.rx_hpack.specs.declared.huffman_tables.TheConstants.{NEXT_STATES, SYMBOLS, PADDINGS}
@@ -161,13 +161,6 @@ four_goes state n symbol next old new lt small entry other text after =
 halves : (state byte : ℕ) → walked rows (place_at places state) (bits_of (byte ∷ [])) ≡ with_front (walked rows (place_at places state) (four (byte / 16))).0 (walked rows (walked rows (place_at places state) (four (byte / 16))).1 (four (byte % 16)))
 halves state byte = ap (walked rows (place_at places state)) (bits_of_byte byte) ∙ walked-append rows (place_at places state) (four (byte / 16)) (four (byte % 16))
 
-pub or_false : (a b : Bool) → a ≡ false → b ≡ false → (a || b) ≡ false
-or_false a b p q = cc
-
-pub or_true : (a b : Bool) → b ≡ true → (a || b) ≡ true
-or_true true b q = refl
-or_true false b q = q
-
 -- the end mark stands in the first half, in the second, or in neither
 pub first_marked : (state byte : ℕ) → list_any is_end_mark (walked rows (place_at places state) (four (byte / 16))).0 ≡ true → list_any is_end_mark (walked rows (place_at places state) (bits_of (byte ∷ []))).0 ≡ true
 first_marked state byte marked =
@@ -188,7 +181,7 @@ second_marked state byte middle old between first marked =
     let one = walked rows (place_at places state) (four (byte / 16)) in
     let two = walked rows one.1 (four (byte % 16)) in
     let here : list_any is_end_mark two.0 ≡ true = ap (λ (w : Walk). list_any is_end_mark (walked rows w (four (byte % 16))).0) (sym first.2) ∙ marked in
-    ap (λ (r : List ℕ × Walk). list_any is_end_mark r.0) (halves state byte) ∙ list_any-append is_end_mark one.0 two.0 ∙ or_true (list_any is_end_mark one.0) (list_any is_end_mark two.0) here
+    ap (λ (r : List ℕ × Walk). list_any is_end_mark r.0) (halves state byte) ∙ list_any-append is_end_mark one.0 two.0 ∙ or_right (list_any is_end_mark one.0) (list_any is_end_mark two.0) here
 
 pub second_fails : (e : HpackFault) (state byte middle : ℕ) (old between new : List ℕ) → GoesFour state (byte / 16) old (Ok middle) between → GoesFour middle (byte % 16) between (Err e) new → GoesByte state byte old (Err e) new
 second_fails NoMemory state byte middle old between new first second = tt
@@ -205,7 +198,7 @@ second_goes state byte middle next old between new first second =
     let same : walked rows (place_at places middle) (four (byte % 16)) ≡ two = ap (λ (w : Walk). walked rows w (four (byte % 16))) first.2 in
     let all = halves state byte in (
       ap (λ (r : List ℕ × Walk). list_any is_end_mark r.0) all ∙ list_any-append is_end_mark one.0 two.0
-          ∙ or_false (list_any is_end_mark one.0) (list_any is_end_mark two.0) first.0 (ap (λ (r : List ℕ × Walk). list_any is_end_mark r.0) (sym same) ∙ second.0),
+          ∙ or_from (list_any is_end_mark one.0) (list_any is_end_mark two.0) first.0 (ap (λ (r : List ℕ × Walk). list_any is_end_mark r.0) (sym same) ∙ second.0),
       second.1 ∙ ap (λ (t : List ℕ). t ++ (walked rows (place_at places middle) (four (byte % 16))).0) first.1 ∙ ap (λ (r : List ℕ × Walk). (old ++ one.0) ++ r.0) same
           ∙ append_assoc old one.0 two.0 ∙ ap (λ (r : List ℕ × Walk). old ++ r.0) (sym all),
       second.2 ∙ ap (λ (r : List ℕ × Walk). r.1) same ∙ sym (ap (λ (r : List ℕ × Walk). r.1) all),

@@ -31,6 +31,10 @@ pub guard_ok : {A : Type 0} (b : Bool) (d : HpackFault) (x y : A) → cond b (Er
 guard_ok true d x y e = absurd cc
 guard_ok false d x y e = (refl, cc)
 
+-- a text that can't be read
+abbrev pub err : HpackFault → Result (List ℕ) HpackFault
+err e = Err e
+
 abbrev pub done : {A : Type 0} → A → Result A HpackFault
 done x = Ok x
 

@@ -31,7 +31,8 @@ impl Model for DynamicTable {
 
     ghost view = { λ t. record { entries = views t.entries.items; largest = t.largest } };
 
-    ghost invariant = { λ t. (t.size ≡ size_of (views t.entries.items)) × (t.size ≤ t.largest) × (t.largest ≤ 4096) };
+    ghost invariant = { λ t. (t.size ≡ size_of (views t.entries.items))
+        × (t.size ≤ t.largest) × (t.largest ≤ 4096) };
 }
 
 impl DynamicTable {

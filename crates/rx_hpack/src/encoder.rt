@@ -43,7 +43,8 @@ impl Encoder {
         // So a decoder reads the list back, a new one or any other.
         ensures read_back { IfOk result
             (λ block. (table : Table) → size_of (views headers.now) ≤ 65536 →
-            block_of table block.items ≡ Ok (record { fields = views headers.now; table = table })) }
+            block_of table block.items
+            ≡ Ok (record { fields = views headers.now; table = table })) }
     {
         write_block(alloc, headers)
     }

@@ -1,12 +1,12 @@
 -- A search for `>` that passes over letters and splices.
 use Rattle.std.proofs.Common.{◌≡◌, ◌≢◌, ◌⊎◌, ℕ, zero, suc, ◌+◌, ◌-◌, ◌<◌, ◌≤◌, List, [], ◌∷◌, length, get_or, drop, refl, ap, sym, subst, ◌∙◌, arith, Bool, true, false, cond, ◌==◌, Option, None, Some, inl, inr}
-use Rattle.std.proofs.lemmas.List.{drop-drop}
-use Rattle.std.proofs.lemmas.Bool.{cases_lt}
+use Rattle.std.proofs.lemmas.List.{drop-drop, drop_more}
+use Rattle.std.proofs.lemmas.Bool.{cases_lt, eqb-true}
 use Rattle.std.proofs.lemmas.Bool.Decides.{nat_tests}
 use Rattle.rx_lex.specs.Letters.{Letter, is_blank, letters_at, letters_from, letter_before, one_more, splice_at, splice_rest}
 use Rattle.rx_lex.specs.Pieces.{behind_header}
 use Rattle.rx_lex.specs.Angled.{IsBarren}
-use Rattle.rx_lex.proofs.LetterLemmas.{letters_end, next_drop, next_of, splice_from}
+use Rattle.rx_lex.proofs.LetterLemmas.{letters_end, next_of, splice_from}
 
 abbrev pub behind_angle : List ℕ → ℕ → Option (List Letter)
 behind_angle text at = behind_header 62 (letters_at text at)
@@ -32,14 +32,11 @@ by_byte true t n x y f g k h = f refl
 by_byte false true n x y f g k h = g refl ∙ k (one_more_some n h)
 by_byte false false n x y f g k h = absurd (omega arith)
 
-is_test : (b c : ℕ) → (b == c) ≡ true → b ≡ c
-is_test b c h = grind (arith, nat_tests)
-
 in_splice : (bs : List ℕ) → 0 < splice_rest bs → behind_header 62 (letters_from 0 bs) ≡ None
 in_splice [] h = refl
 in_splice (b ∷ bs) h =
     by_byte (b == 10) (is_blank b) (splice_rest bs) (behind_header 62 (letters_from 0 (b ∷ bs))) (behind_header 62 (letters_from 0 bs))
-    (λ e. line_stops b bs (is_test b 10 e)) (blank_passes b bs) (in_splice bs) h
+    (λ e. line_stops b bs (eqb-true b 10 e)) (blank_passes b bs) (in_splice bs) h
 
 inside_by : (e t : Bool) (n m j : ℕ) → (m < n → 0 < j) → suc m < cond e 1 (cond t (one_more n) 0) → 0 < j
 inside_by true t n m j f h = absurd (omega arith)
@@ -63,7 +60,7 @@ inside text at p room above below =
     let bs : List ℕ = drop (at + 1) text in
     let j : ℕ = p - (at + 1) in
     let place : at + 1 + j ≡ p = omega arith in
-    let here : splice_at (drop at text) ≡ splice_at (byte ∷ bs) = ap splice_at (next_drop text at room) in
+    let here : splice_at (drop at text) ≡ splice_at (byte ∷ bs) = ap splice_at (drop_more text at 0 room) in
     let short : j < splice_at (byte ∷ bs) = omega (arith, here) in
     let more = rest_inside bs j (splice_by (byte == 92) (splice_rest bs) j short) in
     let same : drop j bs ≡ drop p text = drop-drop j (at + 1) text ∙ ap (λ (k : ℕ). drop k text) place in
@@ -77,7 +74,7 @@ step_by text at zero room h k e =
     ap (behind_header 62) n.is ∙ (passes (letter_before text (get_or text at 0) (at + 1)) (letters_at text (at + 1)) h k
     ∙ ap (λ (q : ℕ). behind_angle text q) place)
 step_by text at (suc n) room h k e =
-    ap (λ (xs : List ℕ). behind_header 62 (letters_from 0 xs)) (next_drop text at room)
+    ap (λ (xs : List ℕ). behind_header 62 (letters_from 0 xs)) (drop_more text at 0 room)
     ∙ (ap (behind_header 62) (splice_from (get_or text at 0) n (drop (at + 1) text) e)
     ∙ ap (λ (xs : List ℕ). behind_header 62 (letters_from 0 xs)) (drop-drop (suc n) (at + 1) text))
 
@@ -85,7 +82,7 @@ step_by text at (suc n) room h k e =
 step : (text : List ℕ) (at : ℕ) → at < length text → get_or text at 0 ≢ 10 → get_or text at 0 ≢ 62
     → behind_angle text at ≡ behind_angle text (at + 1 + splice_at (drop at text))
 step text at room h k =
-    let here : splice_at (drop at text) ≡ splice_at (get_or text at 0 ∷ drop (at + 1) text) = ap splice_at (next_drop text at room) in
+    let here : splice_at (drop at text) ≡ splice_at (get_or text at 0 ∷ drop (at + 1) text) = ap splice_at (drop_more text at 0 room) in
     step_by text at (splice_at (drop at text)) room h k (sym here)
 
 -- From each place that was passed no name ends, or it ends as from the place that was reached.
@@ -135,7 +132,7 @@ searched_all text from at s e = λ p above below. both_none (behind_angle text p
 
 pub at_line : (text : List ℕ) (at : ℕ) → at < length text → get_or text at 0 ≡ 10 → behind_angle text at ≡ None
 at_line text at room h =
-    ap (λ (xs : List ℕ). behind_header 62 (letters_from 0 xs)) (next_drop text at room) ∙ line_stops (get_or text at 0) (drop (at + 1) text) h
+    ap (λ (xs : List ℕ). behind_header 62 (letters_from 0 xs)) (drop_more text at 0 room) ∙ line_stops (get_or text at 0) (drop (at + 1) text) h
 
 pub at_end : (text : List ℕ) (at : ℕ) → length text ≤ at → behind_angle text at ≡ None
 at_end text at h = ap (behind_header 62) (letters_end text at h)
@@ -145,4 +142,4 @@ angle_stops b bs h = grind (arith, nat_tests)
 
 pub at_angle : (text : List ℕ) (at : ℕ) → at < length text → get_or text at 0 ≡ 62 → behind_angle text at ≡ Some (letters_at text (at + 1))
 at_angle text at room h =
-    ap (λ (xs : List ℕ). behind_header 62 (letters_from 0 xs)) (next_drop text at room) ∙ angle_stops (get_or text at 0) (drop (at + 1) text) h
+    ap (λ (xs : List ℕ). behind_header 62 (letters_from 0 xs)) (drop_more text at 0 room) ∙ angle_stops (get_or text at 0) (drop (at + 1) text) h

@@ -1,13 +1,10 @@
 -- The three words that make a file hard anywhere, in one search.
 use Rattle.std.proofs.Common.{◌≡◌, List, [], ◌∷◌, ◌++◌, refl, ap, sym, ◌∙◌, Bool, true, false, cond, ◌||◌, ◌&&◌, ◌==◌}
 use Rattle.std.specs.Prelude.{codes}
+use Rattle.std.proofs.lemmas.Bool.{or_right}
 use Rattle.rx_lex.specs.Letters.{Letter, begins}
 use Rattle.rx_lex.specs.Directives.{contains, has_lone_return, is_hard_anywhere}
 use Rattle.rx_lex.specs.Anywhere.{has_word, word_here}
-
-or_true : (b : Bool) → (b || true) ≡ true
-or_true true = refl
-or_true false = refl
 
 mark_here : (s p q : Bool) (a b c : Bool) → (cond s p false || a || (cond s q false || b) || (false || c)) ≡ (false || (s && (p || q)) || (a || b || c))
 mark_here true true q a b c = refl
@@ -17,7 +14,7 @@ mark_here true false false a b c = refl
 mark_here false p q a b c = refl
 
 point_here : (s p q a b c : Bool) → (cond s p false || a || (cond s q false || b) || (true || c)) ≡ true
-point_here s p q a b c = or_true (cond s p false || a || (cond s q false || b))
+point_here s p q a b c = or_right (cond s p false || a || (cond s q false || b)) true refl
 
 one_here : (s p q t i a b c : Bool) → (cond s p false || a || (cond s q false || b) || (cond t i false || c)) ≡ ((t && i) || (s && (p || q)) || (a || b || c))
 one_here s p q true true a b c = point_here s p q a b c

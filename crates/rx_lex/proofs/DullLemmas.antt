@@ -2,6 +2,7 @@
 use Rattle.std.proofs.Common.{◌≡◌, ℕ, ◌≤◌, List, [], ◌∷◌, ◌++◌, length, refl, ap, sym, subst, ◌∙◌, arith, Bool, true, false, cond, ◌||◌, ◌&&◌, ◌==◌, Option, Some, None, drop}
 use Rattle.std.specs.Prelude.{codes}
 use Rattle.std.proofs.lemmas.Bool.Decides.{nat_tests}
+use Rattle.std.proofs.lemmas.Bool.{or_from}
 use Rattle.rx_lex.specs.Letters.{Letter, begins, is_blank}
 use Rattle.rx_lex.specs.Quiet.{IsDull, is_dull}
 use Rattle.rx_lex.proofs.ShorterLemmas.{behind_all_short, behind_number_short}
@@ -51,18 +52,15 @@ not_both q n true s a b = rw (a, b) refl
 not_either : (q n e s : Bool) → q ≡ false → e ≡ false → ((q && n) || (e && s)) ≡ false
 not_either q n e s a b = rw (a, b) refl
 
-neither : (n d : Bool) → n ≡ false → d ≡ false → (n || d) ≡ false
-neither n d a b = rw (a, b) refl
-
 number_stops : (l : Letter) (rest : List Letter) → may_continue l.byte ≡ false → behind_number (l ∷ rest) ≡ l ∷ rest
 number_stops l [] h =
     let a = apart (is_name l.byte) (l.byte == 46) (l.byte == 43) (l.byte == 45) (l.byte == 39) h in
-    rw (neither (is_name l.byte) (l.byte == 46) a.0 a.1) refl
+    rw (or_from (is_name l.byte) (l.byte == 46) a.0 a.1) refl
 number_stops l (m ∷ rest) h =
     let a = apart (is_name l.byte) (l.byte == 46) (l.byte == 43) (l.byte == 45) (l.byte == 39) h in
     rw (
       not_either (l.byte == 39) (is_name m.byte) (is_exponent l.byte) (is_sign m.byte) a.3 (no_exponent l.byte a.0),
-      neither (is_name l.byte) (l.byte == 46) a.0 a.1,
+      or_from (is_name l.byte) (l.byte == 46) a.0 a.1,
     ) refl
 
 pub number_append : (run rest : List Letter) → IsDull run → Stops may_continue rest → behind_number (run ++ rest) ≡ behind_number run ++ rest

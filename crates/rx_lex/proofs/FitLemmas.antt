@@ -2,6 +2,8 @@
 use Rattle.std.proofs.Common.{◌≡◌, ℕ, zero, suc, ◌+◌, ◌-◌, ◌<◌, ◌≤◌, List, [], ◌∷◌, length, take, drop, refl, ap, sym, ◌∙◌, arith, Bool, true, false, cond, not, ◌||◌, ◌&&◌, ◌==◌, Option, Some, None}
 use Rattle.std.specs.Prelude.{codes}
 use Rattle.std.proofs.lemmas.Bool.Decides.{nat_tests}
+use Rattle.std.proofs.Math.Bool.{or-false}
+use Rattle.std.proofs.lemmas.Bool.{false≢true, true≢false}
 use Rattle.rx_lex.specs.Letters.{Letter, bytes, letters_at, letter_before, is_blank, is_split_at}
 use Rattle.rx_lex.specs.Pieces.{Front, Kind as PieceKind, Literal, Raw, Header, is_digit, is_name, behind_all, behind_line, behind_header, literal, raw, raw_at, raw_behind, raw_prefix}
 use Rattle.rx_lex.proofs.TextLemmas.{word_text}
@@ -48,9 +50,6 @@ open_not zero l ls k w h = refl
 open_not (suc n) l ls k w h =
     let parts = plain_parts (l.byte == 35) (l.byte == 37) (l.byte == 40) h in rw parts.2 refl
 
-pub no_header : (h : Bool) → h ≡ false → h ≡ true → ⊥
-no_header h e f = grind arith
-
 -- a piece that opens no directive and no parenthesis
 fits_by : (text : List ℕ) (first next : ℕ) (cut : Cut) → IsPlain first → next ≤ cut.end → cut.end ≤ length text → is_hash cut.kind ≡ false → is_open cut.kind ≡ false
     → is_hard_alone (piece_view text first next cut) ≡ cut.hard
@@ -84,8 +83,8 @@ fits_plain text first next kind end plain on within raw header hash opens long w
     fits_by text first next cut plain on within hash opens
     (alone_not (kind_view kind) spelled raw)
     (λ h. long_not (kind_view kind) spelled true raw ∙ sym long)
-    (λ h. absurd (no_header (is_word (kind_view kind)) word h))
-    (λ h. absurd (no_header (is_header (kind_view kind)) header h))
+    (λ h. absurd (false≢true (sym word ∙ h)))
+    (λ h. absurd (false≢true (sym header ∙ h)))
 
 pub blank_plain : (b : ℕ) → is_blank b ≡ true → IsPlain b
 blank_plain b h = grind (arith, nat_tests)
@@ -110,7 +109,7 @@ fits_word text first next end plain on within e =
     let ls : List Letter = letters_at text next in
     fits_by text first next (record { kind = code.Word; whole = true; hard = false; end = end }) plain on within refl refl refl (λ no. refl)
     (λ yes. ap (λ (rest : List Letter). bytes (take (length (l ∷ ls) - length rest) (l ∷ ls))) (sym e) ∙ word_text l ls)
-    (λ no. absurd (no_header false refl no))
+    (λ no. absurd (false≢true no))
 
 -- a literal that isn't closed ends before the line's end
 by_line : (e t : Bool) (l : Letter) (ls line : List Letter) (r : Front) → (r.whole ≡ false → r.rest ≡ line)
@@ -137,10 +136,6 @@ taken_line false l ls line front h t =
 pub line_taken : (ls : List Letter) → take (length ls - length (behind_line ls)) ls ≡ line_front ls
 line_taken [] = refl
 line_taken (l ∷ ls) = taken_line (l.byte == 10) l ls (behind_line ls) (line_front ls) (behind_all_short (λ b. not (b == 10)) ls) (line_taken ls)
-
-or_false : (b : Bool) → (b || false) ≡ b
-or_false true = refl
-or_false false = refl
 
 passes_line : (t x : Bool) → t ≡ false → (cond t true false || x) ≡ x
 passes_line t x h = rw h refl
@@ -178,7 +173,7 @@ open_alone l ls rest e =
     let same : length rest ≡ length (behind_line ls) = ap (λ (xs : List Letter). length xs) e in
     let text = piece_text l ls rest k (omega (arith, short, same)) in
     ap (λ (t : List Letter). is_hard_alone (record { kind = Literal; text = t; whole = false })) text
-    ∙ (or_false (contains (codes "/*") (take k ls)) ∙ ap (λ (t : List Letter). contains (codes "/*") t) (line_taken ls))
+    ∙ (or-false (contains (codes "/*") (take k ls)) ∙ ap (λ (t : List Letter). contains (codes "/*") t) (line_taken ls))
 
 pub fits_open : (text : List ℕ) (first next : ℕ) (hard : Bool) (end : ℕ) → IsPlain first → next ≤ end → end ≤ length text
     → literal first false (letters_at text next) ≡ (record { kind = Literal; whole = false; rest = letters_at text end })
@@ -190,14 +185,14 @@ fits_open text first next hard end plain on within e h =
     let rest : letters_at text end ≡ behind_line ls =
     sym (ap (λ (f : Front). f.rest) e) ∙ open_literal first false ls (ap (λ (f : Front). f.whole) e) in
     fits_by text first next (record { kind = code.Literal; whole = false; hard = hard; end = end }) plain on within refl refl
-    (open_alone l ls (letters_at text end) rest ∙ sym h) (λ no. refl) (λ no. absurd (no_header false refl no)) (λ no. absurd (no_header false refl no))
+    (open_alone l ls (letters_at text end) rest ∙ sym h) (λ no. refl) (λ no. absurd (false≢true no)) (λ no. absurd (false≢true no))
 
 -- a comment without end
 pub fits_endless : (text : List ℕ) (first next end : ℕ) → IsPlain first → next ≤ end → end ≤ length text
     → Fits text first next (record { kind = code.Comment; whole = false; hard = true; end = end })
 fits_endless text first next end plain on within =
     fits_by text first next (record { kind = code.Comment; whole = false; hard = true; end = end }) plain on within refl refl refl
-    (λ no. refl) (λ no. absurd (no_header false refl no)) (λ no. absurd (no_header false refl no))
+    (λ no. refl) (λ no. absurd (false≢true no)) (λ no. absurd (false≢true no))
 
 -- a raw literal
 pub fits_raw : (text : List ℕ) (first next : ℕ) (whole hard long : Bool) (end : ℕ) → IsPlain first → next ≤ end → end ≤ length text
@@ -206,12 +201,12 @@ pub fits_raw : (text : List ℕ) (first next : ℕ) (whole hard long : Bool) (en
     → Fits text first next (record { kind = code.Raw long; whole = whole; hard = hard; end = end })
 fits_raw text first next whole hard long end plain on within alone lines =
     fits_by text first next (record { kind = code.Raw long; whole = whole; hard = hard; end = end }) plain on within refl refl alone lines
-    (λ no. absurd (no_header false refl no)) (λ no. absurd (no_header false refl no))
+    (λ no. absurd (false≢true no)) (λ no. absurd (false≢true no))
 
 pub raw_bad : (text : List ℕ) (first next end : ℕ) → IsRawStart first → next ≤ end → end ≤ length text
     → Fits text first next (record { kind = code.Raw false; whole = false; hard = true; end = end })
 raw_bad text first next end start on within =
-    fits_raw text first next false true false end (raw_plain first start) on within refl (λ no. absurd (no_header true no refl))
+    fits_raw text first next false true false end (raw_plain first start) on within refl (λ no. absurd (true≢false no))
 
 front_split : (l : Letter) (ls : List Letter) (j : ℕ) → suc j ≤ length ls
     → split_in (take (length (l ∷ take (suc j) ls) - 1) (l ∷ take (suc j) ls)) ≡ (l.split || split_in (take j ls))
@@ -241,7 +236,7 @@ pub raw_split : (text : List ℕ) (first next k end : ℕ) → IsRawStart first 
 raw_split text first next k end start on within more count split =
     fits_raw text first next true true false end (raw_plain first start) on within
     (raw_alone (letter_before text first next) (letters_at text next) (letters_at text end) k more count ∙ split)
-    (λ no. absurd (no_header true no refl))
+    (λ no. absurd (true≢false no))
 
 pub raw_whole : (text : List ℕ) (first next k end : ℕ) (long : Bool) → IsRawStart first → next ≤ end → end ≤ length text → 0 < k
     → k + length (letters_at text end) ≡ length (letters_at text next)
@@ -294,7 +289,7 @@ fits_header text first next end plain on within e =
     let ls : List Letter = letters_at text next in
     let rest : List Letter = letters_at text end in
     fits_by text first next (record { kind = code.Header; whole = true; hard = false; end = end }) plain on within refl refl refl (λ no. refl)
-    (λ no. absurd (no_header false refl no))
+    (λ no. absurd (false≢true no))
     (λ yes. name_is (letter_before text first next) ls rest (closing first) true (header_cut (closing first) ls rest e))
 
 pub raw_none : (first : ℕ) (ls : List Letter) → raw_prefix first ls ≡ 0 → raw_at first ls ≡ None

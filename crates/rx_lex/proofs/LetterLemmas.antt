@@ -1,10 +1,11 @@
 -- The letters from a place on: at a plain byte, at a splice, and over a run without splices.
-use Rattle.std.proofs.Common.{◌≡◌, ◌≢◌, ℕ, zero, suc, ◌+◌, ◌-◌, ◌<◌, ◌≤◌, List, [], ◌∷◌, ◌++◌, length, get_or, take, drop, refl, ap, sym, subst, ◌∙◌, add-one, arith, length-drop, drop-cons, Bool, true, false, zero-add}
-use Rattle.std.proofs.lemmas.List.{drop_all, drop-drop, get_or-drop, take_all}
+use Rattle.std.proofs.Common.{◌≡◌, ◌≢◌, ℕ, zero, suc, ◌+◌, ◌-◌, ◌<◌, ◌≤◌, List, [], ◌∷◌, ◌++◌, length, get_or, take, drop, refl, ap, sym, subst, ◌∙◌, arith, length-drop, Bool, true, false, zero-add}
+use Rattle.std.proofs.lemmas.List.{drop_all, drop-drop, get_or-drop, take_all, drop_more}
 use Rattle.std.proofs.Math.Nat.{add-zero}
 use Rattle.memchr.specs.Find.{Nowhere, NoneBefore, Passes}
 use Rattle.std.proofs.lemmas.Bool.Decides.{nat_tests}
 use Rattle.std.specs.Prelude.{nat_lt}
+use Rattle.std.proofs.lemmas.Bool.{false_from_ne_true, true≢false}
 use Rattle.rx_lex.specs.Letters.{Letter, begins, letters_from, letters_at, splice_at, splice_rest, one_more, IsNext, ReadsSame, Without, is_blank, letter_before}
 
 -- behind a splice the letters go on
@@ -12,9 +13,6 @@ pub letters_skip : (n : ℕ) (xs : List ℕ) → letters_from n xs ≡ letters_f
 letters_skip zero xs = refl
 letters_skip (suc n) [] = refl
 letters_skip (suc n) (x ∷ xs) = letters_skip n xs
-
-pub next_drop : (text : List ℕ) (at : ℕ) → at < length text → drop at text ≡ get_or text at 0 ∷ drop (at + 1) text
-next_drop text at h = rw (add-one, drop-cons text at 0 h)
 
 pub letters_end : (text : List ℕ) (at : ℕ) → length text ≤ at → letters_at text at ≡ []
 letters_end text at h = ap (λ xs. letters_from 0 xs) (drop_all at text h)
@@ -36,7 +34,7 @@ its_splice b bs h = grind (arith, nat_tests)
 pub next_of : (text : List ℕ) (at : ℕ) → at < length text → splice_at (get_or text at 0 ∷ drop (at + 1) text) ≡ 0
     → IsNext text at (get_or text at 0) (at + 1)
 next_of text at h e = record {
-  is = ap (λ xs. letters_from 0 xs) (next_drop text at h) ∙ plain_from (get_or text at 0) (drop (at + 1) text) e;
+  is = ap (λ xs. letters_from 0 xs) (drop_more text at 0 h) ∙ plain_from (get_or text at 0) (drop (at + 1) text) e;
   on = omega arith;
   within = omega arith;
 }
@@ -53,7 +51,7 @@ pub letters_splice : (text : List ℕ) (at skip : ℕ) → at < length text → 
     → splice_rest (drop (at + 1) text) ≡ skip → 0 < skip → letters_at text at ≡ letters_at text (at + 1 + skip)
 letters_splice text at zero h e s more = absurd (omega arith)
 letters_splice text at (suc n) h e s more =
-    ap (λ xs. letters_from 0 xs) (next_drop text at h)
+    ap (λ xs. letters_from 0 xs) (drop_more text at 0 h)
     ∙ splice_from (get_or text at 0) n (drop (at + 1) text) (its_splice (get_or text at 0) (drop (at + 1) text) e ∙ s)
     ∙ ap (λ xs. letters_from 0 xs) (drop-drop (suc n) (at + 1) text)
 
@@ -84,15 +82,8 @@ splice_other b bs h e = grind (arith, nat_tests)
 pub splice_end : (b : ℕ) (bs : List ℕ) → b ≡ 10 → splice_rest (b ∷ bs) ≡ 1
 splice_end b bs h = grind (arith, nat_tests)
 
-pub fails : (b : Bool) → ¬ (b ≡ true) → b ≡ false
-fails true h = absurd (h refl)
-fails false h = refl
-
-not_both : (b : Bool) → b ≡ false → b ≡ true → ⊥
-not_both b f h = grind arith
-
 pub no_backslash : (test : ℕ → Bool) (b : ℕ) → test 92 ≡ true → test b ≡ false → b ≢ 92
-no_backslash test b h f e = not_both (test b) f (ap test e ∙ h)
+no_backslash test b h f e = true≢false (sym (ap test e ∙ h) ∙ f)
 
 -- so many bytes as letters
 abbrev pub plain : List ℕ → ℕ → ℕ → List Letter
@@ -115,7 +106,7 @@ pub plain_is : (test : ℕ → Bool) → test 92 ≡ true → (text : List ℕ) 
     → letters_at text at ≡ plain text at n ++ letters_at text (at + n)
 plain_is test mark text zero at w = ap (λ p. letters_at text p) (sym (add-zero at))
 plain_is test mark text (suc n) at w =
-    let here : test (get_or text at 0) ≡ false = fails (test (get_or text at 0)) (w.none at (omega arith) (omega arith)) in
+    let here : test (get_or text at 0) ≡ false = false_from_ne_true (test (get_or text at 0)) (w.none at (omega arith) (omega arith)) in
     let next : IsNext text at (get_or text at 0) (at + 1) = next_plain text at (omega (arith, w.within)) (no_backslash test (get_or text at 0) mark here) in
     let place : at + 1 + n ≡ at + suc n = omega arith in
     let l : Letter = letter_before text (get_or text at 0) (at + 1) in
@@ -127,7 +118,7 @@ skips_over : {X : Type 0} (F : List Letter → X) (test : ℕ → Bool) → ((l 
     → (text : List ℕ) (n at : ℕ) (rest : List Letter) → Without test text at (at + n) → F (plain text at n ++ rest) ≡ F rest
 skips_over F test each text zero at rest w = refl
 skips_over F test each text (suc n) at rest w =
-    each (letter_before text (get_or text at 0) (at + 1)) (plain text (at + 1) n ++ rest) (fails (test (get_or text at 0)) (w.none at (omega arith) (omega arith)))
+    each (letter_before text (get_or text at 0) (at + 1)) (plain text (at + 1) n ++ rest) (false_from_ne_true (test (get_or text at 0)) (w.none at (omega arith) (omega arith)))
     ∙ skips_over F test each text n (at + 1) rest (without_behind test text n at w)
 
 pub reads_without : {X : Type 0} (F : List Letter → X) (test : ℕ → Bool) → test 92 ≡ true
@@ -188,12 +179,12 @@ pub begins_next : (wanted : List ℕ) (i : ℕ) (now : List Letter) (l : Letter)
     → l.byte ≡ get_or wanted i 0 → begins (drop i wanted) now ≡ begins (drop (i + 1) wanted) rest
 begins_next wanted i now l rest h n e =
     ap (λ (xs : List Letter). begins (drop i wanted) xs) n
-    ∙ (ap (λ (bs : List ℕ). begins bs (l ∷ rest)) (next_drop wanted i h)
+    ∙ (ap (λ (bs : List ℕ). begins bs (l ∷ rest)) (drop_more wanted i 0 h)
     ∙ begins_cons (get_or wanted i 0) (drop (i + 1) wanted) l rest e)
 
 pub begins_not : (wanted : List ℕ) (i : ℕ) (now : List Letter) → i < length wanted → now ≡ [] → begins (drop i wanted) now ≡ false
 begins_not wanted i now h n =
-    ap (λ (xs : List Letter). begins (drop i wanted) xs) n ∙ ap (λ (bs : List ℕ). begins bs []) (next_drop wanted i h)
+    ap (λ (xs : List Letter). begins (drop i wanted) xs) n ∙ ap (λ (bs : List ℕ). begins bs []) (drop_more wanted i 0 h)
 
 pub rest_next : (whole now : List Letter) (i : ℕ) (l : Letter) (rest : List Letter) → now ≡ drop i whole → now ≡ l ∷ rest → rest ≡ drop (i + 1) whole
 rest_next whole now i l rest e n =

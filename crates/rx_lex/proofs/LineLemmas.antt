@@ -3,13 +3,14 @@ use Rattle.std.proofs.Common.{◌≡◌, ℕ, List, [], ◌∷◌, ◌++◌, ref
 use Rattle.std.specs.Prelude.{reverse}
 use Rattle.std.proofs.lemmas.List.{reverse-append}
 use Rattle.std.proofs.lemmas.Bool.Decides.{nat_tests}
+use Rattle.std.proofs.Math.Bool.{and-false, or-false}
 use Rattle.rx_lex.specs.Letters.{bytes}
 use Rattle.rx_lex.specs.Pieces.{Piece}
 use Rattle.rx_lex.specs.Line.{begins_by_open, begins_by_query, hash_marks, include_words, is_among, is_any_word, is_asking, is_directive, is_empty, is_exported, is_including, is_named, is_single, is_token, is_word, open_marks, pragma_words, query_words, same, spells, wants_header}
 use Rattle.rx_lex.specs.Directives.{behind, is_line_end}
 use Rattle.rx_lex.specs.Step.{behind_piece, behind_token, line_of}
 use Rattle.rx_lex.specs.declared.line.Line.{Line}
-use Rattle.rx_lex.proofs.StepLemmas.{and_false, or_false, same_line}
+use Rattle.rx_lex.proofs.StepLemmas.{same_line}
 
 -- the last token of a longer line
 reverse_more : (line : List Piece) (p : Piece) → reverse (line ++ (p ∷ [])) ≡ p ∷ reverse line
@@ -19,7 +20,7 @@ reverse_more line p = reverse-append line (p ∷ [])
 apart : (hash percent line : Bool) (x y u v : Bool) → (line ≡ true → (hash ≡ false) × (percent ≡ false))
     → ((cond hash x false || (cond percent y false || false)) && (cond line u false || (cond line v false || false))) ≡ false
 apart hash percent true x y u v f = rw ((f refl).0, (f refl).1) refl
-apart hash percent false x y u v f = and_false (cond hash x false || (cond percent y false || false))
+apart hash percent false x y u v f = and-false (cond hash x false || (cond percent y false || false))
 
 begins_apart : (b : ℕ) → (b == 95) ≡ true → ((b == 35) ≡ false) × ((b == 37) ≡ false)
 begins_apart b h = (grind (arith, nat_tests), grind (arith, nat_tests))
@@ -34,7 +35,7 @@ marks_apart (b ∷ bs) =
 
 no_query_by : (h w q : Bool) → (h && q) ≡ false → (h && (w && q)) ≡ false
 no_query_by h true q e = e
-no_query_by h false q e = and_false h
+no_query_by h false q e = and-false h
 
 no_query : (p : Piece) → (spells hash_marks p && is_any_word query_words p) ≡ false
 no_query p = no_query_by (spells hash_marks p) (is_word p.kind) (spells query_words p) (marks_apart (bytes p.text))
@@ -44,7 +45,7 @@ asking_behind [] p = no_query p
 asking_behind (a ∷ line) p = ap (λ (xs : List Piece). is_directive (a ∷ line) && begins_by_query xs) (reverse_more (a ∷ line) p)
 
 opens_none : (d o : Bool) → (d && (o && false)) ≡ false
-opens_none d o = ap (λ (b : Bool). d && b) (and_false o) ∙ and_false d
+opens_none d o = ap (λ (b : Bool). d && b) (and-false o) ∙ and-false d
 
 opens_last : (d o q : Bool) → (d && (o && q)) ≡ ((d && q) && o)
 opens_last true true true = refl
@@ -88,7 +89,7 @@ exported_behind (a ∷ b ∷ line) p = refl
 pragma_behind : (line : List Piece) (p : Piece) → is_named pragma_words (line ++ (p ∷ [])) ≡ (behind_token (line_of line) p).pragma
 pragma_behind [] p = refl
 pragma_behind (a ∷ []) p = refl
-pragma_behind (a ∷ b ∷ line) p = sym (or_false (is_named pragma_words (a ∷ b ∷ line)))
+pragma_behind (a ∷ b ∷ line) p = sym (or-false (is_named pragma_words (a ∷ b ∷ line)))
 
 pub line_of_token : (line : List Piece) (p : Piece) → line_of (line ++ (p ∷ [])) ≡ behind_token (line_of line) p
 line_of_token line p =

@@ -1,13 +1,13 @@
 -- From what the code knows of the text ahead comes a dull run.
-use Rattle.std.proofs.Common.{not, ◌≡◌, ◌≢◌, ℕ, zero, suc, ◌+◌, ◌-◌, ◌<◌, ◌≤◌, List, [], ◌∷◌, ◌++◌, length, length-drop, get_or, drop, take, refl, ap, sym, subst, ◌∙◌, arith, Bool, true, false, cond, ◌||◌, ◌==◌}
+use Rattle.std.proofs.Common.{◌≡◌, ◌≢◌, ℕ, zero, suc, ◌+◌, ◌-◌, ◌<◌, ◌≤◌, List, [], ◌∷◌, ◌++◌, length, length-drop, get_or, drop, take, refl, ap, sym, subst, ◌∙◌, arith, Bool, true, false, cond, ◌||◌, ◌==◌}
 use Rattle.std.specs.Prelude.{codes}
-use Rattle.std.proofs.lemmas.Bool.Decides.{nat_tests}
 use Rattle.std.proofs.lemmas.List.{get_or-drop, get_or-take, length-take-le}
+use Rattle.std.proofs.lemmas.Bool.{eqb-true, false_from_ne_true, not_from_false, or_from}
 use Rattle.memchr.specs.Find.{NoneBefore, Nowhere, OccursAt, Passes, is_byte}
 use Rattle.rx_lex.specs.Letters.{IsNext, Letter, Without, begins, letter_before, letters_at}
 use Rattle.rx_lex.specs.Quiet.{IsAhead, IsDull, IsLineEnd, Run, may_matter, opens_literal, opens_mark, quiet_end}
 use Rattle.rx_lex.specs.declared.quiet.Ahead.{Ahead}
-use Rattle.rx_lex.proofs.LetterLemmas.{fails, next_plain, plain, plain_is, range_all}
+use Rattle.rx_lex.proofs.LetterLemmas.{next_plain, plain, plain_is, range_all}
 
 -- what is nowhere is nowhere in a part
 nowhere_part : (P : ℕ → Type 0) (i j low high : ℕ) → Nowhere P i j → i ≤ low → high ≤ j → Nowhere P low high
@@ -46,9 +46,6 @@ ahead_nothing text at ahead e = subst (λ (ahead : Ahead). IsAhead text at ahead
   mark = λ k above below. absurd (omega arith);
 })
 
-neither : (x y : Bool) → x ≡ false → y ≡ false → (x || y) ≡ false
-neither x y e f = rw (e, f) refl
-
 matters_not : (x y : Bool) → ¬ (x ≡ true) → ¬ (y ≡ true) → ¬ ((x || y) ≡ true)
 matters_not true y f g h = f refl
 matters_not false y f g h = g h
@@ -82,29 +79,23 @@ test_parts : (t x : Bool) → cond t x false ≡ true → (t ≡ true) × (x ≡
 test_parts true x h = (refl, h)
 test_parts false x h = absurd (grind arith)
 
-is_test : (b c : ℕ) → (b == c) ≡ true → b ≡ c
-is_test b c h = grind (arith, nat_tests)
-
 pub begins_occurs : (text word : List ℕ) (n at : ℕ) → at + n ≤ length text → begins word (plain text at n) ≡ true → OccursAt text word at
 begins_occurs text [] n at room h = record { fits = omega arith; reads = λ j below. absurd (omega arith) }
 begins_occurs text (b ∷ word) zero at room h = absurd (grind arith)
 begins_occurs text (b ∷ word) (suc n) at room h =
     let parts = test_parts (get_or text at 0 == b) (begins word (plain text (at + 1) n)) h in
-    occurs_more text word b at (omega arith) (is_test (get_or text at 0) b parts.0) (begins_occurs text word n (at + 1) (omega arith) parts.1)
-
-is_dull_by : (x : Bool) → x ≡ false → not x ≡ true
-is_dull_by x e = rw e refl
+    occurs_more text word b at (omega arith) (eqb-true (get_or text at 0) b parts.0) (begins_occurs text word n (at + 1) (omega arith) parts.1)
 
 pub plain_quiet : (text : List ℕ) (n at : ℕ) → IsQuiet text at (at + n) → IsDull (plain text at n)
 plain_quiet text zero at q = tt
 plain_quiet text (suc n) at q =
     let room : at + suc n ≤ length text = q.dull.within in (
-      is_dull_by (may_matter (get_or text at 0)) (fails (may_matter (get_or text at 0)) (q.dull.none at (omega arith) (omega arith))),
+      not_from_false (may_matter (get_or text at 0)) (false_from_ne_true (may_matter (get_or text at 0)) (q.dull.none at (omega arith) (omega arith))),
       plain_quiet text n (at + 1) (quiet_part text at (at + suc n) (at + 1) (at + 1 + n) q (omega arith) (omega arith) (omega arith)),
-      neither (begins (codes "import") (plain text at (suc n))) (begins (codes "module") (plain text at (suc n)))
-          (fails (begins (codes "import") (plain text at (suc n)))
+      or_from (begins (codes "import") (plain text at (suc n))) (begins (codes "module") (plain text at (suc n)))
+          (false_from_ne_true (begins (codes "import") (plain text at (suc n)))
           (λ e. q.import_word at (omega arith) (omega arith) (begins_occurs text (codes "import") (suc n) at room e)))
-          (fails (begins (codes "module") (plain text at (suc n)))
+          (false_from_ne_true (begins (codes "module") (plain text at (suc n)))
           (λ e. q.module_word at (omega arith) (omega arith) (begins_occurs text (codes "module") (suc n) at room e))),
     )
 
@@ -169,4 +160,4 @@ line_found text from to found on within high h =
     let short : found < to - from = omega (arith, size) in
     let same : get_or (take (to - from) (drop from text)) found 0 ≡ get_or text (from + found) 0 =
     get_or-take (to - from) (drop from text) found 0 short ∙ get_or-drop from text found 0 in
-    record { on = omega arith; before = omega arith; is = sym same ∙ is_test (get_or (take (to - from) (drop from text)) found 0) 10 h }
+    record { on = omega arith; before = omega arith; is = sym same ∙ eqb-true (get_or (take (to - from) (drop from text)) found 0) 10 h }

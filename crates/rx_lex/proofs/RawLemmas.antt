@@ -1,13 +1,15 @@
 -- The letters of a raw literal.
-use Rattle.std.proofs.Common.{◌≡◌, ◌≢◌, ℕ, suc, ◌+◌, ◌-◌, ◌<◌, ◌≤◌, List, [], ◌∷◌, ◌++◌, length, take, drop, refl, ap, sym, subst, ◌∙◌, arith, Bool, true, false, cond, ◌||◌, ◌==◌, Option, Some, None, length-drop, length-append}
+use Rattle.std.proofs.Common.{◌≡◌, ◌≢◌, ℕ, suc, ◌+◌, ◌-◌, ◌<◌, ◌≤◌, List, [], ◌∷◌, ◌++◌, length, take, drop, refl, ap, sym, subst, ◌∙◌, arith, Bool, true, false, cond, ◌==◌, Option, Some, None, length-drop, length-append}
 use Rattle.std.proofs.lemmas.List.{drop-drop}
 use Rattle.std.proofs.lemmas.Bool.Decides.{nat_tests}
+use Rattle.std.proofs.lemmas.Bool.{ne_eqb, or_parts}
 use Rattle.memchr.specs.Find.{is_byte2}
 use Rattle.rx_lex.specs.Letters.{Letter, begins, letters_at, IsBegun, IsNext, Without}
 use Rattle.rx_lex.specs.Pieces.{behind_text}
 use Rattle.rx_lex.specs.Line.{any}
 use Rattle.rx_lex.specs.Directives.{contains}
 use Rattle.rx_lex.proofs.LetterLemmas.{plain, plain_is, plain_length}
+use Rattle.rx_lex.proofs.TextLemmas.{by_head, by_no_head, head_false}
 
 -- a count goes down as its letter is passed
 split_step : (n : ℕ) (l : Letter) (now ls : List Letter) → now ≡ l ∷ ls → l.split ≡ false
@@ -24,22 +26,15 @@ line_step : (n : ℕ) (l : Letter) (now ls : List Letter) → now ≡ l ∷ ls �
     → contains (10 ∷ []) (take (suc n) now) ≡ contains (10 ∷ []) (take n ls)
 line_step n l now ls e h = rw (e, h) refl
 
-no_test : (b c : ℕ) → b ≢ c → (b == c) ≡ false
-no_test b c h = grind (arith, nat_tests)
-
 pub line_more : (left : ℕ) (l : Letter) (now ls : List Letter) → 0 < left → now ≡ l ∷ ls → l.byte ≢ 10
     → contains (10 ∷ []) (take left now) ≡ contains (10 ∷ []) (take (left - 1) ls)
 line_more left l now ls more e h =
     let n : suc (left - 1) ≡ left = omega arith in
-    ap (λ (k : ℕ). contains (10 ∷ []) (take k now)) (sym n) ∙ line_step (left - 1) l now ls e (no_test l.byte 10 h)
-
-first_fails : (x y : Bool) → (x || y) ≡ false → x ≡ false
-first_fails true y h = absurd (grind arith)
-first_fails false y h = refl
+    ap (λ (k : ℕ). contains (10 ∷ []) (take k now)) (sym n) ∙ line_step (left - 1) l now ls e (ne_eqb l.byte 10 h)
 
 -- the search for the end passes over each letter that isn't `)`
 pub close_passes : (name : List ℕ) (l : Letter) (ls : List Letter) → is_byte2 41 92 l.byte ≡ false → behind_text (41 ∷ name) (l ∷ ls) ≡ behind_text (41 ∷ name) ls
-close_passes name l ls h = rw (first_fails (l.byte == 41) (l.byte == 92) h) refl
+close_passes name l ls h = rw (or_parts (l.byte == 41) (l.byte == 92) h).0 refl
 
 pub close_other : (name : List ℕ) (l : Letter) (ls : List Letter) → begins (41 ∷ name) (l ∷ ls) ≡ false → behind_text (41 ∷ name) (l ∷ ls) ≡ behind_text (41 ∷ name) ls
 close_other name l ls h = rw h refl
@@ -60,24 +55,16 @@ plain_count_to test mark text at to w =
     omega (arith, all, same, length-append (plain text at n) (letters_at text (at + n)), plain_length text n at)
 
 -- `)`, a delimiter and a quote
-on_true : (t x y z : Bool) → (x ≡ true → y ≡ z) → cond t x false ≡ true → cond t y false ≡ z
-on_true true x y z f h = f h
-on_true false x y z f h = absurd (grind arith)
-
 pub begins_append : (one other : List ℕ) (ls : List Letter) → begins one ls ≡ true → begins (one ++ other) ls ≡ begins other (drop (length one) ls)
 begins_append [] other ls h = refl
 begins_append (b ∷ bs) other [] h = absurd (grind arith)
 begins_append (b ∷ bs) other (l ∷ ls) h =
-    on_true (l.byte == b) (begins bs ls) (begins (bs ++ other) ls) (begins other (drop (length bs) ls)) (begins_append bs other ls) h
-
-on_false : (t x y : Bool) → (x ≡ false → y ≡ false) → cond t x false ≡ false → cond t y false ≡ false
-on_false true x y f h = f h
-on_false false x y f h = refl
+    by_head (l.byte == b) (begins bs ls) (begins (bs ++ other) ls) (begins other (drop (length bs) ls)) (begins_append bs other ls) h
 
 pub begins_append_not : (one other : List ℕ) (ls : List Letter) → begins one ls ≡ false → begins (one ++ other) ls ≡ false
 begins_append_not [] other ls h = absurd (grind arith)
 begins_append_not (b ∷ bs) other [] h = refl
-begins_append_not (b ∷ bs) other (l ∷ ls) h = on_false (l.byte == b) (begins bs ls) (begins (bs ++ other) ls) (begins_append_not bs other ls) h
+begins_append_not (b ∷ bs) other (l ∷ ls) h = by_no_head true (l.byte == b) (begins bs ls) (begins (bs ++ other) ls) (begins_append_not bs other ls) h
 
 on_length : (t x : Bool) (m n : ℕ) → (x ≡ true → m ≤ n) → cond t x false ≡ true → suc m ≤ suc n
 on_length true x m n f h = omega (arith, f h)
@@ -97,10 +84,6 @@ begins_count text from end wanted h e =
 closes : (name : List ℕ) (l : Letter) (ls : List Letter) → l.byte ≡ 41 → begins (41 ∷ name) (l ∷ ls) ≡ begins name ls
 closes name l ls h = grind (arith, nat_tests)
 
-either_false : (t x : Bool) → x ≡ false → cond t x false ≡ false
-either_false true x h = h
-either_false false x h = refl
-
 -- the search ends where its text begins, behind `)`
 pub close_found : (name : List ℕ) (l : Letter) (now ls behind : List Letter) → now ≡ l ∷ ls → l.byte ≡ 41 → begins name ls ≡ true → behind ≡ drop (length name) ls
     → behind_text (41 ∷ name) now ≡ Some behind
@@ -110,10 +93,10 @@ close_found name l now ls behind n h b e =
 
 pub close_not : (name : List ℕ) (l : Letter) (now ls : List Letter) → now ≡ l ∷ ls → begins name ls ≡ false → behind_text (41 ∷ name) now ≡ behind_text (41 ∷ name) ls
 close_not name l now ls n b =
-    ap (λ (x : List Letter). behind_text (41 ∷ name) x) n ∙ close_other name l ls (either_false (l.byte == 41) (begins name ls) b)
+    ap (λ (x : List Letter). behind_text (41 ∷ name) x) n ∙ close_other name l ls (head_false (l.byte == 41) (begins name ls) b)
 
 pub close_passed : (name : List ℕ) (l : Letter) (now ls : List Letter) → now ≡ l ∷ ls → l.byte ≢ 41 → behind_text (41 ∷ name) now ≡ behind_text (41 ∷ name) ls
-close_passed name l now ls n h = ap (λ (x : List Letter). behind_text (41 ∷ name) x) n ∙ close_other name l ls (rw (no_test l.byte 41 h) refl)
+close_passed name l now ls n h = ap (λ (x : List Letter). behind_text (41 ∷ name) x) n ∙ close_other name l ls (rw (ne_eqb l.byte 41 h) refl)
 
 -- a text in two parts
 pub begun_both : (one other : List ℕ) (ls middle behind : List Letter) → begins one ls ≡ true → middle ≡ drop (length one) ls

@@ -2,6 +2,8 @@
 use Rattle.std.proofs.Common.{inl, inr, ◌⊎◌, not, ◌≡◌, ℕ, zero, suc, ◌-◌, ◌<◌, List, [], ◌∷◌, ◌++◌, length, refl, ap, sym, subst, ◌∙◌, arith, Bool, true, false, cond, ◌||◌, ◌&&◌, ◌==◌, take, drop}
 use Rattle.std.specs.Prelude.{codes, flat_map, reverse}
 use Rattle.std.proofs.lemmas.Bool.Decides.{nat_tests}
+use Rattle.std.proofs.lemmas.Bool.{or_from, or_parts}
+use Rattle.std.proofs.Math.Bool.{and-false}
 use Rattle.rx_lex.specs.Letters.{Letter, begins, bytes, letters_at}
 use Rattle.rx_lex.specs.Pieces.{Piece, Front, Kind, Comment, Literal, Raw, Header, Number, Word, Blank, LineEnd, Mark, front, header_at, plain_front, space_at, piece}
 use Rattle.rx_lex.specs.Line.{any, begins_by_open, dependency_words, embed_query_words, embed_words, hash_marks, import_words, is_any_word, is_directive, is_empty, is_exported, is_including, is_named, is_single, is_token, is_word, module_words, pragma_words, same, spells, wants_header}
@@ -11,9 +13,9 @@ use Rattle.rx_lex.specs.Step.{line_of}
 use Rattle.rx_lex.specs.declared.line.Line.{Line}
 use Rattle.rx_lex.specs.declared.quiet.Place.{Place}
 use Rattle.rx_lex.proofs.PlacedLemmas.{pieces_from, pieces_step}
-use Rattle.rx_lex.proofs.StepLemmas.{and_false}
-use Rattle.rx_lex.proofs.WalkLemmas.{Goes, hard_at, names_at, raw_at}
+use Rattle.rx_lex.proofs.WalkLemmas.{Goes, hard_at, names_at, raw_at, same_reading}
 use Rattle.rx_lex.proofs.DullLemmas.{IsDullKind, IsStop, DullFront, dull_no_hash, dull_no_percent, front_dull}
+use Rattle.rx_lex.proofs.TextLemmas.{by_no_head}
 
 abbrev pub given_by : List Placed → Reading
 given_by pieces = record { list = flat_map names_at pieces; hard = any hard_at pieces; raw = any raw_at pieces }
@@ -64,9 +66,6 @@ not_header Blank h = refl
 not_header LineEnd h = refl
 not_header Mark h = refl
 
-both_no : (x y : Bool) → x ≡ false → y ≡ false → (x || y) ≡ false
-both_no x y e f = rw (e, f) refl
-
 pub hard_not : (line : List Piece) (p : Piece) → is_directive line ≡ false → opens_module line p ≡ false → p.whole ≡ true → IsDullKind p.kind
     → (is_hard_alone p || is_hard_behind line p) ≡ false
 hard_not line p d m w k =
@@ -77,11 +76,7 @@ hard_not line p d m w k =
     behind_by_none (wants_header line) (not (is_header p.kind)) (is_token p.kind || is_line_end p.kind) (is_directive line)
     ((is_single line && is_any_word embed_words p) || is_any_word embed_query_words p) (is_named pragma_words line) (is_any_word dependency_words p)
     (opens_module line p) (is_long_raw p) (unwanted line d) d (unnamed pragma_words line d) m in
-    both_no (is_hard_alone p) (is_hard_behind line p) alone after
-
-same_reading : (a b : List Name) (c d e f : Bool) → a ≡ b → c ≡ d → e ≡ f
-    → let one : Reading = record { list = a; hard = c; raw = e } in let other : Reading = record { list = b; hard = d; raw = f } in one ≡ other
-same_reading a b c d e f p q r = rw (p, q, r) refl
+    or_from (is_hard_alone p) (is_hard_behind line p) alone after
 
 or_first : (a b : Bool) → a ≡ false → (a || b) ≡ b
 or_first a b e = rw e refl
@@ -140,24 +135,20 @@ begins_append (b ∷ bs) [] (l ∷ rest) n s = rw (differs l.byte b s n.0) refl
 begins_append (b ∷ bs) (l ∷ run) rest n s = choose_equal (l.byte == b) (begins bs (run ++ rest)) (begins bs run) (begins_append bs run rest n.1 s)
 
 -- letters that are spelled so begin so
-same_by : (b x y : Bool) → (x ≡ false → y ≡ false) → cond b x false ≡ false → cond b y false ≡ false
-same_by true x y f h = f h
-same_by false x y f h = refl
-
 same_all : (n : ℕ) (ls : List Letter) (text : List ℕ) → begins text ls ≡ false → same (bytes (take n ls)) text ≡ false
 same_all n ls [] h = absurd (true_not h)
 same_all zero ls (b ∷ bs) h = refl
 same_all (suc n) [] (b ∷ bs) h = refl
-same_all (suc n) (l ∷ ls) (b ∷ bs) h = same_by (l.byte == b) (begins bs ls) (same (bytes (take n ls)) bs) (same_all n ls bs) h
+same_all (suc n) (l ∷ ls) (b ∷ bs) h = by_no_head true (l.byte == b) (begins bs ls) (same (bytes (take n ls)) bs) (same_all n ls bs) h
 
 word_by : (k x y : Bool) → x ≡ false → y ≡ false → (k && (x || (y || false))) ≡ false
-word_by k x y e f = rw (e, f) (and_false k)
+word_by k x y e f = rw (e, f) (and-false k)
 
 one_word_by : (k x : Bool) → x ≡ false → (k && (x || false)) ≡ false
-one_word_by k x e = rw e (and_false k)
+one_word_by k x e = rw e (and-false k)
 
 module_parts : (e m x i : Bool) → m ≡ false → i ≡ false → ((e && m) || (x && i)) ≡ false
-module_parts e m x i a b = rw (a, b, and_false e, and_false x) refl
+module_parts e m x i a b = rw (a, b, and-false e, and-false x) refl
 
 -- no piece at the front of a dull run is the word import or module
 module_by : (line : List Piece) (p : Piece) → same (bytes p.text) (codes "import") ≡ false → same (bytes p.text) (codes "module") ≡ false → opens_module line p ≡ false
@@ -166,17 +157,13 @@ module_by line p e f =
     (word_by (is_word p.kind) (same (bytes p.text) (codes "import")) (same (bytes p.text) (codes "module")) e f)
     (one_word_by (is_word p.kind) (same (bytes p.text) (codes "import")) e)
 
-both_false : (a b : Bool) → (a || b) ≡ false → (a ≡ false) × (b ≡ false)
-both_false true b h = absurd (grind arith)
-both_false false b h = (refl, h)
-
 text_not : (n : ℕ) (l : Letter) (run rest : List Letter) (text : List ℕ) → NoStops text → IsStop rest → begins text (l ∷ run) ≡ false → same (bytes (take n (l ∷ (run ++ rest)))) text ≡ false
 text_not n l run rest text k s h = same_all n ((l ∷ run) ++ rest) text (begins_append text (l ∷ run) rest k s ∙ h)
 
 module_not : (line : List Piece) (l : Letter) (run rest : List Letter) (n : ℕ) (k : Kind) (w : Bool) → IsDull (l ∷ run) → IsStop rest
     → opens_module line (record { kind = k; text = take n (l ∷ (run ++ rest)); whole = w }) ≡ false
 module_not line l run rest n k w d s =
-    let none = both_false (begins (codes "import") (l ∷ run)) (begins (codes "module") (l ∷ run)) d.2 in
+    let none = or_parts (begins (codes "import") (l ∷ run)) (begins (codes "module") (l ∷ run)) d.2 in
     module_by line (record { kind = k; text = take n (l ∷ (run ++ rest)); whole = w })
     (text_not n l run rest (codes "import") (refl, (refl, (refl, (refl, (refl, (refl, tt)))))) s none.0)
     (text_not n l run rest (codes "module") (refl, (refl, (refl, (refl, (refl, (refl, tt)))))) s none.1)
@@ -214,7 +201,7 @@ dull_run (suc n) line (l ∷ run) rest h d u s =
     }
 
 no_module : (e x : Bool) → ((e && false) || (x && false)) ≡ false
-no_module e x = rw (and_false e, and_false x) refl
+no_module e x = rw (and-false e, and-false x) refl
 
 is_line : (b : ℕ) → b ≡ 10 → (b == 10) ≡ true
 is_line b h = grind (arith, nat_tests)

@@ -1,5 +1,6 @@
 -- What one piece adds, by the kind that the code tells.
 use Rattle.std.proofs.Common.{◌≡◌, ℕ, ◌≤◌, List, [], ◌∷◌, length, refl, ap, arith, sym, subst, ◌∙◌, Bool, true, false, cond, not, ◌||◌, ◌&&◌, ◌==◌}
+use Rattle.std.proofs.Math.Bool.{and-false, or-false}
 use Rattle.rx_lex.specs.Letters.{Letter, bytes, letters_at, letter_before}
 use Rattle.rx_lex.specs.Pieces.{Piece, Front, front, piece}
 use Rattle.rx_lex.specs.Line.{is_word, spells, is_among, is_any_word, hash_marks, open_marks, include_words, query_words, module_words, import_words, export_words, pragma_words, dependency_words, embed_words, embed_query_words}
@@ -14,14 +15,6 @@ use Rattle.rx_lex.specs.declared.cut.Kind.{Kind}
 use Rattle.rx_lex.specs.declared.cut.Kind.TheVariants as code
 use Rattle.rx_lex.specs.declared.line.Line.{Line}
 use Rattle.rx_lex.specs.declared.step.Step.{Step}
-
-pub and_false : (b : Bool) → (b && false) ≡ false
-and_false true = refl
-and_false false = refl
-
-pub or_false : (b : Bool) → (b || false) ≡ b
-or_false true = refl
-or_false false = refl
 
 -- a line by its seven marks
 pub same_line : (a a' b b' c c' d d' e e' f f' g g' : Bool) → a ≡ a' → b ≡ b' → c ≡ c' → d ≡ d' → e ≡ e' → f ≡ f' → g ≡ g'
@@ -41,7 +34,7 @@ no_hash true d h e = e
 no_hash false d h e = refl
 
 no_open : (x a o : Bool) → o ≡ false → (x || (a && o)) ≡ x
-no_open x a o e = rw (e, and_false a, or_false x) refl
+no_open x a o e = rw (e, and-false a, or-false x) refl
 
 word_line : (line : Line) (p : Piece) (spelled : List ℕ) → is_word p.kind ≡ true → bytes p.text ≡ spelled
     → spells hash_marks p ≡ false → spells open_marks p ≡ false → behind_token line p ≡ behind_word line spelled
@@ -66,11 +59,11 @@ mark_line line p hash opens w h o =
     let y : Line = behind_mark line hash opens in
     same_line x.empty y.empty x.single y.single x.directive y.directive x.exported y.exported x.wanted y.wanted x.asking y.asking x.pragma y.pragma
     refl refl (ap (λ (b : Bool). cond line.empty b line.directive) h)
-    (ap (λ (b : Bool). line.empty && b) (none export_words) ∙ and_false line.empty)
+    (ap (λ (b : Bool). line.empty && b) (none export_words) ∙ and-false line.empty)
     (ap (λ (b : Bool). (named && b) || (line.asking && spells open_marks p)) (none include_words)
-    ∙ (ap (λ (b : Bool). b || (line.asking && spells open_marks p)) (and_false named) ∙ ap (λ (b : Bool). line.asking && b) o))
-    (ap (λ (b : Bool). line.directive && b) (none query_words) ∙ and_false line.directive)
-    (ap (λ (b : Bool). line.pragma || (named && b)) (none pragma_words) ∙ (ap (λ (b : Bool). line.pragma || b) (and_false named) ∙ or_false line.pragma))
+    ∙ (ap (λ (b : Bool). b || (line.asking && spells open_marks p)) (and-false named) ∙ ap (λ (b : Bool). line.asking && b) o))
+    (ap (λ (b : Bool). line.directive && b) (none query_words) ∙ and-false line.directive)
+    (ap (λ (b : Bool). line.pragma || (named && b)) (none pragma_words) ∙ (ap (λ (b : Bool). line.pragma || b) (and-false named) ∙ or-false line.pragma))
 
 -- the line behind a piece, by its kind
 pub line_by : (line : Line) (kind : Kind) (text : List Letter) (whole : Bool) (spelled : List ℕ) →
@@ -93,7 +86,7 @@ line_by line code.Mark text whole spelled s h o = mark_line line (record { kind 
 pub hard_by_none : (w h t d s p e x l : Bool)
     → (w && h && t || (d && ((s && false) || false)) || (p && false) || ((e && false) || (x && false)) || (d && l)) ≡ ((w && h && t) || (d && l))
 hard_by_none w h t d s p e x l =
-    rw (and_false s, and_false d, and_false p, and_false e, and_false x, or_false (w && h && t), or_false (w && h && t), or_false (w && h && t)) refl
+    rw (and-false s, and-false d, and-false p, and-false e, and-false x, or-false (w && h && t), or-false (w && h && t), or-false (w && h && t)) refl
 
 hard_by_word : (w d a p b e x : Bool) → (w && true && true || a || b || (e || x) || (d && false)) ≡ (w || (a || b || e || x))
 hard_by_word true d a p b e x = refl
@@ -101,20 +94,20 @@ hard_by_word false true true p b e x = refl
 hard_by_word false false true p b e x = refl
 hard_by_word false true false p true e x = refl
 hard_by_word false false false p true e x = refl
-hard_by_word false true false p false e x = or_false (e || x)
-hard_by_word false false false p false e x = or_false (e || x)
+hard_by_word false true false p false e x = or-false (e || x)
+hard_by_word false false false p false e x = or-false (e || x)
 
 none_here : (w d l : Bool) → l ≡ false → ((w && true && false) || (d && l)) ≡ false
-none_here true d l e = rw e (and_false d)
-none_here false d l e = rw e (and_false d)
+none_here true d l e = rw e (and-false d)
+none_here false d l e = rw e (and-false d)
 
 no_name : (w t d l : Bool) → l ≡ false → ((w && false && t) || (d && l)) ≡ false
-no_name true t d l e = rw e (and_false d)
-no_name false t d l e = rw e (and_false d)
+no_name true t d l e = rw e (and-false d)
+no_name false t d l e = rw e (and-false d)
 
 lacks_name : (w d l : Bool) → l ≡ false → ((w && true && true) || (d && l)) ≡ w
 lacks_name true d l e = refl
-lacks_name false d l e = rw e (and_false d)
+lacks_name false d l e = rw e (and-false d)
 
 long_lines : (w d l long : Bool) → l ≡ long → ((w && true && true) || (d && l)) ≡ (w || (d && long))
 long_lines true d l long e = refl

@@ -3,6 +3,7 @@ use Rattle.std.proofs.Common.{not, ◌≡◌, ◌≢◌, ℕ, suc, ◌-◌, ◌�
 use Rattle.std.proofs.lemmas.Bool.Decides.{nat_tests}
 use Rattle.std.specs.Prelude.{◌&&◌, ◌==◌, drop}
 use Rattle.std.specs.List.{list_all}
+use Rattle.std.proofs.lemmas.Bool.{and_parts}
 use Rattle.rx_lex.specs.Letters.{Letter, bytes, begins}
 use Rattle.rx_lex.specs.Pieces.{behind_all, all_at_front, is_name, begins_name}
 use Rattle.rx_lex.specs.Line.{same}
@@ -48,15 +49,11 @@ no_name : (n : Bool) (b c : ℕ) (front bs : List ℕ) → same (cond n (b ∷ f
 no_name true b c front bs = refl
 no_name false b c front bs = refl
 
-and_parts : (a b : Bool) → (a && b) ≡ true → (a ≡ true) × (b ≡ true)
-and_parts true b h = (refl, h)
-and_parts false b h = absurd (grind arith)
-
-by_head : (t x y z : Bool) → (x ≡ true → y ≡ z) → cond t x false ≡ true → cond t y false ≡ z
+pub by_head : (t x y z : Bool) → (x ≡ true → y ≡ z) → cond t x false ≡ true → cond t y false ≡ z
 by_head true x y z f h = f h
 by_head false x y z f h = absurd (grind arith)
 
-by_no_head : (n t x y : Bool) → (x ≡ false → y ≡ false) → cond t x false ≡ false → (n && cond t y false) ≡ false
+pub by_no_head : (n t x y : Bool) → (x ≡ false → y ≡ false) → cond t x false ≡ false → (n && cond t y false) ≡ false
 by_no_head true true x y f h = f h
 by_no_head true false x y f h = refl
 by_no_head false t x y f h = refl
@@ -85,7 +82,7 @@ word_is_not (b ∷ bs) (l ∷ ls) h =
 head_same : (b c : ℕ) (x : Bool) → b ≡ c → cond (b == c) x false ≡ x
 head_same b c x e = grind (arith, nat_tests)
 
-head_false : (t x : Bool) → x ≡ false → cond t x false ≡ false
+pub head_false : (t x : Bool) → x ≡ false → cond t x false ≡ false
 head_false true x h = h
 head_false false x h = refl
 

@@ -1,6 +1,7 @@
 -- The walk over the pieces: it starts, goes on and ends.
 use Rattle.std.proofs.Common.{◌≡◌, ℕ, List, [], ◌∷◌, ◌++◌, refl, ap, sym, subst, ◌∙◌, Bool, true, false, ◌||◌, ◌&&◌, append_assoc, append-nil}
 use Rattle.std.specs.Prelude.{flat_map}
+use Rattle.std.proofs.Math.Bool.{and-false, or-false, or_assoc}
 use Rattle.rx_lex.specs.Letters.{Letter, letters, letters_at, letter_before, IsNext}
 use Rattle.rx_lex.specs.Pieces.{Piece, LineEnd, Front, front, piece}
 use Rattle.rx_lex.specs.Line.{any, wants_header}
@@ -10,7 +11,7 @@ use Rattle.rx_lex.specs.declared.line.Line.{Line}
 use Rattle.rx_lex.specs.declared.step.Step.{Step}
 use Rattle.rx_lex.proofs.PlacedLemmas.{pieces_from, pieces_step}
 use Rattle.rx_lex.proofs.LineLemmas.{line_of_behind}
-use Rattle.rx_lex.proofs.StepLemmas.{and_false, or_false, hard_by_none}
+use Rattle.rx_lex.proofs.StepLemmas.{hard_by_none}
 
 abbrev pub hard_at : Placed → Bool
 hard_at at = is_hard_alone at.piece || is_hard_behind at.before at.piece
@@ -42,10 +43,6 @@ goes_starts text at line hard e s h =
           ∙ ap (λ (xs : List Placed). is_hard_anywhere (letters text) || any hard_at xs) all;
       raw_is = ap (λ (xs : List Placed). any raw_at xs) all;
     }
-
-or_assoc : (a b c : Bool) → ((a || b) || c) ≡ (a || (b || c))
-or_assoc true b c = refl
-or_assoc false b c = refl
 
 joins_list : (list names rest here all whole : List Name) → here ≡ names → all ≡ here ++ rest → list ++ all ≡ whole → (list ++ names) ++ rest ≡ whole
 joins_list list names rest here all whole e f g = rw append_assoc (rw (← e) (rw (← f) g))
@@ -92,7 +89,7 @@ last_end = record { kind = LineEnd; text = []; whole = true }
 
 wanted_only : (w d : Bool) → ((w && true && true) || (d && false)) ≡ w
 wanted_only true d = refl
-wanted_only false d = and_false d
+wanted_only false d = and-false d
 
 end_by : (w d s p e x : Bool)
     → (w && true && true || (d && ((s && false) || false)) || (p && false) || ((e && false) || (x && false)) || (d && false)) ≡ w
@@ -108,7 +105,7 @@ or_comm true false = refl
 or_comm false true = refl
 or_comm false false = refl
 
-same_reading : (a b : List Name) (c d e f : Bool) → a ≡ b → c ≡ d → e ≡ f
+pub same_reading : (a b : List Name) (c d e f : Bool) → a ≡ b → c ≡ d → e ≡ f
     → let one : Reading = record { list = a; hard = c; raw = e } in let other : Reading = record { list = b; hard = d; raw = f } in one ≡ other
 same_reading a b c d e f p q r = rw (p, q, r) refl
 
@@ -120,11 +117,11 @@ goes_ends text line at list hard raw g e =
     let anywhere : Bool = is_hard_anywhere (letters text) in
     let last : List Placed = (record { before = g.before; piece = last_end }) ∷ [] in
     let pieces : pieces_from g.before (letters_at text at) ≡ last = ap (λ (xs : List Letter). pieces_from g.before xs) e in
-    let hard_last : any hard_at last ≡ line.wanted = or_false (is_hard_behind g.before last_end) ∙ (hard_at_end g.before ∙ ap (λ (x : Line). x.wanted) g.stands) in
+    let hard_last : any hard_at last ≡ line.wanted = or-false (is_hard_behind g.before last_end) ∙ (hard_at_end g.before ∙ ap (λ (x : Line). x.wanted) g.stands) in
     let list_done : list ++ flat_map names_at last ≡ flat_map names_at all = ap (λ (xs : List Placed). list ++ flat_map names_at xs) (sym pieces) ∙ g.list_is in
     let hard_done : (hard || any hard_at last) ≡ (anywhere || any hard_at all) = ap (λ (xs : List Placed). hard || any hard_at xs) (sym pieces) ∙ g.hard_is in
     let raw_done : (raw || any raw_at last) ≡ any raw_at all = ap (λ (xs : List Placed). raw || any raw_at xs) (sym pieces) ∙ g.raw_is in
     same_reading list (flat_map names_at all) (hard || line.wanted) (any hard_at all || anywhere) raw (any raw_at all)
     (sym (append-nil list) ∙ list_done)
     (ap (λ b. hard || b) (sym hard_last) ∙ (hard_done ∙ or_comm anywhere (any hard_at all)))
-    (sym (or_false raw) ∙ raw_done)
+    (sym (or-false raw) ∙ raw_done)

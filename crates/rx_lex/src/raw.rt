@@ -147,7 +147,8 @@ pub(crate) fn raw_end(text: &[u8], from: usize) -> RawEnd
     ensures value { raw (letters_at text.now from) ≡
         (record { kind = Raw; whole = result.whole; rest = letters_at text.now result.end }) }
     ensures count { result.whole ≡ true →
-        result.letters + length (letters_at text.now result.end) ≡ length (letters_at text.now from) }
+        result.letters + length (letters_at text.now result.end)
+        ≡ length (letters_at text.now from) }
     ensures on { from + result.letters ≤ result.end }
     ensures within { result.end ≤ length text.now }
 {

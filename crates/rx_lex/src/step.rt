@@ -56,7 +56,10 @@ fn name_in(
 ) -> Result<Option<Include>, NoMemory>
     requires { next ≤ length text.now }
     ensures { IfOk result (λ name. names_in name ≡ (if is_header (kind_view kind)
-        then (record { angled = first == 60; name = header_bytes (closing first) (letters_at text.now next) }) ∷ [] else [])) }
+        then (record {
+          angled = first == 60;
+          name = header_bytes (closing first) (letters_at text.now next);
+        }) ∷ [] else [])) }
 {
     match kind {
         Kind::Header => {

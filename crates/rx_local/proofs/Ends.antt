@@ -237,7 +237,7 @@ if-missing (Stopped decision) F G says h = tt
 if-missing NoMemory F G says h = tt
 
 module _ {B T W : Type 0} (w : world.Ghosts W) (b : benches.Ghosts B W) (s : sources.Ghosts T W) (j : Job) (old mid new : B) (before after : T)
-    (fresh : IsFresh w.tools_honest (b.tree old) (b.runs old) (b.faults old)) (same : b.runs mid ≡ b.runs old)
+    (fresh : IsFresh w.tools_honest (b.tree old) (b.runs old) (b.faults old) (b.failed_at old)) (same : b.runs mid ≡ b.runs old)
     (staged : HasStaged w s before after j.files (λ files. Stands j files (b.tree old) (b.tree mid))) where
   no-runs-yet : NoRuns (b.runs mid) (b.tree old)
   no-runs-yet = subst (λ o. NoRuns o (b.tree old)) (sym same) fresh.no_runs
@@ -303,7 +303,7 @@ stands-ready j staged (Some x) (Some t) e told = ap (λ tree. Some tree) (stands
 
 -- a decision was told when the bench stood ready
 pub ends-stopped : {B T W : Type 0} (w : world.Ghosts W) (b : benches.Ghosts B W) (s : sources.Ghosts T W) (j : Job) (old new : B) (before after : T) (decision : Decision)
-    → IsFresh w.tools_honest (b.tree old) (b.runs old) (b.faults old) → b.runs new ≡ b.runs old → HasStaged w s before after j.files (λ files. Stands j files (b.tree old) (b.tree new))
+    → IsFresh w.tools_honest (b.tree old) (b.runs old) (b.faults old) (b.failed_at old) → b.runs new ≡ b.runs old → HasStaged w s before after j.files (λ files. Stands j files (b.tree old) (b.tree new))
     → HasEnded w b s (Some new) j before after (Err (Stopped decision))
 ends-stopped w b s j old new before after decision fresh runs staged =
     let none : IfSome (b.runs new) (λ all. all ≡ []) = subst (λ o. IfSome o (λ all. all ≡ [])) (sym runs) (no-runs (b.runs old) (b.tree old) fresh.no_runs) in
@@ -382,6 +382,7 @@ forgets w m b s j benches_before benches_after before after outcome h =
     record {
       made = h.made;
       returned = h.returned;
+      failed = h.failed;
       on = record {
         answers = h.on.answers;
         gives = h.on.gives;

@@ -277,6 +277,20 @@ abbrev pub cause_at : BenchStep → Refused → Cause
 cause_at step Failed = BenchFault step
 cause_at step no_memory = NoMemory
 
+-- the step of the bench at which the attempt failed, if it did so at one
+abbrev pub step_of : Cause → Option BenchStep
+step_of (BenchFault step) = Some step
+step_of (OutputMissing path) = None
+step_of (InputChanged input) = None
+step_of (OutputTooLarge limit n) = None
+step_of (SourceFault path) = None
+step_of (Stopped decision) = None
+step_of NoMemory = None
+
+-- a bench whose calls had not failed has failed at no step but that of the cause
+abbrev pub HasFailedAt : {B W T : Type 0} → benches.Ghosts B W → B → Result T Cause → Type 0
+HasFailedAt b bench result = MatchResult result (λ _. b.failed_at bench ≡ None) (λ cause. b.failed_at bench ≡ step_of cause)
+
 -- ---- a whole attempt
 
 -- What the files were read from, and how the attempt on a bench ended.
@@ -291,12 +305,14 @@ pub record IsUntouched (benches_before benches_now sources_before sources_now : 
   pub benches_are : benches_now ≡ benches_before
   pub sources_are : sources_now ≡ sources_before
 
--- The same, and the bench that was made for it, at most one, came back; no count fell, and that of the part that failed rose. Where a
+-- The same, and the bench that was made for it, at most one, came back; where the attempt failed at a step of the bench, a call of that
+-- step failed last on it, and else none did. No count fell, and that of the part that failed rose. Where a
 -- decision was told before a bench was made, none changed.
 pub record HasAttempted {M B T W : Type 0} (w : world.Ghosts W) (m : makers.Ghosts M W B) (b : benches.Ghosts B W) (s : sources.Ghosts T W)
     (j : Job) (benches_before benches_after : M) (before after : T) (result : Result Outcome Cause) : Type 0 where
   pub made : Option B
   pub returned : IsReturned (m.returned benches_before) (m.returned benches_after) made
+  pub failed : IfSome made (λ bench. HasFailedAt b bench result)
   pub on : HasEnded w b s made j before after result
   pub later : m.faults benches_before ≤ m.faults benches_after
   pub counted : IfErr result (IsCounted (m.faults benches_before) (m.faults benches_after) (s.faults before) (s.faults after))

@@ -1,14 +1,14 @@
 //! One attempt on this machine: a fresh bench, its tree, the run, the outputs, and the bench back,
 //! unless the race of the request's attempts is decided before.
 
-ghost use Rattle.std.specs.Prelude.{◌≡◌, ◌≤◌, ◌⊎◌, All, Some, IfErr, IfOk, IfSome, map, pos};
+ghost use Rattle.std.specs.Prelude.{◌≡◌, ◌≤◌, ◌⊎◌, All, None, Some, IfErr, IfOk, IfSome, map, pos};
 ghost use Rattle.rx_world.specs.Benches.{IsFresh, Runs};
 ghost use Rattle.rx_world.specs.Files.{cut_files};
 ghost use Rattle.rx_world.specs.Inputs.{IsAsListed, listed_copy, world_copy};
 ghost use Rattle.rx_world.specs.Outcomes.{IsClean, IsProper};
 ghost use Rattle.rx_world.specs.Trees.{tree_of};
 ghost use Rattle.rx_local.specs.Limits.{IsWithinLimits};
-ghost use Rattle.rx_local.specs.Local.{HasAttempted, HasEnded, HasTold, IfMissing, IsBeforeRun, IsChanged, IsCounted, IsTakeCause, LacksOutput, first_missing, local_job};
+ghost use Rattle.rx_local.specs.Local.{HasAttempted, HasEnded, HasFailedAt, HasTold, IfMissing, IsBeforeRun, IsChanged, IsCounted, IsTakeCause, LacksOutput, first_missing, local_job};
 ghost use Rattle.rx_local.specs.Stage.{HasRunToZero, IsStepCause};
 
 use crate::limits::{Passed, passed_limit};
@@ -91,9 +91,11 @@ fn run_on<W: World, B: Bench<W>, S: Sources<W>, T: Stop>(
     sources: &mut S,
     stop: &mut T,
 ) -> Result<Outcome, Cause>
-    requires { IsFresh W.tools_honest (B.tree bench.old) (B.runs bench.old) (B.faults bench.old) }
+    requires { IsFresh W.tools_honest (B.tree bench.old) (B.runs bench.old) (B.faults bench.old)
+        (B.failed_at bench.old) }
     ensures ended { HasEnded W.World B.Bench S.Sources (Some bench.new) (local_job job.now)
         sources.old sources.new result }
+    ensures failed { HasFailedAt B.Bench bench.new result }
     ensures proper { IfOk result (IsProper job.now.command.now) }
     ensures within { IfOk result IsWithinLimits }
     ensures later { B.faults bench.old ≤ B.faults bench.new }
@@ -126,6 +128,7 @@ fn run_staged<W: World, B: Bench<W>>(
     command: &Command,
     bench: &mut B,
 ) -> Result<Outcome, Cause>
+    ensures failed { B.failed_at bench.old ≡ None → HasFailedAt B.Bench bench.new result }
     ensures proper { IfOk result (IsProper command.now) }
     ensures clean { IfOk result (λ outcome. W.tools_honest →
         IfSome (B.tree bench.old) (λ tree. IsClean W.tool command.now tree outcome)) }

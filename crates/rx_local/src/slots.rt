@@ -127,6 +127,15 @@ impl<K: Places> Slots<K> {
         held.take()
     }
 
+    /// Takes a slot, where one is free now.
+    pub fn try_take(&self, rt: &impl Wait) -> Option<SlotPass<K>> {
+        let mut held = self.lock.lock(rt);
+        if held.free == 0 {
+            return None;
+        }
+        Some(held.take())
+    }
+
     /// Gives a slot back. One attempt that waits goes on.
     pub fn give(&self, rt: &impl Wait, pass: SlotPass<K>) {
         self.lock.lock(rt).give(pass);

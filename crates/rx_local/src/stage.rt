@@ -1,12 +1,13 @@
 //! What stands on a bench before a run: the files, the directories, and those of the outputs.
 
-ghost use Rattle.std.specs.Prelude.{◌≡◌, ◌≤◌, [], ◌∷◌, option_to_list, IfErr, OnOk};
+ghost use Rattle.std.specs.Prelude.{◌≡◌, ◌≤◌, [], ◌∷◌, None, option_to_list, IfErr, OnOk};
 ghost use Rattle.rx_base.specs.Paths.{parent_of};
 ghost use Rattle.rx_base.specs.Told.{Told};
 ghost use Rattle.rx_world.specs.declared.failures.Refused.TheVariants.{Failed as failed};
+ghost use Rattle.rx_world.specs.Benches.{FailsAt, IsRefusedAt};
 ghost use Rattle.rx_world.specs.Causes.{HasCause, HasCauseOf};
 ghost use Rattle.rx_world.specs.Trees.{parents_of, tree_with_directories, tree_with_files, with_parents};
-ghost use Rattle.rx_local.specs.Local.{IsCauseOf, IsCounted, IsPrepareCause, job};
+ghost use Rattle.rx_local.specs.Local.{HasFailedAt, IsCauseOf, IsCounted, IsPrepareCause, job};
 ghost use Rattle.rx_local.specs.Stage.{HasFailedStaging, HasStaged, IsStepCause, IsStageCause, MakesAll, PutsAll, cause_of_read};
 
 use crate::take::cause_of;
@@ -24,9 +25,11 @@ pub fn prepare<W: World, B: Bench<W>, S: Sources<W>>(
     bench: &mut B,
     sources: &mut S,
 ) -> Result<(), Cause>
-    ensures ok { OnOk result (HasStaged W.World S.Sources sources.old sources.new files.now (λ staged.
-        Told (B.tree bench.old) (B.tree bench.new) (λ x y. y ≡ with_parents command.now.outputs
+    ensures ok { OnOk result (HasStaged W.World S.Sources sources.old sources.new files.now
+        (λ staged. Told (B.tree bench.old) (B.tree bench.new) (λ x y.
+        y ≡ with_parents command.now.outputs
         (tree_with_directories directories.now (tree_with_files staged x))))) }
+    ensures failed { B.failed_at bench.old ≡ None → HasFailedAt B.Bench bench.new result }
     ensures err { IfErr result (HasFailedStaging W.World S.Sources sources.old sources.new
         (IsCauseOf W.World (job command.now files.now directories.now))) }
     ensures before { IfErr result IsPrepareCause }
@@ -49,6 +52,7 @@ fn stage_files<W: World, B: Bench<W>, S: Sources<W>>(
 ) -> Result<(), Cause>
     ensures ok { OnOk result (HasStaged W.World S.Sources sources.old sources.new files.now
         (PutsAll (B.tree bench.old) (B.tree bench.new))) }
+    ensures failed { B.failed_at bench.old ≡ None → HasFailedAt B.Bench bench.new result }
     ensures err { IfErr result (HasFailedStaging W.World S.Sources sources.old sources.new
         (IsStageCause files.now)) }
     ensures runs { B.runs bench.new ≡ B.runs bench.old }
@@ -71,6 +75,7 @@ fn stage_file<W: World, B: Bench<W>, S: Sources<W>>(
 ) -> Result<(), Cause>
     ensures ok { OnOk result (HasStaged W.World S.Sources sources.old sources.new (file.now ∷ [])
         (PutsAll (B.tree bench.old) (B.tree bench.new))) }
+    ensures failed { B.failed_at bench.old ≡ None → HasFailedAt B.Bench bench.new result }
     ensures err { IfErr result (HasFailedStaging W.World S.Sources sources.old sources.new
         (IsStageCause (file.now ∷ []))) }
     ensures runs { B.runs bench.new ≡ B.runs bench.old }
@@ -113,7 +118,9 @@ fn make_all<W: World, B: Bench<W>>(
         y ≡ with_parents outputs.now (tree_with_directories directories.now x))) }
     ensures runs { B.runs bench.new ≡ B.runs bench.old }
     ensures later { B.faults bench.old ≤ B.faults bench.new }
-    ensures cause { IfErr result (IsStepCause BenchStep.MakeDir (B.faults bench.old) (B.faults bench.new)) }
+    ensures failed { B.failed_at bench.old ≡ None → HasFailedAt B.Bench bench.new result }
+    ensures cause { IfErr result
+        (IsStepCause BenchStep.MakeDir (B.faults bench.old) (B.faults bench.new)) }
 {
     let Ok(()) = make_directories::<W, B>(directories, bench) else {
         return Err(Cause::BenchFault {
@@ -132,6 +139,8 @@ fn make_directories<W: World, B: Bench<W>>(
 ) -> Result<(), Failed>
     ensures made { OnOk result (MakesAll (B.tree bench.old) (B.tree bench.new) directories.now) }
     ensures runs { B.runs bench.new ≡ B.runs bench.old }
+    ensures step { FailsAt BenchStep.MakeDir (B.failed_at bench.old)
+        (B.failed_at bench.new) result }
     ensures cause { HasCause (B.faults bench.old) (B.faults bench.new) result }
 {
     for path in directories {
@@ -146,8 +155,11 @@ fn make_parents<W: World, B: Bench<W>>(
     outputs: &[RelPath],
     bench: &mut B,
 ) -> Result<(), Refused>
-    ensures made { OnOk result (MakesAll (B.tree bench.old) (B.tree bench.new) (parents_of outputs.now)) }
+    ensures made { OnOk result
+        (MakesAll (B.tree bench.old) (B.tree bench.new) (parents_of outputs.now)) }
     ensures runs { B.runs bench.new ≡ B.runs bench.old }
+    ensures step { IsRefusedAt BenchStep.MakeDir (B.failed_at bench.old)
+        (B.failed_at bench.new) result }
     ensures cause { HasCauseOf failed (B.faults bench.old) (B.faults bench.new) result }
 {
     for path in outputs {
@@ -164,6 +176,8 @@ fn make_parent<W: World, B: Bench<W>>(
     ensures made { OnOk result (MakesAll (B.tree bench.old) (B.tree bench.new)
         (option_to_list (parent_of path.now))) }
     ensures runs { B.runs bench.new ≡ B.runs bench.old }
+    ensures step { IsRefusedAt BenchStep.MakeDir (B.failed_at bench.old)
+        (B.failed_at bench.new) result }
     ensures cause { HasCauseOf failed (B.faults bench.old) (B.faults bench.new) result }
 {
     let Some(parent) = path.parent(alloc)? else {

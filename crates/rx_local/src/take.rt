@@ -3,7 +3,7 @@
 ghost use Rattle.std.specs.Prelude.{◌≡◌, ◌≤◌, None, Some, map, IfErr, IfOk, IfSome};
 ghost use Rattle.rx_world.specs.Benches.{Takes};
 ghost use Rattle.rx_world.specs.Files.{cut_files};
-ghost use Rattle.rx_local.specs.Local.{IfMissing, cause_at, first_missing};
+ghost use Rattle.rx_local.specs.Local.{HasFailedAt, IfMissing, cause_at, first_missing};
 ghost use Rattle.rx_local.specs.Stage.{IsStepCause};
 
 use rx_base::{RelPath, TryClone};
@@ -22,7 +22,9 @@ pub fn take_outputs<W: World, B: Bench<W>>(
     ensures same { B.tree bench.new ≡ B.tree bench.old }
     ensures runs { B.runs bench.new ≡ B.runs bench.old }
     ensures later { B.faults bench.old ≤ B.faults bench.new }
-    ensures cause { IfErr result (IsStepCause BenchStep.Take (B.faults bench.old) (B.faults bench.new)) }
+    ensures failed { B.failed_at bench.old ≡ None → HasFailedAt B.Bench bench.new result }
+    ensures cause { IfErr result
+        (IsStepCause BenchStep.Take (B.faults bench.old) (B.faults bench.new)) }
     ensures missing { IfErr result (λ cause. IfMissing cause (λ path.
         IfSome (B.tree bench.old) (λ tree. first_missing outputs.now tree.files ≡ Some path))) }
 {
@@ -48,7 +50,9 @@ fn take_output<W: World, B: Bench<W>>(
     ensures same { B.tree bench.new ≡ B.tree bench.old }
     ensures runs { B.runs bench.new ≡ B.runs bench.old }
     ensures later { B.faults bench.old ≤ B.faults bench.new }
-    ensures cause { IfErr result (IsStepCause BenchStep.Take (B.faults bench.old) (B.faults bench.new)) }
+    ensures failed { B.failed_at bench.old ≡ None → HasFailedAt B.Bench bench.new result }
+    ensures cause { IfErr result
+        (IsStepCause BenchStep.Take (B.faults bench.old) (B.faults bench.new)) }
     ensures missing { IfErr result (λ cause. IfMissing cause (λ missing.
         (missing ≡ path.now) × Takes (B.tree bench.old) path.now None)) }
 {

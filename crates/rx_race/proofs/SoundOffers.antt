@@ -1,6 +1,7 @@
 -- An offer keeps a race sound.
 use Rattle.std.proofs.Common.{◌≡◌, Bool, true, false, refl, ap, sym, subst, true≢false, ◌∙◌}
-use Rattle.std.specs.Prelude.{◌≢◌, ◌&&◌, ◌||◌, not, if◌then◌else◌}
+use Rattle.std.specs.Prelude.{◌≢◌, ◌||◌, not, if◌then◌else◌}
+use Rattle.std.proofs.lemmas.Bool.{and_from, and_parts, or_right}
 use Rattle.rx_world.specs.declared.attempts.Attempt.{Attempt}
 use Rattle.rx_world.specs.declared.attempts.Attempt.TheVariants.{Local, Remote}
 use Rattle.rx_world.specs.declared.decisions.Decision.{Decision}
@@ -103,14 +104,6 @@ offered-noted Idle e noted = cc
 offered-noted Running e noted = cc
 offered-noted (Offered v) e noted = ap Offered (noted v refl)
 
-second : (a b : Bool) → (a && b) ≡ true → b ≡ true
-second true b e = e
-second false b e = cc
-
-first : (a b : Bool) → (a && b) ≡ true → a ≡ true
-first true b e = refl
-first false b e = cc
-
 -- of an attempt of the plan
 has-offered : (planned offered : Bool) → (not planned || offered) ≡ true → planned ≡ true
     → offered ≡ true
@@ -122,14 +115,6 @@ noted-offered : (planned : Bool) (p : Phase) → (planned ≡ true → p ≡ Off
     → (not planned || is_offered p) ≡ true
 noted-offered true p noted = ap is_offered (noted refl)
 noted-offered false p noted = refl
-
-or-true : (b : Bool) → (b || true) ≡ true
-or-true true = refl
-or-true false = refl
-
-both-true : (a b : Bool) → a ≡ true → b ≡ true → (a && b) ≡ true
-both-true true b e f = f
-both-true false b e f = cc
 
 -- the offer that was noted left another attempt, or none
 sound-noted-local : (s : Standing) (over : Bool)
@@ -148,7 +133,7 @@ sound-noted-local s true over h run free = record {
   nothing = λ d. elim [
     | Local ↦ λ p. refl
     | Remote ↦ λ p.
-        let left = second (not (in_plan s.plan Local) || true) _ over in
+        let left = (and_parts (not (in_plan s.plan Local) || true) _ over).1 in
         let offered = has-offered (in_plan s.plan Remote) (is_offered s.remote) left p in
         offered-noted s.remote offered (h.undecided free Remote)
   ];
@@ -169,9 +154,9 @@ sound-noted-local s false over h run free = record {
   only = elim [ Local ↦ λ won. cc | Remote ↦ h.only Remote ];
   nothing = λ d. cc;
   over = λ all.
-      let first = or-true (not (in_plan s.plan Local)) in
+      let first = or_right (not (in_plan s.plan Local)) true refl in
       let second = noted-offered (in_plan s.plan Remote) s.remote (all Remote) in
-      absurd (true≢false (sym (both-true _ _ first second) ∙ over));
+      absurd (true≢false (sym (and_from _ _ first second) ∙ over));
   late = elim [ Local ↦ λ e. cc | Remote ↦ h.late Remote ];
 }
 
@@ -190,7 +175,7 @@ sound-noted-remote s true over h run free = record {
   only = elim [ Local ↦ λ won. let was = h.only Local won in cc | Remote ↦ λ won. cc ];
   nothing = λ d. elim [
     | Local ↦ λ p.
-        let left = first _ (not (in_plan s.plan Remote) || true) over in
+        let left = (and_parts _ (not (in_plan s.plan Remote) || true) over).0 in
         let offered = has-offered (in_plan s.plan Local) (is_offered s.local) left p in
         offered-noted s.local offered (h.undecided free Local)
     | Remote ↦ λ p. refl
@@ -213,8 +198,8 @@ sound-noted-remote s false over h run free = record {
   nothing = λ d. cc;
   over = λ all.
       let first = noted-offered (in_plan s.plan Local) s.local (all Local) in
-      let second = or-true (not (in_plan s.plan Remote)) in
-      absurd (true≢false (sym (both-true _ _ first second) ∙ over));
+      let second = or_right (not (in_plan s.plan Remote)) true refl in
+      absurd (true≢false (sym (and_from _ _ first second) ∙ over));
   late = elim [ Local ↦ h.late Local | Remote ↦ λ e. cc ];
 }
 

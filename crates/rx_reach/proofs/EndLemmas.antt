@@ -20,7 +20,8 @@ use Rattle.rx_reach.specs.Reach.{IsFileOf, IsHard, IsLeastPath, IsReach, IsReach
 use Rattle.rx_reach.specs.Scenes.{Scene}
 use Rattle.rx_reach.proofs.OpenedLemmas.{opened-reached}
 use Rattle.rx_reach.proofs.ReachLemmas.{all-hard, all-left, all-read}
-use Rattle.rx_reach.proofs.SetLemmas.{all-from, cases, head, mapped, none}
+use Rattle.rx_reach.proofs.SetLemmas.{all-from}
+use Rattle.rx_base.proofs.Members.{Contains-cons_cases, Contains-head, Contains-map, not_in_nothing}
 
 not-less : (o : Ordering) → (o ≡ Less → ⊥) → is_lt o ≡ false
 not-less Less h = absurd (h refl)
@@ -29,8 +30,8 @@ not-less Greater h = refl
 
 -- the first of a sorted list is the least
 pub first-least : (old new : List (List ℕ)) (first : Option (List ℕ)) → AreSorted old → MatchOption first ((old ≡ []) × (new ≡ [])) (λ path. old ≡ path ∷ new) → IsLeastPath (Contains old) first
-first-least old new None s e = λ path h. none path (subst (λ xs. Contains xs path) e.0 h)
-first-least old new (Some path) s e = (subst (λ xs. Contains xs path) (sym e) (head path new), λ other h. above other (cases path other new (subst (λ xs. Contains xs other) e h)))
+first-least old new None s e = λ path h. not_in_nothing path (subst (λ xs. Contains xs path) e.0 h)
+first-least old new (Some path) s e = (subst (λ xs. Contains xs path) (sym e) (Contains-head path new), λ other h. above other (Contains-cons_cases path new other (subst (λ xs. Contains xs other) e h)))
   where
     above : (other : List ℕ) → (path ≡ other) ⊎ Contains new other → is_lt (slice_cmp nat_cmp other path) ≡ false
     above other (inl same) = not-less (slice_cmp nat_cmp other path) (λ lt. not_self path (subst (λ x. slice_cmp nat_cmp x path ≡ Less) (sym same) lt))
@@ -52,7 +53,7 @@ pub reach-is : (scene : Scene) (search : Search) (p : Progress) (reached : Reach
     → IsReach most_tree_files scene search reached
 reach-is scene search p reached fs least ls e = record {
   each = all-from (IsFileOf scene) reached.files (λ f h. e.0.files f (subst (λ (xs : List InputFile). Contains xs f) fs h));
-  reaches = all-from (λ (f : InputFile). IsReached scene search f.path) reached.files (λ f h. e.0.reached f.path (inr (mapped (λ (x : InputFile). x.path) f p.read (subst (λ (xs : List InputFile). Contains xs f) fs h))));
+  reaches = all-from (λ (f : InputFile). IsReached scene search f.path) reached.files (λ f h. e.0.reached f.path (inr (Contains-map (λ (x : InputFile). x.path) p.read f (subst (λ (xs : List InputFile). Contains xs f) fs h))));
   whole = λ le. elim e.1 [ inl w ↦ whole w | inr n ↦ absurd (too-many p reached fs n le) ];
 }
   where

@@ -1,9 +1,9 @@
 -- Where a way ends, and what a try gives by it.
-use Rattle.std.proofs.Common.{◌≡◌, ◌↔◌, ℕ, ◌+◌, ◌<◌, ◌≤◌, ◌==◌, ◌⊎◌, inl, inr, Bool, true, false, cond, List, [], ◌∷◌, ◌++◌, length, get_or, drop, Ok, Err, refl, sym, ap, ◌∙◌, subst, append_assoc, append-nil, arith}
+use Rattle.std.proofs.Common.{◌≡◌, ◌↔◌, ℕ, ◌+◌, ◌<◌, ◌≤◌, ◌==◌, inl, inr, Bool, true, false, cond, List, [], ◌∷◌, ◌++◌, length, get_or, drop, Ok, Err, refl, sym, ap, ◌∙◌, subst, append_assoc, append-nil, arith}
 use Rattle.std.specs.Prelude.{Contains}
 use Rattle.std.specs.Str.{IsUtf8}
 use Rattle.std.proofs.lemmas.List.{at_drop_more, drop_all}
-use Rattle.std.proofs.lemmas.List.Elements.{Contains-append_right, Contains-append_cases}
+use Rattle.std.proofs.lemmas.Bool.{cases_Bool}
 use Rattle.rx_base.specs.declared.path_fault.PathFault.{PathFault}
 use Rattle.rx_base.specs.declared.path_fault.PathFault.TheVariants.{Absolute, AboveRoot, BadByte, Empty, NoMemory, TooLong}
 use Rattle.rx_base.specs.Paths.{join_of}
@@ -16,6 +16,7 @@ use Rattle.rx_reach.specs.declared.candidates.Step.{Step}
 use Rattle.rx_reach.specs.declared.tries.Tried.{Tried}
 use Rattle.rx_reach.specs.Candidates.{AreShort, Follows, IsAt, IsOutside, IsTried, Try, candidate_at_end, candidate_at, end_of, is_dir, is_other, is_passable, left_at, left_of, refusal, step_look, candidate_at_stop, walked, way}
 use Rattle.rx_reach.specs.Scenes.{Scene}
+use Rattle.rx_base.proofs.Members.{Contains-head, Contains-later, Contains-cons_cases}
 
 -- ---- step by step
 
@@ -79,10 +80,6 @@ end-arrives scene all path left i look found h f is so =
     )
 
 -- ---- what the end tells
-
-split : (b : Bool) → (b ≡ true) ⊎ (b ≡ false)
-split true = inl refl
-split false = inr refl
 
 at_end-found : (look : Look) (path found : List ℕ) → candidate_at_end look path ≡ candidate.Found found → (is_file look ≡ true) × (path ≡ found)
 at_end-found (File stamp executable) path found e = (refl, cc e)
@@ -149,7 +146,7 @@ stop-look scene step e = by (length step.path == 0) e
 whole-found : (scene : Scene) (steps : List Step) (path : List ℕ) → walked scene steps ≡ steps → is_file (scene.look path) ≡ true → candidate_at scene steps path ≡ candidate.Found path
 whole-found scene [] path e f = at_end-file (scene.look path) path f
 whole-found scene (step ∷ others) path e f =
-    elim (split (is_passable scene step)) [
+    elim (cases_Bool (is_passable scene step)) [
       | inl p ↦ candidate-pass scene step others path p ∙ whole-found scene others path (cc (sym (walked-pass scene step others p) ∙ e)) f
       | inr p ↦ absurd (cc (sym (walked-stop scene step others p) ∙ e))
     ]
@@ -157,7 +154,7 @@ whole-found scene (step ∷ others) path e f =
 found-whole : (scene : Scene) (steps : List Step) (path found : List ℕ) → candidate_at scene steps path ≡ candidate.Found found → (walked scene steps ≡ steps) × (is_file (scene.look path) ≡ true) × (path ≡ found)
 found-whole scene [] path found e = let a = at_end-found (scene.look path) path found e in (refl, a.0, a.1)
 found-whole scene (step ∷ others) path found e =
-    elim (split (is_passable scene step)) [
+    elim (cases_Bool (is_passable scene step)) [
       | inl p ↦ let r = found-whole scene others path found (sym (candidate-pass scene step others path p) ∙ e) in (walked-pass scene step others p ∙ ap (λ s. step ∷ s) r.0, r.1, r.2)
       | inr p ↦ absurd (at_stop-found _ _ found (sym (candidate-stop scene step others path p) ∙ e))
     ]
@@ -171,7 +168,7 @@ end-stop scene step others path e = rw e refl
 end-other : (scene : Scene) (steps : List Step) (path end : List ℕ) → end ≡ end_of scene steps path → is_other (scene.look end) ≡ true → candidate_at scene steps path ≡ candidate.Other end
 end-other scene [] path end e o = let o2 = subst (λ p. is_other (scene.look p) ≡ true) e o in at_end-is_other (scene.look path) path o2 ∙ ap (λ p. candidate.Other p) (sym e)
 end-other scene (step ∷ others) path end e o =
-    elim (split (is_passable scene step)) [
+    elim (cases_Bool (is_passable scene step)) [
       | inl p ↦ candidate-pass scene step others path p ∙ end-other scene others path end (e ∙ end-pass scene step others path p) o
       | inr p ↦
           let at : end ≡ step.path = e ∙ end-stop scene step others path p in
@@ -182,7 +179,7 @@ end-other scene (step ∷ others) path end e o =
 other-end : (scene : Scene) (steps : List Step) (path end : List ℕ) → candidate_at scene steps path ≡ candidate.Other end → (end ≡ end_of scene steps path) × (is_other (scene.look end) ≡ true)
 other-end scene [] path end e = let a = at_end-other (scene.look path) path end e in (sym a.1, subst (λ q. is_other (scene.look q) ≡ true) a.1 a.0)
 other-end scene (step ∷ others) path end e =
-    elim (split (is_passable scene step)) [
+    elim (cases_Bool (is_passable scene step)) [
       | inl p ↦ let r = other-end scene others path end (sym (candidate-pass scene step others path p) ∙ e) in (r.0 ∙ sym (end-pass scene step others path p), r.1)
       | inr p ↦
           let a = at_stop-other (step_look scene step.path) step.path end (sym (candidate-stop scene step others path p) ∙ e) in
@@ -192,35 +189,23 @@ other-end scene (step ∷ others) path end e =
 end-inside : (scene : Scene) (steps : List Step) (path : List ℕ) → candidate_at scene steps path ≡ candidate.Outside → ⊥
 end-inside scene [] path e = at_end-inside (scene.look path) path e
 end-inside scene (step ∷ others) path e =
-    elim (split (is_passable scene step)) [
+    elim (cases_Bool (is_passable scene step)) [
       | inl p ↦ end-inside scene others path (sym (candidate-pass scene step others path p) ∙ e)
       | inr p ↦ at_stop-inside _ _ (sym (candidate-stop scene step others path p) ∙ e)
     ]
 
 -- ---- what is left again
 
-head : {A : Type 0} (x : A) (xs : List A) → Contains (x ∷ xs) x
-head x xs = (0, omega arith, refl)
-
-tail : {A : Type 0} (x y : A) (xs : List A) → Contains xs y → Contains (x ∷ xs) y
-tail x y xs h = Contains-append_right (x ∷ []) xs y h
-
-one-is : {A : Type 0} (x y : A) → Contains (x ∷ []) y → x ≡ y
-one-is x y h = let z : h.0 ≡ 0 = omega (arith, h.1) in sym (ap (λ k. get_or (x ∷ []) k y) z) ∙ h.2
-
-cases : {A : Type 0} (x y : A) (xs : List A) → Contains (x ∷ xs) y → (x ≡ y) ⊎ Contains xs y
-cases x y xs h = elim (Contains-append_cases (x ∷ []) xs y h) [ inl a ↦ inl (one-is x y a) | inr a ↦ inr a ]
-
 left-contains : (steps : List Step) (path : List ℕ) → Contains steps (record { path = path; left = true }) → Contains (left_of steps) path
 left-contains [] path h = absurd (omega (arith, h.1))
 left-contains (step ∷ others) path h =
-    elim (cases step (record { path = path; left = true }) others h) [
-      | inl e ↦ let is : step.left ≡ true = ap (λ s. s.left) e in let at : step.path ≡ path = ap (λ s. s.path) e in rw is (subst (λ p. Contains (p ∷ left_of others) path) (sym at) (head path (left_of others)))
+    elim (Contains-cons_cases step others (record { path = path; left = true }) h) [
+      | inl e ↦ let is : step.left ≡ true = ap (λ s. s.left) e in let at : step.path ≡ path = ap (λ s. s.path) e in rw is (subst (λ p. Contains (p ∷ left_of others) path) (sym at) (Contains-head path (left_of others)))
       | inr r ↦ by step.left (left-contains others path r)
     ]
   where
     by : (b : Bool) → Contains (left_of others) path → Contains (cond b (step.path ∷ left_of others) (left_of others)) path
-    by true r = tail step.path path (left_of others) r
+    by true r = Contains-later step.path (left_of others) path r
     by false r = r
 
 contains-left : (steps : List Step) (path : List ℕ) → Contains (left_of steps) path → Contains steps (record { path = path; left = true })
@@ -229,11 +214,11 @@ contains-left (step ∷ others) path h = by step.left refl (contains-left others
   where
     by : (b : Bool) → step.left ≡ b → (Contains (left_of others) path → Contains others (record { path = path; left = true }))
         → Contains (cond b (step.path ∷ left_of others) (left_of others)) path → Contains (step ∷ others) (record { path = path; left = true })
-    by false e rest k = tail step (record { path = path; left = true }) others (rest k)
+    by false e rest k = Contains-later step others (record { path = path; left = true }) (rest k)
     by true e rest k =
-        elim (cases step.path path (left_of others) k) [
-          | inl at ↦ let same : step ≡ record { path = path; left = true } = ap (λ p. record { path = p; left = step.left }) at ∙ ap (λ b. record { path = path; left = b }) e in subst (λ s. Contains (s ∷ others) (record { path = path; left = true })) (sym same) (head _ others)
-          | inr r ↦ tail step (record { path = path; left = true }) others (rest r)
+        elim (Contains-cons_cases step.path (left_of others) path k) [
+          | inl at ↦ let same : step ≡ record { path = path; left = true } = ap (λ p. record { path = p; left = step.left }) at ∙ ap (λ b. record { path = path; left = b }) e in subst (λ s. Contains (s ∷ others) (record { path = path; left = true })) (sym same) (Contains-head _ others)
+          | inr r ↦ Contains-later step others (record { path = path; left = true }) (rest r)
         ]
 
 -- ---- tries

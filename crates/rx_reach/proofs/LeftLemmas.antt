@@ -3,7 +3,7 @@ use Rattle.std.proofs.Common.{◌≡◌, ◌≢◌, ℕ, ◌==◌, inl, inr, Boo
 use Rattle.std.proofs.lemmas.Bool.Decides.{nat_tests}
 use Rattle.rx_world.specs.declared.looks.Look.{Look}
 use Rattle.rx_world.specs.declared.looks.Look.TheVariants.{Dir}
-use Rattle.rx_world.proofs.Among.{Among, among-from}
+use Rattle.rx_base.proofs.Members.{Among, Among-from_contains}
 use Rattle.rx_reach.specs.declared.candidates.Step.{Step}
 use Rattle.rx_reach.specs.Candidates.{Leaves, Try, is_dir, is_passable, step_look, walked, way}
 use Rattle.rx_reach.specs.Scenes.{Scene}
@@ -31,4 +31,4 @@ below_root_look scene (x ∷ xs) f t = look-case (length (x ∷ xs) == 0) (scene
 pub left-dir : (scene : Scene) (t : Try) (path : List ℕ) → path ≢ [] → Leaves scene t path → is_dir (scene.look path) ≡ true
 left-dir scene t path some left =
     let step : Step = record { path = path; left = true } in
-    below_root_look scene path some (walked-passes scene (way t) step (among-from step (walked scene (way t)) left.2))
+    below_root_look scene path some (walked-passes scene (way t) step (Among-from_contains step (walked scene (way t)) left.2))

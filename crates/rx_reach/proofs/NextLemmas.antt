@@ -24,7 +24,7 @@ use Rattle.rx_reach.specs.Scenes.{Scene}
 use Rattle.rx_reach.specs.Sights.{seen_at}
 use Rattle.rx_reach.specs.Visits.{Begins, VisitsAt}
 use Rattle.rx_reach.proofs.ReachLemmas.{explored-first, explored-next, popped-visits}
-use Rattle.rx_reach.proofs.SetLemmas.{head, none, tail}
+use Rattle.rx_base.proofs.Members.{Contains-head, not_in_nothing, Contains-later}
 
 -- the first of a sorted list is not among the others
 pub first-gone : (path : List ℕ) (paths : List (List ℕ)) → AreSorted (path ∷ paths) → Contains paths path → ⊥
@@ -34,10 +34,10 @@ pub popped-gone : (old : List (List ℕ)) (path : List ℕ) (rest : List (List �
 popped-gone old path rest is s = first-gone path rest (subst AreSorted is s)
 
 pub popped-apart : (path : List ℕ) (p mid : Progress) → p.waiting ≡ path ∷ mid.waiting → mid.read ≡ p.read → AreApart p → AreApart mid
-popped-apart path p mid w r a = λ x k h. a x (subst (λ xs. Contains xs x) (sym w) (tail path x mid.waiting k)) (subst (λ (xs : List InputFile). Contains (paths_of xs) x) r h)
+popped-apart path p mid w r a = λ x k h. a x (subst (λ xs. Contains xs x) (sym w) (Contains-later path mid.waiting x k)) (subst (λ (xs : List InputFile). Contains (paths_of xs) x) r h)
 
 pub popped-new : (p : Progress) (path : List ℕ) (rest : List (List ℕ)) → p.waiting ≡ path ∷ rest → AreApart p → Contains (paths_of p.read) path → ⊥
-popped-new p path rest w a h = a path (subst (λ xs. Contains xs path) (sym w) (head path rest)) h
+popped-new p path rest w a h = a path (subst (λ xs. Contains xs path) (sym w) (Contains-head path rest)) h
 
 led-file : (scene : Scene) (search : Search) (files : List (List ℕ)) (path : List ℕ) → LeadsTo scene search files path → is_file (scene.look path) ≡ true
 led-file scene search [] path (inl h) = h.1
@@ -52,7 +52,7 @@ reached-file scene search path h = led-file scene search h.0 path h.1
 pub visits-next : (scene : Scene) (search : Search) (path : List ℕ) (p mid q : Progress) → p.waiting ≡ path ∷ mid.waiting → mid.read ≡ p.read → mid.hard ≡ p.hard → mid.left ≡ p.left
     → (is_file (scene.look path) ≡ true → VisitsAt scene search path mid q) → Explored scene search p → GoesOn scene search true p q
 visits-next scene search path p mid q w r h l visits e =
-    let known : IsKnown p path = inl (subst (λ xs. Contains xs path) (sym w) (head path mid.waiting)) in
+    let known : IsKnown p path = inl (subst (λ xs. Contains xs path) (sym w) (Contains-head path mid.waiting)) in
     let v : VisitsAt scene search path mid q = visits (reached-file scene search path (e.reached path known)) in
     (explored-next scene search v.file p q (subst (IsKnown p) (sym v.path_is) known) (popped-visits scene search path p mid q w r h l v) e, v.count ∙ ap (λ (xs : List InputFile). length xs + 1) r)
 
@@ -101,4 +101,4 @@ pub empty-seen : (sights : List (List ℕ × Look)) (files : List InputFile) →
 empty-seen sights files e = subst (AreSeen sights) (sym e) (All-nil (λ (file : InputFile). seen_at sights file.path ≡ Some (File file.stamp file.executable)))
 
 pub none-apart : (p : Progress) (rest : List (List ℕ)) → rest ≡ [] → AreApart (record { waiting = rest; read = p.read; hard = p.hard; left = p.left })
-none-apart p rest is = λ path k _. none path (subst (λ xs. Contains xs path) is k)
+none-apart p rest is = λ path k _. not_in_nothing path (subst (λ xs. Contains xs path) is k)

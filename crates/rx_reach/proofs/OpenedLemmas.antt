@@ -8,18 +8,18 @@ use Rattle.rx_reach.specs.Opened.{Choice, IsOpened, OpensIn, Takes}
 use Rattle.rx_reach.specs.Reach.{IsFound, IsReached, LeadsTo}
 use Rattle.rx_reach.specs.Scenes.{Scene}
 use Rattle.rx_reach.specs.Searches.{forced_tries, includes_of, tries_of}
-use Rattle.rx_reach.proofs.SetLemmas.{cases, head, none}
+use Rattle.rx_base.proofs.Members.{Contains-cons_cases, Contains-head, not_in_nothing}
 
 flat-contains : {A : Type 0} (f : A → List Try) (xs : List A) (x : A) (t : Try) → Contains xs x → Contains (f x) t → Contains (flat_map f xs) t
-flat-contains f [] x t h k = absurd (none x h)
+flat-contains f [] x t h k = absurd (not_in_nothing x h)
 flat-contains f (y ∷ ys) x t h k =
-    elim (cases y x ys h) [
+    elim (Contains-cons_cases y ys x h) [
       | inl e ↦ Contains-append_left (f y) (flat_map f ys) t (subst (λ z. Contains (f z) t) (sym e) k)
       | inr r ↦ Contains-append_right (f y) (flat_map f ys) t (flat-contains f ys x t r k)
     ]
 
 taken-there : (tries before after : List Try) (t : Try) → tries ≡ before ++ t ∷ after → Contains tries t
-taken-there tries before after t e = subst (λ ts. Contains ts t) (sym e) (Contains-append_right before (t ∷ after) t (head t after))
+taken-there tries before after t e = subst (λ ts. Contains ts t) (sym e) (Contains-append_right before (t ∷ after) t (Contains-head t after))
 
 takes-found : (scene : Scene) (tries : List Try) (next : Bool) (path : List ℕ) → Takes scene tries next path → IsFound scene tries path
 takes-found scene tries false path h = (h.taken, taken-there tries h.before h.after h.taken h.split, h.finds)

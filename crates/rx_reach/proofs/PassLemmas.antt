@@ -1,13 +1,11 @@
 -- The parts of a text, one after the other, on a way.
-use Rattle.std.proofs.Common.{◌≡◌, ℕ, ◌+◌, ◌<◌, ◌≤◌, ◌==◌, ◌⊎◌, inl, inr, Bool, true, false, cond, List, [], ◌∷◌, ◌++◌, length, get_or, drop, nat_lt, Option, Some, None, Ok, Err, Result, refl, sym, ap, ◌∙◌, subst, append_assoc, arith}
-use Rattle.std.specs.Prelude.{position, slice_index}
-use Rattle.std.specs.List.{AllByRecursion, position_or_len}
-use Rattle.std.proofs.lemmas.Bool.{eqb-false, ltb-false}
+use Rattle.std.proofs.Common.{◌≡◌, ℕ, ◌+◌, ◌<◌, ◌≤◌, ◌==◌, inl, inr, Bool, true, false, cond, List, [], ◌∷◌, ◌++◌, length, get_or, drop, nat_lt, Ok, Err, refl, sym, ap, ◌∙◌, subst, append_assoc, arith}
+use Rattle.std.specs.List.{AllByRecursion}
+use Rattle.std.proofs.lemmas.Bool.{ltb-false}
 use Rattle.std.proofs.lemmas.List.{at_drop_more}
 use Rattle.std.proofs.lemmas.List.Elements.{All-append, All-cons, All-from_recursion, All-get_or, All-head, All-nil, All-tail}
-use Rattle.rx_base.specs.declared.path_fault.PathFault.{PathFault}
-use Rattle.rx_base.specs.declared.path_fault.PathFault.TheVariants.{Absolute, Empty, TooLong}
-use Rattle.rx_base.specs.Paths.{IsPath, Lacks, checked, join_of, joined, longest, parts, with_part, with_parts, with_text, without_zero}
+use Rattle.rx_base.specs.declared.path_fault.PathFault.TheVariants.{Empty, TooLong}
+use Rattle.rx_base.specs.Paths.{IsPath, Lacks, checked, join_of, joined, longest, parts, with_part, with_parts, with_text}
 use Rattle.rx_base.specs.Results.{◌>>=◌}
 use Rattle.rx_base.proofs.PathLemmas.{with_parts-drop}
 use Rattle.rx_base.proofs.PathShape.{joined-lacks}
@@ -15,6 +13,8 @@ use Rattle.rx_base.proofs.ResultLemmas.{bind_ok}
 use Rattle.rx_reach.specs.declared.candidates.Step.{Step}
 use Rattle.rx_reach.specs.Candidates.{AreShort, is_skipped, is_up, names_of, next_names, steps, way}
 use Rattle.rx_reach.proofs.WayLemmas.{path-names, with_part-next, with_part-skips, with_text-own}
+use Rattle.rx_base.proofs.Conditions.{cond-cases}
+use Rattle.rx_base.proofs.PathParts.{Lacks-from_checked}
 
 abbrev Names : Type 0
 Names = List (List ℕ)
@@ -104,41 +104,6 @@ part-long all names final names0 before before0 i part t leads short some long s
 
 -- ---- a name in a directory
 
-split : (b : Bool) → (b ≡ true) ⊎ (b ≡ false)
-split true = inl refl
-split false = inr refl
-
-picked : {A : Type 0} (t : Bool) (x y z : Result A PathFault) → cond t x y ≡ z → ((t ≡ true) × (x ≡ z)) ⊎ ((t ≡ false) × (y ≡ z))
-picked true x y z e = inl (refl, e)
-picked false x y z e = inr (refl, e)
-
-lacks-from : (text : List ℕ) → length text ≤ position_or_len (λ b. b == 0) text → Lacks 0 text
-lacks-from [] h = tt
-lacks-from (x ∷ xs) h =
-    elim (split (x == 0)) [
-      | inl t ↦ let g = rw t at h in absurd (omega arith)
-      | inr f ↦ let g = rw f at h in (eqb-false _ _ f, lacks-from xs (omega arith))
-    ]
-
-without_zero-none : (o : Option ℕ) → without_zero o ≡ Ok tt → o ≡ None
-without_zero-none None e = refl
-without_zero-none (Some at) e = absurd (cc e)
-
-some-is : (t : Bool) (n : ℕ) → cond t (Some n) None ≡ None → t ≡ false
-some-is true n e = absurd (cc e)
-some-is false n e = refl
-
-checked-lacks : (text : List ℕ) → checked text ≡ Ok tt → Lacks 0 text
-unfolding checked
-checked-lacks text e =
-    elim (picked (slice_index text 0 == 47) (Err Absolute) (without_zero (position (λ b. b == 0) text)) (Ok tt) e) [
-      | inl p ↦ absurd (cc (p.1))
-      | inr p ↦
-          let none = without_zero-none (position (λ b. b == 0) text) p.1 in
-          let past = some-is (nat_lt (position_or_len (λ b. b == 0) text) (length text)) (position_or_len (λ b. b == 0) text) none in
-          lacks-from text (ltb-false _ _ past)
-    ]
-
 -- a directory and a name that make a path
 pub record Joins (dir name path : List ℕ) : Type 0 where
   pub dir_names : Names
@@ -152,18 +117,18 @@ pub record Joins (dir name path : List ℕ) : Type 0 where
 pub joins : (dir name path : List ℕ) → join_of dir name ≡ Ok path → Joins dir name path
 unfolding join_of
 joins dir name path e =
-    let some = picked (length name == 0) (Err Empty) (checked name >>= λ _. with_text [] dir >>= λ ns. with_text ns name >>= λ all. cond (nat_lt longest (length (joined all))) (Err TooLong) (Ok (joined all))) (Ok path) e in
+    let some = cond-cases (length name == 0) (Err Empty) (checked name >>= λ _. with_text [] dir >>= λ ns. with_text ns name >>= λ all. cond (nat_lt longest (length (joined all))) (Err TooLong) (Ok (joined all))) (Ok path) e in
     elim some [
       | inl p ↦ absurd (cc (p.1))
       | inr p ↦
           let a = bind_ok (checked name) (λ _. with_text [] dir >>= λ ns. with_text ns name >>= λ all. cond (nat_lt longest (length (joined all))) (Err TooLong) (Ok (joined all))) path p.1 in
           let b = bind_ok (with_text [] dir) (λ ns. with_text ns name >>= λ all. cond (nat_lt longest (length (joined all))) (Err TooLong) (Ok (joined all))) path a.2 in
           let c = bind_ok (with_text b.0 name) (λ all. cond (nat_lt longest (length (joined all))) (Err TooLong) (Ok (joined all))) path b.2 in
-          elim (picked (nat_lt longest (length (joined c.0))) (Err TooLong) (Ok (joined c.0)) (Ok path) c.2) [
+          elim (cond-cases (nat_lt longest (length (joined c.0))) (Err TooLong) (Ok (joined c.0)) (Ok path) c.2) [
             | inl q ↦ absurd (cc (q.1))
             | inr q ↦
                 let is : joined c.0 ≡ path = cc (q.1) in
-                record { dir_names = b.0; names = c.0; no_zero = checked-lacks name a.1; of_dir = b.1; of_name = c.1; path_is = sym is; short = subst (λ text. length text ≤ longest) is (ltb-false _ _ q.0) }
+                record { dir_names = b.0; names = c.0; no_zero = Lacks-from_checked name a.1; of_dir = b.1; of_name = c.1; path_is = sym is; short = subst (λ text. length text ≤ longest) is (ltb-false _ _ q.0) }
           ]
     ]
 

@@ -12,7 +12,7 @@ use Rattle.rx_reach.specs.Visits.{Begins, IsHardFirst, Visits, VisitsAt}
 use Rattle.rx_reach.specs.Reach.{IsAnyOutside, IsFileOf, IsFound, IsHard, IsLeft, IsReached, IsSought, LeadsTo, has_hidden}
 use Rattle.rx_reach.specs.Scenes.{Scene}
 use Rattle.rx_reach.specs.Searches.{tries_in}
-use Rattle.rx_reach.proofs.SetLemmas.{cases, head, mapped, none, tail, unmapped}
+use Rattle.rx_base.proofs.Members.{Contains-cons_cases, Contains-head, Contains-map, not_in_nothing, Contains-later, Contains-from_map}
 
 -- ---- the beginning
 
@@ -26,7 +26,7 @@ explored-first scene search p empty b = record {
   reached = λ path h. ([], (b.known path).0 h);
   first = λ path h. (b.known path).1 h;
   closed = λ file path h _. absurd (nothing file h);
-  files = λ file h. absurd (none file (subst (λ (xs : List InputFile). Contains xs file) empty h));
+  files = λ file h. absurd (not_in_nothing file (subst (λ (xs : List InputFile). Contains xs file) empty h));
   hard_only = λ path h. begin-hard scene search path ((b.hard path).0 h);
   hard_first = λ path h. (b.hard path).1 h;
   hard_files = λ file path h _. absurd (nothing file h);
@@ -36,17 +36,17 @@ explored-first scene search p empty b = record {
 }
   where
     nothing : (file : List ℕ) → Contains (paths_of p.read) file → ⊥
-    nothing file h = none file (subst (λ (xs : List InputFile). Contains (paths_of xs) file) empty h)
+    nothing file h = not_in_nothing file (subst (λ (xs : List InputFile). Contains (paths_of xs) file) empty h)
 
 -- ---- one file more
 
 -- a file that was read now was read before, or is the new one
 read-cases : (scene : Scene) (search : Search) (file : InputFile) (p q : Progress) (path : List ℕ) → Visits scene search file p q → Contains (paths_of q.read) path → (path ≡ file.path) ⊎ Contains (paths_of p.read) path
 read-cases scene search file p q path v h =
-    let there = unmapped (λ (f : InputFile). f.path) path q.read h in
+    let there = Contains-from_map (λ (f : InputFile). f.path) q.read path h in
     elim ((v.read there.0).0 there.1) [
       | inl e ↦ inl (sym there.2 ∙ ap (λ (f : InputFile). f.path) e)
-      | inr k ↦ inr (subst (Contains (paths_of p.read)) there.2 (mapped (λ (f : InputFile). f.path) there.0 p.read k))
+      | inr k ↦ inr (subst (Contains (paths_of p.read)) there.2 (Contains-map (λ (f : InputFile). f.path) p.read there.0 k))
     ]
 
 file-hard : (scene : Scene) (search : Search) (file path : List ℕ) → IsReached scene search file → IsHardIn scene search file path → IsHard scene search path
@@ -72,7 +72,7 @@ explored-next scene search file p q k v e = record {
 
 -- with nothing left to read, all that is known was read
 read-known : (p : Progress) (path : List ℕ) → p.waiting ≡ [] → IsKnown p path → Contains (paths_of p.read) path
-read-known p path w (inl h) = absurd (none path (subst (λ xs. Contains xs path) w h))
+read-known p path w (inl h) = absurd (not_in_nothing path (subst (λ xs. Contains xs path) w h))
 read-known p path w (inr h) = h
 
 reached-read : (scene : Scene) (search : Search) (p : Progress) → p.waiting ≡ [] → Explored scene search p → (files : List (List ℕ)) (path : List ℕ) → LeadsTo scene search files path → Contains (paths_of p.read) path
@@ -120,10 +120,10 @@ popped-visits scene search path p mid q w r h l v = record {
 }
   where
     back : (x : List ℕ) → IsKnown mid x ⊎ (x ≡ path) → IsKnown p x
-    back x (inl (inl k)) = inl (subst (λ xs. Contains xs x) (sym w) (tail path x mid.waiting k))
+    back x (inl (inl k)) = inl (subst (λ xs. Contains xs x) (sym w) (Contains-later path mid.waiting x k))
     back x (inl (inr k)) = inr (subst (λ (xs : List InputFile). Contains (paths_of xs) x) r k)
-    back x (inr s) = inl (subst (λ xs. Contains xs x) (sym w) (subst (Contains (path ∷ mid.waiting)) (sym s) (head path mid.waiting)))
+    back x (inr s) = inl (subst (λ xs. Contains xs x) (sym w) (subst (Contains (path ∷ mid.waiting)) (sym s) (Contains-head path mid.waiting)))
 
     forth : (x : List ℕ) → IsKnown p x → IsKnown mid x ⊎ (x ≡ path)
-    forth x (inl k) = elim (cases path x mid.waiting (subst (λ xs. Contains xs x) w k)) [ inl e ↦ inr (sym e) | inr a ↦ inl (inl a) ]
+    forth x (inl k) = elim (Contains-cons_cases path mid.waiting x (subst (λ xs. Contains xs x) w k)) [ inl e ↦ inr (sym e) | inr a ↦ inl (inl a) ]
     forth x (inr k) = inl (inr (subst (λ (xs : List InputFile). Contains (paths_of xs) x) (sym r) k))

@@ -12,17 +12,17 @@ use Rattle.rx_reach.specs.Reach.{IsFound}
 use Rattle.rx_reach.specs.Scenes.{Scene}
 use Rattle.rx_reach.specs.Searches.{tries_under}
 use Rattle.rx_base.proofs.PathAbove.{texts-all}
-use Rattle.rx_reach.proofs.SetLemmas.{head, none, one-is}
+use Rattle.rx_base.proofs.Members.{Contains-head, not_in_nothing, Contains-one}
 
 -- some try of a list has it
 abbrev Some-of : (Try → Type 0) → List Try → Type 0
 Some-of P tries = (t : Try) × Contains tries t × P t
 
 some-one : (P : Try → Type 0) (t : Try) → Some-of P (t ∷ []) → P t
-some-one P t h = subst P (sym (one-is t h.0 h.1)) h.2
+some-one P t h = subst P (sym (Contains-one t h.0 h.1)) h.2
 
 one-some : (P : Try → Type 0) (t : Try) → P t → Some-of P (t ∷ [])
-one-some P t p = (t, head t [], p)
+one-some P t p = (t, Contains-head t [], p)
 
 some-cases : (P : Try → Type 0) (xs ys : List Try) → Some-of P (xs ++ ys) → Some-of P xs ⊎ Some-of P ys
 some-cases P xs ys h = elim (Contains-append_cases xs ys h.0 h.1) [ inl a ↦ inl (h.0, a, h.2) | inr a ↦ inr (h.0, a, h.2) ]
@@ -63,14 +63,14 @@ stays-join p q r a b = record { read_is = b.read_is ∙ a.read_is; apart = λ x.
 
 pub seeks-none : (scene : Scene) (blamed : List ℕ) (p : Progress) → Seeks scene blamed [] p p
 seeks-none scene blamed p = record {
-  known = λ path. (λ h. inl h, λ h. elim h [ inl a ↦ a | inr a ↦ absurd (none a.0 a.1) ]);
+  known = λ path. (λ h. inl h, λ h. elim h [ inl a ↦ a | inr a ↦ absurd (not_in_nothing a.0 a.1) ]);
   hard = λ path. (λ h. inl h, λ h. elim h [ inl a ↦ a | inr a ↦ absurd (nobody path a) ]);
-  left = λ path. (λ h. inl h, λ h. elim h [ inl a ↦ a | inr a ↦ absurd (none a.0 a.1) ]);
+  left = λ path. (λ h. inl h, λ h. elim h [ inl a ↦ a | inr a ↦ absurd (not_in_nothing a.0 a.1) ]);
 }
   where
     nobody : (path : List ℕ) → IsHardBy scene blamed [] path → ⊥
-    nobody path (inl h) = none h.1.0 h.1.1
-    nobody path (inr h) = none h.0 h.1
+    nobody path (inl h) = not_in_nothing h.1.0 h.1.1
+    nobody path (inr h) = not_in_nothing h.0 h.1
 
 pub seeks-one : (scene : Scene) (blamed : List ℕ) (t : Try) (tried : Tried) (p q : Progress) → IsTried scene t tried → Takes blamed tried p q → Seeks scene blamed (t ∷ []) p q
 seeks-one scene blamed t tried p q is took = record {

@@ -1,5 +1,5 @@
 -- Sets of paths and tables of files, as lists.
-use Rattle.std.proofs.Common.{◌≡◌, ◌↔◌, ℕ, ◌+◌, ◌<◌, ◌≤◌, ◌⊎◌, inl, inr, Bool, true, false, cond, List, [], ◌∷◌, ◌++◌, length, get_or, map, take, Option, Some, None, refl, sym, ap, ◌∙◌, subst, arith}
+use Rattle.std.proofs.Common.{◌≡◌, ◌↔◌, ℕ, ◌+◌, ◌<◌, ◌≤◌, ◌⊎◌, inl, inr, Bool, true, false, cond, List, [], ◌∷◌, ◌++◌, length, get_or, map, take, Option, Some, None, refl, sym, ap, ◌∙◌, subst}
 use Rattle.std.specs.Prelude.{All, Contains, Err, IfOk, IsSome, IsTrue, Ok, Result, if◌then◌else◌, is_some}
 use Rattle.std.proofs.lemmas.List.{length-map, take_more}
 use Rattle.rx_base.proofs.PathAbove.{texts-all}
@@ -20,6 +20,8 @@ use Rattle.rx_world.specs.declared.input_files.InputFile.{InputFile}
 use Rattle.rx_reach.specs.declared.file_tables.ReadFile.{ReadFile}
 use Rattle.rx_reach.specs.FileTables.{file_of, paths_of}
 use Rattle.rx_reach.specs.PathSets.{Adds}
+use Rattle.rx_base.proofs.Members.{Contains-head, Contains-one, not_in_nothing, Contains-map, Contains-from_map}
+use Rattle.rx_base.proofs.Conditions.{cond-cases}
 
 -- ---- sets
 
@@ -27,10 +29,6 @@ pub set-contains : (set : BTreeSet (List ℕ)) (path : List ℕ) (r : Bool) → 
 set-contains set path r e =
     let iff = btree_set_contains_iff nat_list_cmp_total exact_bytes set path in
     (λ t. iff.0 (sym e ∙ t), λ h. e ∙ iff.1 h)
-
-chosen : (b old : Bool) → cond b true old ≡ true → (b ≡ true) ⊎ (old ≡ true)
-chosen true old e = inl refl
-chosen false old e = inr e
 
 either : (b old : Bool) → (b ≡ true) ⊎ (old ≡ true) → cond b true old ≡ true
 either true old h = refl
@@ -43,9 +41,9 @@ set-adds old new path u other =
     let now = btree_set_contains_iff nat_list_cmp_total exact_bytes new other in
     let was = btree_set_contains_iff nat_list_cmp_total exact_bytes old other in
     let step : sorted.contains (slice_cmp nat_cmp) new other ≡ cond (bytes_eq path other) true (sorted.contains (slice_cmp nat_cmp) old other) = u.0 other ∙ ap (λ b. cond b true (sorted.contains (slice_cmp nat_cmp) old other)) here in (
-      λ h. elim (chosen (bytes_eq path other) (sorted.contains (slice_cmp nat_cmp) old other) (sym step ∙ now.1 h)) [
-        | inl e ↦ inl (sym ((bytes_eq-Decides path other).0 e))
-        | inr e ↦ inr (was.0 e)
+      λ h. elim (cond-cases (bytes_eq path other) true (sorted.contains (slice_cmp nat_cmp) old other) true (sym step ∙ now.1 h)) [
+        | inl e ↦ inl (sym ((bytes_eq-Decides path other).0 e.0))
+        | inr e ↦ inr (was.0 e.1)
       ],
       λ h. now.0 (step ∙ either (bytes_eq path other) (sorted.contains (slice_cmp nat_cmp) old other) (told h)),
     )
@@ -60,33 +58,6 @@ adds-known set path h other = (λ k. inr k, λ k. elim k [ inl e ↦ subst (Cont
 
 -- ---- members
 
-pub head : {A : Type 0} (x : A) (xs : List A) → Contains (x ∷ xs) x
-head x xs = (0, omega arith, refl)
-
-pub tail : {A : Type 0} (x y : A) (xs : List A) → Contains xs y → Contains (x ∷ xs) y
-tail x y xs h = Contains-append_right (x ∷ []) xs y h
-
-pub one-is : {A : Type 0} (x y : A) → Contains (x ∷ []) y → x ≡ y
-one-is x y h = let z : h.0 ≡ 0 = omega (arith, h.1) in sym (ap (λ k. get_or (x ∷ []) k y) z) ∙ h.2
-
-pub cases : {A : Type 0} (x y : A) (xs : List A) → Contains (x ∷ xs) y → (x ≡ y) ⊎ Contains xs y
-cases x y xs h = elim (Contains-append_cases (x ∷ []) xs y h) [ inl a ↦ inl (one-is x y a) | inr a ↦ inr a ]
-
-pub none : {A : Type 0} (y : A) → Contains [] y → ⊥
-none y h = omega (arith, h.1)
-
-pub mapped : {A B : Type 0} (f : A → B) (x : A) (xs : List A) → Contains xs x → Contains (map f xs) (f x)
-mapped f x [] h = absurd (none x h)
-mapped f x (y ∷ ys) h = elim (cases y x ys h) [ inl e ↦ subst (λ z. Contains (f z ∷ map f ys) (f x)) (sym e) (head (f x) (map f ys)) | inr r ↦ tail (f y) (f x) (map f ys) (mapped f x ys r) ]
-
-pub unmapped : {A B : Type 0} (f : A → B) (b : B) (xs : List A) → Contains (map f xs) b → (x : A) × Contains xs x × (f x ≡ b)
-unmapped f b [] h = absurd (none b h)
-unmapped f b (y ∷ ys) h =
-    elim (cases (f y) b (map f ys) h) [
-      | inl e ↦ (y, head y ys, e)
-      | inr r ↦ let there = unmapped f b ys r in (there.0, tail y there.0 ys there.1, there.2)
-    ]
-
 pub all-from : {A : Type 0} (P : A → Type 0) (xs : List A) → ((x : A) → Contains xs x → P x) → All P xs
 all-from P xs h = All-weaker (Contains xs) P h xs (All-contains_itself xs)
 
@@ -98,8 +69,8 @@ Entry = List ℕ × ReadFile
 pub table-contains : (table : BTreeMap (List ℕ) ReadFile) → tree.IsOrdered (slice_cmp nat_cmp) table → (f : InputFile) → Contains (map file_of table.entries) f ↔ (tree.get (slice_cmp nat_cmp) table f.path ≡ Some (record { digest = f.digest; stamp = f.stamp; executable = f.executable }))
 table-contains table s f =
     let iff = btree_map_get_iff nat_list_cmp_total exact_bytes table s f.path (record { digest = f.digest; stamp = f.stamp; executable = f.executable }) in (
-      λ h. let there = unmapped file_of f table.entries h in iff.1 (subst (Contains table.entries) (ap (λ (x : InputFile). (x.path, record { digest = x.digest; stamp = x.stamp; executable = x.executable })) there.2) there.1),
-      λ e. mapped file_of (f.path, record { digest = f.digest; stamp = f.stamp; executable = f.executable }) table.entries (iff.0 e),
+      λ h. let there = Contains-from_map file_of table.entries f h in iff.1 (subst (Contains table.entries) (ap (λ (x : InputFile). (x.path, record { digest = x.digest; stamp = x.stamp; executable = x.executable })) there.2) there.1),
+      λ e. Contains-map file_of table.entries (f.path, record { digest = f.digest; stamp = f.stamp; executable = f.executable }) (iff.0 e),
     )
 
 keys-paths : (es : List Entry) → paths_of (map file_of es) ≡ map (λ e. e.0) es
@@ -151,7 +122,7 @@ table-adds old new path file was is u absent other =
     from k false q e = e
     from k true q e =
         let here : path ≡ other.path = (bytes_eq-Decides path other.path).0 (sym q) in
-        absurd (absent (subst (Contains (paths_of (map file_of old.entries))) (sym here) (mapped (λ (f : InputFile). f.path) other (map file_of old.entries) k)))
+        absurd (absent (subst (Contains (paths_of (map file_of old.entries))) (sym here) (Contains-map (λ (f : InputFile). f.path) (map file_of old.entries) other k)))
 
 none-there : (o : Option ReadFile) → (IsSome o → ⊥) → is_some o ≡ false
 none-there None h = refl
@@ -180,16 +151,16 @@ adds-next start old new all i path lt e inv adds p =
     rw more (λ h. to ((adds p).0 h), λ h. (adds p).1 (from h))
   where
     to : (p ≡ path) ⊎ Contains old p → Contains start p ⊎ Contains (take i all ++ path ∷ []) p
-    to (inl q) = inr (Contains-append_right (take i all) (path ∷ []) p (subst (Contains (path ∷ [])) (sym q) (head path [])))
+    to (inl q) = inr (Contains-append_right (take i all) (path ∷ []) p (subst (Contains (path ∷ [])) (sym q) (Contains-head path [])))
     to (inr h) = elim ((inv p).0 h) [ inl a ↦ inl a | inr a ↦ inr (Contains-append_left (take i all) (path ∷ []) p a) ]
 
     from : Contains start p ⊎ Contains (take i all ++ path ∷ []) p → (p ≡ path) ⊎ Contains old p
     from (inl h) = inr ((inv p).1 (inl h))
-    from (inr h) = elim (Contains-append_cases (take i all) (path ∷ []) p h) [ inl a ↦ inr ((inv p).1 (inr a)) | inr a ↦ inl (sym (one-is path p a)) ]
+    from (inr h) = elim (Contains-append_cases (take i all) (path ∷ []) p h) [ inl a ↦ inr ((inv p).1 (inr a)) | inr a ↦ inl (sym (Contains-one path p a)) ]
 
 pub adds-end : (start set all : List (List ℕ)) (i : ℕ) → length all ≤ i → ((p : List ℕ) → Contains set p ↔ (Contains start p ⊎ Contains (take i all) p))
     → (p : List ℕ) → Contains set p ↔ (Contains start p ⊎ Contains all p)
 adds-end start set all i le inv p = subst (λ xs. Contains set p ↔ (Contains start p ⊎ Contains xs p)) (texts-all all i le) (inv p)
 
 pub adds-start : (set all : List (List ℕ)) (p : List ℕ) → Contains set p ↔ (Contains set p ⊎ Contains (take 0 all) p)
-adds-start set all p = (λ h. inl h, λ h. elim h [ inl a ↦ a | inr a ↦ absurd (none p a) ])
+adds-start set all p = (λ h. inl h, λ h. elim h [ inl a ↦ a | inr a ↦ absurd (not_in_nothing p a) ])

@@ -14,7 +14,7 @@ use Rattle.rx_reach.specs.Reach.{IsFirst, IsFound}
 use Rattle.rx_reach.specs.Scenes.{Scene}
 use Rattle.rx_reach.specs.Searches.{all_forced}
 use Rattle.rx_reach.specs.Visits.{Begins, IsHardFirst}
-use Rattle.rx_reach.proofs.SetLemmas.{none}
+use Rattle.rx_base.proofs.Members.{not_in_nothing}
 
 pub source-file : {E : Type 0} (path : List ℕ) (look : Look) (old new : Progress) (result : Result (Unit {0}) E) → is_file look ≡ true → is_other look ≡ false
     → OnOk result (Finds old new path) → OnOk result (TakesSource path look old new)
@@ -66,14 +66,14 @@ begins scene search look p mid q w r h l t seen s = record {
   known = λ path. (λ k. known-to path ((s.known path).0 k), λ k. (s.known path).1 (known-from path k));
   hard = λ path. (λ k. hard-to path ((s.hard path).0 k), λ k. (s.hard path).1 (hard-from path k));
   left = λ path. (
-    λ k. elim ((s.left path).0 k) [ inl a ↦ absurd (none path (subst (λ xs. Contains xs path) (t.left_is ∙ l) a)) | inr a ↦ a ],
+    λ k. elim ((s.left path).0 k) [ inl a ↦ absurd (not_in_nothing path (subst (λ xs. Contains xs path) (t.left_is ∙ l) a)) | inr a ↦ a ],
     λ k. (s.left path).1 (inr k),
   );
 }
   where
     nothing : (path : List ℕ) → IsKnown p path → ⊥
-    nothing path (inl k) = none path (subst (λ xs. Contains xs path) w k)
-    nothing path (inr k) = none path (subst (λ (xs : List InputFile). Contains (paths_of xs) path) r k)
+    nothing path (inl k) = not_in_nothing path (subst (λ xs. Contains xs path) w k)
+    nothing path (inr k) = not_in_nothing path (subst (λ (xs : List InputFile). Contains (paths_of xs) path) r k)
 
     known-to : (path : List ℕ) → IsKnown mid path ⊎ IsFound scene (all_forced search) path → IsFirst scene search path
     known-to path (inr k) = inr k
@@ -89,7 +89,7 @@ begins scene search look p mid q w r h l t seen s = record {
     hard-to : (path : List ℕ) → Contains mid.hard path ⊎ IsHardBy scene search.source (all_forced search) path → IsHardFirst scene search path
     hard-to path (inr k) = inr k
     hard-to path (inl k) = elim ((t.hard path).0 k) [
-      | inl a ↦ absurd (none path (subst (λ xs. Contains xs path) h a))
+      | inl a ↦ absurd (not_in_nothing path (subst (λ xs. Contains xs path) h a))
       | inr e ↦ inl (e.0, ap (λ x. is_other (scene.look x)) e.0 ∙ sym (ap is_other seen) ∙ e.1)
     ]
 
@@ -98,4 +98,4 @@ begins scene search look p mid q w r h l t seen s = record {
     hard-from path (inl e) = inl ((t.hard path).1 (inr (e.0, ap is_other seen ∙ sym (ap (λ x. is_other (scene.look x)) e.0) ∙ e.1)))
 
 pub empty-apart : (p : Progress) → p.read ≡ [] → AreApart p
-empty-apart p r = λ path _ k. none path (subst (λ (xs : List InputFile). Contains (paths_of xs) path) r k)
+empty-apart p r = λ path _ k. not_in_nothing path (subst (λ (xs : List InputFile). Contains (paths_of xs) path) r k)

@@ -11,6 +11,7 @@ use Rattle.std.specs.Str.{bytes_eq}
 use Rattle.std.specs.String.{string_bytes}
 use Rattle.std.proofs.lemmas.Map.Text.{is_eq-slice_cmp}
 use Rattle.std.proofs.lemmas.Slice.Eq.{bytes_eq-Decides}
+use Rattle.std.proofs.lemmas.Bool.{and_parts}
 use Rattle.rx_world.specs.declared.looks.Look.{Look}
 use Rattle.rx_world.specs.declared.sources.Given.{Given}
 use Rattle.rx_reach.specs.declared.tries.Tried.{Tried}
@@ -28,13 +29,9 @@ Dirs Y = BTreeMap (List ℕ) (Names Y)
 
 -- ---- which try
 
-both-true : (a b : Bool) → (a && b) ≡ true → (a ≡ true) × (b ≡ true)
-both-true true b e = (refl, e)
-both-true false b e = absurd (cc e)
-
 try-is : (t other : Try) → is_try t other ≡ true → t ≡ other
 try-is t other e =
-    let both = both-true (bytes_eq t.dir other.dir) (bytes_eq t.name other.name) e in
+    let both = and_parts (bytes_eq t.dir other.dir) (bytes_eq t.name other.name) e in
     let dir : t.dir ≡ other.dir = (bytes_eq-Decides t.dir other.dir).0 both.0 in
     let name : t.name ≡ other.name = (bytes_eq-Decides t.name other.name).0 both.1 in
     ap (λ d. let x : Try = record { dir = d; name = t.name } in x) dir ∙ ap (λ n. let x : Try = record { dir = other.dir; name = n } in x) name

@@ -19,20 +19,21 @@ use Rattle.rx_reach.specs.Scenes.{Scene}
 use Rattle.rx_reach.specs.Searches.{tries_in}
 use Rattle.rx_reach.specs.Sights.{Notes, seen_at}
 use Rattle.rx_reach.specs.Visits.{VisitsAt}
-use Rattle.rx_reach.proofs.SetLemmas.{all-from, mapped, unmapped}
+use Rattle.rx_reach.proofs.SetLemmas.{all-from}
 use Rattle.rx_reach.proofs.SightLemmas.{notes-keep}
+use Rattle.rx_base.proofs.Members.{Contains-map, Contains-from_map}
 
 -- the paths of the files after one more was added
 paths-more : (file : InputFile) (old new : List InputFile) → ((f : InputFile) → Contains new f ↔ ((f ≡ file) ⊎ Contains old f)) → (path : List ℕ) → Contains (paths_of new) path ↔ ((path ≡ file.path) ⊎ Contains (paths_of old) path)
 paths-more file old new iff path = (
-  λ h. let there = unmapped (λ (f : InputFile). f.path) path new h in
+  λ h. let there = Contains-from_map (λ (f : InputFile). f.path) new path h in
       elim ((iff there.0).0 there.1) [
         | inl e ↦ inl (sym there.2 ∙ ap (λ (f : InputFile). f.path) e)
-        | inr k ↦ inr (subst (Contains (paths_of old)) there.2 (mapped (λ (f : InputFile). f.path) there.0 old k))
+        | inr k ↦ inr (subst (Contains (paths_of old)) there.2 (Contains-map (λ (f : InputFile). f.path) old there.0 k))
       ],
   λ h. elim h [
-    | inl e ↦ subst (Contains (paths_of new)) (sym e) (mapped (λ (f : InputFile). f.path) file new ((iff file).1 (inl refl)))
-    | inr k ↦ let there = unmapped (λ (f : InputFile). f.path) path old k in subst (Contains (paths_of new)) there.2 (mapped (λ (f : InputFile). f.path) there.0 new ((iff there.0).1 (inr there.1)))
+    | inl e ↦ subst (Contains (paths_of new)) (sym e) (Contains-map (λ (f : InputFile). f.path) new file ((iff file).1 (inl refl)))
+    | inr k ↦ let there = Contains-from_map (λ (f : InputFile). f.path) old path k in subst (Contains (paths_of new)) there.2 (Contains-map (λ (f : InputFile). f.path) new there.0 ((iff there.0).1 (inr there.1)))
   ],
 )
 

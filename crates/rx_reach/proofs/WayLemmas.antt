@@ -1,17 +1,17 @@
 -- The names of a path, and the directories on a way.
-use Rattle.std.proofs.Common.{◌≡◌, ◌≢◌, ℕ, ◌-◌, ◌<◌, ◌≤◌, ◌==◌, ◌||◌, Bool, true, false, cond, List, [], ◌∷◌, ◌++◌, length, nat_lt, take, None, Ok, Err, refl, sym, ap, ◌∙◌, subst, append_assoc, append-nil, arith}
-use Rattle.std.specs.Prelude.{codes, position, slice_index}
-use Rattle.std.specs.List.{AllByRecursion, onto_first, position_or_len}
+use Rattle.std.proofs.Common.{◌≡◌, ◌≢◌, ℕ, ◌-◌, ◌<◌, ◌≤◌, ◌==◌, ◌||◌, Bool, true, false, cond, List, [], ◌∷◌, ◌++◌, length, nat_lt, take, Ok, Err, refl, sym, ap, ◌∙◌, subst, append_assoc, append-nil, arith}
+use Rattle.std.specs.Prelude.{codes, slice_index}
+use Rattle.std.specs.List.{AllByRecursion}
 use Rattle.std.specs.Str.{bytes_eq}
-use Rattle.std.proofs.lemmas.Bool.{cond_both, eqb-false, eqb-true, ltb-true}
-use Rattle.std.proofs.lemmas.Bool.Decides.{nat_tests}
+use Rattle.std.proofs.lemmas.Bool.{eqb-true, ltb-true, ltb-false, ne_eqb}
 use Rattle.rx_base.specs.declared.path_fault.PathFault.{PathFault}
 use Rattle.rx_base.specs.declared.path_fault.PathFault.TheVariants.{AboveRoot, TooLong}
-use Rattle.rx_base.specs.Paths.{IsName, IsPath, Lacks, checked, join_of, joined, longest, parts, with_part, with_parts, with_text, without_last}
+use Rattle.rx_base.specs.Paths.{IsName, IsPath, Lacks, checked, join_of, joined, longest, with_part, with_parts, with_text, without_last}
 use Rattle.rx_base.proofs.PathAgain.{parts-joined}
 use Rattle.rx_base.proofs.PathLemmas.{not_true, with_part_name}
 use Rattle.rx_base.proofs.PathShape.{length-joined, with_text-names}
 use Rattle.rx_reach.specs.Candidates.{is_skipped, is_up, names_of, next_names, steps}
+use Rattle.rx_base.proofs.PathParts.{no_zero, parts-name}
 
 abbrev pub Good : List (List ℕ) → Type 0
 Good names = AllByRecursion IsName names
@@ -43,34 +43,6 @@ path-names path p =
 pub path-from : (names : List (List ℕ)) → Good names → length (joined names) ≤ longest → IsPath (joined names)
 path-from names good short = record { names = names; each = good; spelled = refl; short = short }
 
--- ---- parts
-
-onto_first-lacks : (c x : ℕ) (ps : List (List ℕ)) → x ≢ c → AllByRecursion (Lacks c) ps → AllByRecursion (Lacks c) (onto_first x ps)
-onto_first-lacks c x [] ne h = ((ne, tt), tt)
-onto_first-lacks c x (p ∷ ps) ne h = ((ne, h.0), h.1)
-
-pub parts-no_slash : (text : List ℕ) → AllByRecursion (Lacks 47) (parts text)
-parts-no_slash [] = (tt, tt)
-parts-no_slash (x ∷ xs) =
-    cond_both (x == 47) ([] ∷ parts xs) (onto_first x (parts xs)) (λ ps. AllByRecursion (Lacks 47) ps)
-    (λ e. (tt, parts-no_slash xs))
-    (λ e. onto_first-lacks 47 x (parts xs) (eqb-false _ _ e) (parts-no_slash xs))
-
-pub parts-lack : (c : ℕ) (text : List ℕ) → Lacks c text → AllByRecursion (Lacks c) (parts text)
-parts-lack c [] h = (tt, tt)
-parts-lack c (x ∷ xs) h =
-    cond_both (x == 47) ([] ∷ parts xs) (onto_first x (parts xs)) (λ ps. AllByRecursion (Lacks c) ps)
-    (λ e. (tt, parts-lack c xs h.1))
-    (λ e. onto_first-lacks c x (parts xs) h.0 (parts-lack c xs h.1))
-
-apart : (b c : ℕ) → b ≢ c → (b == c) ≡ false
-apart b c ne = not_true (b == c) (λ e. ne (eqb-true b c e))
-
--- a text without a slash is one part
-parts-one : (name : List ℕ) → Lacks 47 name → parts name ≡ name ∷ []
-parts-one [] h = refl
-parts-one (x ∷ xs) h = rw (apart x 47 h.0, parts-one xs h.1) refl
-
 with_parts-on : (front names : List (List ℕ)) → Good names → with_parts front names ≡ Ok (front ++ names)
 unfolding with_parts
 with_parts-on front [] h = rw (append-nil front) refl
@@ -85,19 +57,9 @@ with_text-own (x ∷ xs) h = rw (parts-joined (x ∷ xs) (omega arith) h) (with_
 
 -- ---- one part more
 
-position_or_len-lacks : (text : List ℕ) → Lacks 0 text → position_or_len (λ b. b == 0) text ≡ length text
-position_or_len-lacks [] h = refl
-position_or_len-lacks (x ∷ xs) h = rw (apart x 0 h.0) (let rest = position_or_len-lacks xs h.1 in omega arith)
-
-not-below : (n : ℕ) → nat_lt n n ≡ false
-not-below n = grind (arith, nat_tests)
-
-no_zero : (text : List ℕ) → Lacks 0 text → position (λ b. b == 0) text ≡ None
-no_zero text h = rw (position_or_len-lacks text h, not-below (length text)) refl
-
 not-absolute : (text : List ℕ) → Lacks 47 text → (length text == 0) ≡ false → (slice_index text 0 == 47) ≡ false
 not-absolute [] h e = absurd (cc e)
-not-absolute (b ∷ bs) h e = apart b 47 h.0
+not-absolute (b ∷ bs) h e = ne_eqb b 47 h.0
 
 checked-part : (part : List ℕ) → Lacks 47 part → Lacks 0 part → (length part == 0) ≡ false → checked part ≡ Ok tt
 unfolding checked
@@ -105,7 +67,7 @@ checked-part part slash zero some = rw (not-absolute part slash some, no_zero pa
 
 with_text-part : (names next : List (List ℕ)) (part : List ℕ) → Lacks 47 part → with_part names part ≡ Ok next → with_text names part ≡ Ok next
 unfolding with_text with_parts
-with_text-part names next part slash e = rw (parts-one part slash, e) refl
+with_text-part names next part slash e = rw (parts-name part slash, e) refl
 
 pub join-part : (names next : List (List ℕ)) (part : List ℕ) → Good names → Lacks 47 part → Lacks 0 part → (length part == 0) ≡ false → with_part names part ≡ Ok next
     → join_of (joined names) part ≡ cond (nat_lt longest (length (joined next))) (Err TooLong) (Ok (joined next))
@@ -148,9 +110,6 @@ err-is : (b : Bool) (x : List ℕ) (e : PathFault) → cond b (Err TooLong) (Ok 
 err-is true x e p = refl
 err-is false x e p = absurd (cc p)
 
-not-longer : (n m : ℕ) → nat_lt n m ≡ false → m ≤ n
-not-longer n m e = grind (arith, nat_tests)
-
 -- a part leads to a path
 pub stepped : (at part next : List ℕ) → IsPath at → Lacks 47 part → Lacks 0 part → ((names : List (List ℕ)) × (with_part (names_of at) part ≡ Ok names)) → (length part == 0) ≡ false
     → join_of at part ≡ Ok next → IsPath next × (with_part (names_of at) part ≡ Ok (names_of next))
@@ -159,7 +118,7 @@ stepped at part next p slash zero leads some e =
     let joins = join-part (names_of at) leads.0 part own.0 slash zero some leads.1 in
     let is = ok-is _ _ _ (sym joins ∙ ap (λ base. join_of base part) own.1 ∙ e) in
     let good = with_part-good (names_of at) leads.0 part own.0 slash zero leads.1 in
-    let there = path-from leads.0 good (not-longer _ _ is.0) in
+    let there = path-from leads.0 good (ltb-false _ _ is.0) in
     (subst IsPath is.1 there, leads.1 ∙ ap (λ names. Ok names) (sym (ap names_of (sym is.1) ∙ names-joined leads.0 good)))
 
 -- a part leads to too long a path

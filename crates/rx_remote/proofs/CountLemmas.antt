@@ -9,7 +9,7 @@ use Rattle.rx_world.specs.declared.call_faults.CallFault.TheVariants as calls
 use Rattle.rx_remote.specs.Faults.{faults_after, with_fault}
 use Rattle.rx_remote.specs.Turns.{IsCountedHeard, IsListedFault, RoseBy}
 
-longer : (faults : List CallFault) (fault : CallFault) → length (faults ++ fault ∷ []) ≡ length faults + 1
+pub longer : (faults : List CallFault) (fault : CallFault) → length (faults ++ fault ∷ []) ≡ length faults + 1
 longer [] fault = omega arith
 longer (f ∷ fs) fault = let rest = longer fs fault in omega arith
 

@@ -29,6 +29,7 @@ use Rattle.rx_remote.specs.History.{after, after_cached, after_fault, after_miss
 use Rattle.rx_remote.specs.Legal.{Fits, IsCall, IsLegal, IsOfBlobs}
 use Rattle.rx_remote.specs.Marks.{Turn, faults_of, found_as, marks_after, marks_of, marks_since, one_more, origin_of, phase_of}
 use Rattle.rx_remote.specs.Measure.{rank, turns_left}
+use Rattle.rx_remote.proofs.CountLemmas.{longer}
 
 -- ---- ranks
 
@@ -85,10 +86,6 @@ finished-below None texts on = absurd (on refl)
 finished-below (Some f) texts on = absurd (on refl)
 
 -- ---- faults
-
-longer : (faults : List CallFault) (fault : CallFault) → length (faults ++ fault ∷ []) ≡ length faults + 1
-longer [] fault = omega arith
-longer (f ∷ fs) fault = let rest = longer fs fault in omega arith
 
 with-longer : (faults : List CallFault) (fault : CallFault) → is_no_memory fault ≡ false → length (with_fault faults fault) ≡ length faults + 1
 with-longer faults calls.NoMemory e = absurd (cc e)

@@ -1,5 +1,6 @@
 -- Where a result has no fault, and all texts have their digests, the outcome passes no limit.
-use Rattle.std.proofs.Common.{◌≡◌, ◌∙◌, ◌≤◌, ◌==◌, ◌&&◌, ◌||◌, ◌++◌, ℕ, Bool, true, false, cond, List, [], ◌∷◌, Option, None, Some, ap, arith, length, map, nat_lt, refl}
+use Rattle.std.proofs.Common.{◌≡◌, ◌∙◌, ◌≤◌, ◌==◌, ◌&&◌, ◌++◌, ℕ, Bool, true, false, cond, List, [], ◌∷◌, Option, None, Some, ap, arith, length, map, nat_lt, refl}
+use Rattle.std.proofs.lemmas.Bool.{and_parts, or_parts}
 use Rattle.std.proofs.lemmas.Bool.Decides.{nat_tests}
 use Rattle.std.proofs.lemmas.List.{length-map}
 use Rattle.std.proofs.lemmas.List.Elements.{All-cons, All-nil}
@@ -22,14 +23,6 @@ use Rattle.rx_results.specs.Slots.{file_size, mismatch_by, mismatch_of, text_siz
 use Rattle.rx_results.proofs.OutcomeLemmas.{filled-length}
 
 -- ---- tests
-
-or_both : (a b : Bool) → (a || b) ≡ false → (a ≡ false) × (b ≡ false)
-or_both true b e = absurd (cc e)
-or_both false b e = (refl, e)
-
-and_last : (a b : Bool) → (a && b) ≡ true → b ≡ true
-and_last true b e = e
-and_last false b e = absurd (cc e)
 
 -- no fault at this test, and none behind it
 unfaulted : (b : Bool) (fault : ResultFault) (others : Option ResultFault) →
@@ -58,8 +51,7 @@ fine-size : (inline : List ℕ) (digest : Digest) (b : Bool) →
 fine-size inline digest true is e = grind (
   arith,
   nat_tests,
-  and_last
-      (bytes_eq (digest_of inline).hash digest.hash) (length inline == digest.size) is,
+  (and_parts (bytes_eq (digest_of inline).hash digest.hash) (length inline == digest.size) is).1,
 )
 fine-size inline digest false is e = absurd (cc e)
 
@@ -104,7 +96,7 @@ file-sizes : (slots : List Slot) (texts : List (List ℕ)) → filter_map mismat
 file-sizes [] texts fine named e = refl
 file-sizes (slot ∷ slots) texts fine named e =
     let here = fine-cons (mismatch_of slot) (filter_map mismatch_of slots) fine in
-    let names = or_both (is_none slot.digest) (list_any (λ (slot : Slot). is_none slot.digest)
+    let names = or_parts (is_none slot.digest) (list_any (λ (slot : Slot). is_none slot.digest)
     slots) named in
     let one = file-by slot.inline slot.digest texts (wanted_for slots) here.0 names.0 e in
     rw (one.0, file-sizes slots (texts_after (wanted slot) texts) here.1 names.1 one.1) refl
@@ -121,8 +113,8 @@ slots-named : (command : Command) (result : ActionResult) (outputs : List (List 
     (map (λ output. slot_of (file_for command result output)) outputs) ≡ false
 slots-named command result [] there named = refl
 slots-named command result (output ∷ outputs) there named =
-    let files = or_both (is_none (file_for command result output)) _ there in
-    let names = or_both (is_unnamed (file_for command result output)) _ named in
+    let files = or_parts (is_none (file_for command result output)) _ there in
+    let names = or_parts (is_unnamed (file_for command result output)) _ named in
     rw (slot-named (file_for command result output) files.0 names.0)
     (slots-named command result outputs files.1 names.1)
 
@@ -134,7 +126,7 @@ bounded : {A B : Type 0} (f : A → ℕ) (xs : List A) (g : B → ℕ) (ys : Lis
 bounded f [] g ys most e none = All-nil (λ x. f x ≤ most)
 bounded f (x ∷ xs) g [] most e none = absurd (cc e)
 bounded f (x ∷ xs) g (y ∷ ys) most e none =
-    let tests = or_both (nat_lt most (g y)) (list_any (λ y. nat_lt most (g y)) ys) none in
+    let tests = or_parts (nat_lt most (g y)) (list_any (λ y. nat_lt most (g y)) ys) none in
     let same : f x ≡ g y = cc e in
     All-cons (λ x. f x ≤ most) x xs (grind (arith, nat_tests, tests.0, same))
     (bounded f xs g ys most (cc e) tests.1)
@@ -171,9 +163,9 @@ no-faults command result e =
     let there = unfaulted _ _ _ once.1 in
     let named = unfaulted _ _ _ there.1 in
     let small = unfaulted _ _ _ named.1 in
-    let files = or_both _ _ small.0 in
-    let sizes = or_both _ _ files.0 in
-    let texts = or_both _ _ files.1 in
+    let files = or_parts _ _ small.0 in
+    let sizes = or_parts _ _ files.0 in
+    let texts = or_parts _ _ files.1 in
     record {
       there = there.0;
       named = named.0;

@@ -15,7 +15,8 @@ use Rattle.rx_world.specs.declared.sources.Given.{Given}
 use Rattle.rx_world.specs.declared.sources.Sources as sources
 use Rattle.rx_world.specs.declared.world.World as world
 use Rattle.rx_world.specs.Sources.{is_file}
-use Rattle.rx_world.proofs.Among.{Among, among-filter, among-from, among-from_filter, contains-from}
+use Rattle.rx_base.proofs.Members.{Among, Among-from_contains, Contains-from_among}
+use Rattle.rx_world.proofs.Among.{among-filter, among-from_filter}
 use Rattle.rx_reach.specs.declared.faults.SightFault.{SightFault}
 use Rattle.rx_reach.specs.declared.faults.SightFault.TheVariants.{InputChanged as Changed, NoMemory as OutOfMemory, SourceFault as Lost}
 use Rattle.rx_scan.specs.declared.gather_fault.GatherFault.{GatherFault}
@@ -115,11 +116,11 @@ below_case false path dir scene t d u = absurd (not_dir (scene.look path) t (sub
 
 declared-looked : (scene : Scene) (inputs roots : List (List ℕ)) (looked : LookedInputs) (path : List ℕ) → IsLooked scene inputs looked → IsOf scene looked.files looked.dirs path → IsDeclared scene inputs roots path
 declared-looked scene inputs roots looked path h (inl c) =
-    let a = among-from_filter (λ p. is_file (scene.look p)) path inputs (subst (λ fs. Among path fs) h.files (among-from path looked.files c)) in
-    (a.1, inl (path, contains-from path inputs a.0, inl refl))
+    let a = among-from_filter (λ p. is_file (scene.look p)) path inputs (subst (λ fs. Among path fs) h.files (Among-from_contains path looked.files c)) in
+    (a.1, inl (path, Contains-from_among path inputs a.0, inl refl))
 declared-looked scene inputs roots looked path h (inr u) =
-    let a = among-from_filter (λ p. is_dir (scene.look p)) u.1.0 inputs (subst (λ fs. Among u.1.0 fs) h.dirs (among-from u.1.0 looked.dirs u.1.1)) in
-    (u.0, inl (u.1.0, contains-from u.1.0 inputs a.0, inr (a.1, below_case (is_below path u.1.0) path u.1.0 scene u.0 a.1 u.1.2)))
+    let a = among-from_filter (λ p. is_dir (scene.look p)) u.1.0 inputs (subst (λ fs. Among u.1.0 fs) h.dirs (Among-from_contains u.1.0 looked.dirs u.1.1)) in
+    (u.0, inl (u.1.0, Contains-from_among u.1.0 inputs a.0, inr (a.1, below_case (is_below path u.1.0) path u.1.0 scene u.0 a.1 u.1.2)))
 
 declared-listed : (scene : Scene) (inputs roots first : List (List ℕ)) (looked : LookedInputs) (path : List ℕ) → IsLooked scene inputs looked → HasListed scene looked.files looked.dirs first → IsOf scene first roots path → IsDeclared scene inputs roots path
 declared-listed scene inputs roots first looked path h l (inl c) = declared-looked scene inputs roots looked path h ((l path).0 c)
@@ -128,11 +129,11 @@ declared-listed scene inputs roots first looked path h l (inr u) = (u.0, inr u.1
 of_declared : (scene : Scene) (inputs roots first : List (List ℕ)) (looked : LookedInputs) (path : List ℕ) → IsLooked scene inputs looked → HasListed scene looked.files looked.dirs first → IsDeclared scene inputs roots path → IsOf scene first roots path
 of_declared scene inputs roots first looked path h l (t, inr u) = inr (t, u)
 of_declared scene inputs roots first looked path h l (t, inl (input, c, inl e)) =
-    let a = among-filter (λ p. is_file (scene.look p)) path inputs (among-from path inputs (subst (λ p. Contains inputs p) (sym e) c)) t in
-    inl ((l path).1 (inl (contains-from path looked.files (subst (λ fs. Among path fs) (sym h.files) a))))
+    let a = among-filter (λ p. is_file (scene.look p)) path inputs (Among-from_contains path inputs (subst (λ p. Contains inputs p) (sym e) c)) t in
+    inl ((l path).1 (inl (Contains-from_among path looked.files (subst (λ fs. Among path fs) (sym h.files) a))))
 of_declared scene inputs roots first looked path h l (t, inl (input, c, inr b)) =
-    let a = among-filter (λ p. is_dir (scene.look p)) input inputs (among-from input inputs c) b.0 in
-    inl ((l path).1 (inr (t, (input, contains-from input looked.dirs (subst (λ fs. Among input fs) (sym h.dirs) a), rw b.1 refl))))
+    let a = among-filter (λ p. is_dir (scene.look p)) input inputs (Among-from_contains input inputs c) b.0 in
+    inl ((l path).1 (inr (t, (input, Contains-from_among input looked.dirs (subst (λ fs. Among input fs) (sym h.dirs) a), rw b.1 refl))))
 
 pub any-contains : (p : List ℕ → Bool) (xs : List (List ℕ)) (x : List ℕ) → Contains xs x → p x ≡ true → list_any p xs ≡ true
 any-contains p xs x c t = list_any_at p xs c.0 x c.1 (subst (λ y. p y ≡ true) (sym c.2) t)
@@ -156,16 +157,16 @@ declared-by scene inputs roots first all files empty looked h l m same e =
       files = λ path. (to path, from path);
       empty = λ dir. (
         λ c.
-            let a = among-from_filter p dir looked.dirs (among-from dir (empty_among files looked.dirs) (subst (λ ds. Contains ds dir) e c)) in
+            let a = among-from_filter p dir looked.dirs (Among-from_contains dir (empty_among files looked.dirs) (subst (λ ds. Contains ds dir) e c)) in
             let d = among-from_filter (λ x. is_dir (scene.look x)) dir inputs (subst (λ ds. Among dir ds) h.dirs a.0) in
             let none = false_not (list_any (λ file. is_below file dir) files) a.1 in
-            let has = contains-from dir inputs d.0 in
+            let has = Contains-from_among dir inputs d.0 in
             (has, d.1, λ path t. not_true (is_below path dir) (λ below. absurd (true≢false (sym (any-contains (λ file. is_below file dir) files path (from path (t, inl (dir, has, inr (d.1, below)))) below) ∙ none)))),
         λ d.
-            let a = among-filter (λ x. is_dir (scene.look x)) dir inputs (among-from dir inputs d.0) d.1 in
+            let a = among-filter (λ x. is_dir (scene.look x)) dir inputs (Among-from_contains dir inputs d.0) d.1 in
             let none : list_any (λ file. is_below file dir) files ≡ false = list_any_none (λ file. is_below file dir) files (all-of (λ path. is_below path dir ≡ false) files (λ path c. d.2 path (to path c).0)) in
             let kept = among-filter p dir looked.dirs (subst (λ ds. Among dir ds) (sym h.dirs) a) (ap not none) in
-            subst (λ ds. Contains ds dir) (sym e) (contains-from dir (empty_among files looked.dirs) kept),
+            subst (λ ds. Contains ds dir) (sym e) (Contains-from_among dir (empty_among files looked.dirs) kept),
       );
     }
 

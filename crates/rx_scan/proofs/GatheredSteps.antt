@@ -24,7 +24,7 @@ use Rattle.rx_world.specs.declared.refusals.LocalCause.{LocalCause}
 use Rattle.rx_world.specs.declared.refusals.LocalCause.TheVariants as local
 use Rattle.rx_world.specs.declared.sources.Sources as sources
 use Rattle.rx_world.specs.declared.world.World as world
-use Rattle.rx_world.proofs.Among.{Among, all-among, among-from}
+use Rattle.rx_base.proofs.Members.{All-among, Among, Among-from_contains}
 use Rattle.rx_scan.specs.declared.gathering.Gathered.{Gathered}
 use Rattle.rx_scan.specs.declared.input_trees.InputTree.{InputTree}
 use Rattle.rx_scan.specs.declared.scanned.Scanned.{Scanned}
@@ -187,8 +187,8 @@ outputs-below command inputs outputs safe own =
     let all = sorted_paths (command.outputs ++ outputs) in
     let path = get_or all k d in
     elim (Contains-append_cases command.outputs outputs path (in-sorted (command.outputs ++ outputs) path (Contains-get_or all k d lt))) [
-      | inl c ↦ all-among (λ output. is_below output command.working_directory ≡ true) path command.outputs (recursion_from_All (λ output. is_below output command.working_directory ≡ true) command.outputs own) (among-from path command.outputs c)
-      | inr c ↦ let s : IsSafeOutput command inputs outputs path = all-among (IsSafeOutput command inputs outputs) path outputs safe (among-from path outputs c) in s.below
+      | inl c ↦ All-among (λ output. is_below output command.working_directory ≡ true) path command.outputs (recursion_from_All (λ output. is_below output command.working_directory ≡ true) command.outputs own) (Among-from_contains path command.outputs c)
+      | inr c ↦ let s : IsSafeOutput command inputs outputs path = All-among (IsSafeOutput command inputs outputs) path outputs safe (Among-from_contains path outputs c) in s.below
     ]
 
 outputs-apart : (command : Command) (inputs outputs : List (List ℕ)) → AllByRecursion (IsSafeOutput command inputs outputs) outputs → AreApart command.outputs → AreApart (with_outputs command outputs).outputs
@@ -197,8 +197,8 @@ outputs-apart command inputs outputs safe own upper lower u l t =
     let lc = in-sorted (command.outputs ++ outputs) lower l in
     let apart : (path other : List ℕ) → Contains outputs path → Contains (command.outputs ++ outputs) other → (is_below path other ≡ false) × (is_below other path ≡ false) =
     λ path other p o.
-    let s : IsSafeOutput command inputs outputs path = all-among (IsSafeOutput command inputs outputs) path outputs safe (among-from path outputs p) in
-    all-among (λ x. (is_below path x ≡ false) × (is_below x path ≡ false)) other (command.outputs ++ outputs) s.apart (among-from other (command.outputs ++ outputs) o)
+    let s : IsSafeOutput command inputs outputs path = All-among (IsSafeOutput command inputs outputs) path outputs safe (Among-from_contains path outputs p) in
+    All-among (λ x. (is_below path x ≡ false) × (is_below x path ≡ false)) other (command.outputs ++ outputs) s.apart (Among-from_contains other (command.outputs ++ outputs) o)
     in
     elim (Contains-append_cases command.outputs outputs upper uc) [
       | inl a ↦ elim (Contains-append_cases command.outputs outputs lower lc) [
@@ -220,11 +220,11 @@ orderly-so asked inputs outputs beside tree gathered e w safe t ds same view pla
       sorted = subst AreSorted (sym paths) t.sorted;
       sorted_dirs = subst AreSorted (sym ds) t.sorted_dirs;
       sorted_view = view;
-      apart = λ upper lower u l below. none-above (paths_of tree.files) (paths_of tree.files) lower upper t.apart (among-from lower (paths_of tree.files) (there lower l)) (there upper u) below;
+      apart = λ upper lower u l below. none-above (paths_of tree.files) (paths_of tree.files) lower upper t.apart (Among-from_contains lower (paths_of tree.files) (there lower l)) (there upper u) below;
       clear = λ file dir f d way.
           let k = (t.dirs dir).0 (subst (λ ps. Contains ps dir) ds d) in
           elim k.1 [
-            | inl b ↦ none-over (paths_of tree.files) beside dir file t.clear (among-from dir beside b) (there file f) (either-way dir file way)
+            | inl b ↦ none-over (paths_of tree.files) beside dir file t.clear (Among-from_contains dir beside b) (there file f) (either-way dir file way)
             | inr is ↦ none-here gathered.command (paths_of tree.files) file t.free (there file f) (subst (λ (p : List ℕ). (bytes_eq p file || is_below p file) ≡ true) is (either-way dir file way))
           ];
       free = ap (blocked gathered.command) paths ∙ t.free;

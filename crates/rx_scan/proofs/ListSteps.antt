@@ -16,7 +16,8 @@ use Rattle.rx_world.specs.declared.sources.Sources as sources
 use Rattle.rx_world.specs.declared.world.World as world
 use Rattle.rx_world.specs.Answers.{Gives, HasContent, IsAnswerOf}
 use Rattle.rx_world.specs.Sources.{Adds, HoldContent, Lists, entry_at, files_under, given_all, given_look, is_file}
-use Rattle.rx_world.proofs.Among.{Among, all-among, among-from, among-from_map, among-map, contains-from}
+use Rattle.rx_base.proofs.Members.{All-among, Among, Among-from_contains, Contains-from_among}
+use Rattle.rx_world.proofs.Among.{among-from_map, among-map}
 use Rattle.rx_world.proofs.FilesUnder.{entry_at-path, list-is_right, under-has, under-is, under-only, under-sorted}
 use Rattle.rx_reach.specs.declared.faults.SightFault.{SightFault}
 use Rattle.rx_reach.specs.declared.faults.SightFault.TheVariants.{InputChanged, NoMemory, SourceFault}
@@ -86,12 +87,12 @@ paths-found (e ∷ es) = ap (λ ps. e.path ∷ ps) (paths-found es)
 right_of : (entries : List SourceEntry) (under : List ℕ) (most : ℕ) → IsRightList (scene_of entries) (record { under = under; most = most; found = map path_of (take (most + 1) (files_under under entries)) })
 right_of entries under most =
     let files = files_under under entries in
-    let is : (e : SourceEntry) → Among e files → entry_at e.path entries ≡ e = λ e a. all-among (λ x. entry_at x.path entries ≡ x) e files (recursion_from_All (λ x. entry_at x.path entries ≡ x) files (under-is under entries)) a in
+    let is : (e : SourceEntry) → Among e files → entry_at e.path entries ≡ e = λ e a. All-among (λ x. entry_at x.path entries ≡ x) e files (recursion_from_All (λ x. entry_at x.path entries ≡ x) files (under-is under entries)) a in
     let size : length (map path_of (take (most + 1) files)) ≡ length (take (most + 1) files) = length-map (take (most + 1) files) path_of in
     record {
       sorted = subst (λ ps. AreSorted ps) (take-map path_of (most + 1) files) (sorted-take (most + 1) (map path_of files) (under-sorted under entries));
       only = λ path c.
-          let a = among-from_map path_of path (take (most + 1) files) (among-from path (map path_of (take (most + 1) files)) c) in
+          let a = among-from_map path_of path (take (most + 1) files) (Among-from_contains path (map path_of (take (most + 1) files)) c) in
           let there = among-take a.0 (most + 1) files a.1 in
           let o = under-only under a.0 entries there in
           let here = is a.0 there in (
@@ -102,7 +103,7 @@ right_of entries under most =
           let few : length files ≤ most + 1 = grind (arith, length-take) in
           let all : take (most + 1) files ≡ files = take_all (most + 1) files few in
           let has = among-map path_of (entry_at path entries) files (under-has under path entries t u) in
-          contains-from path (map path_of (take (most + 1) files)) (subst (λ (p : List ℕ). Among p (map path_of (take (most + 1) files))) (entry_at-path path entries) (subst (λ (fs : List SourceEntry). Among (entry_at path entries).path (map path_of fs)) (sym all) has));
+          Contains-from_among path (map path_of (take (most + 1) files)) (subst (λ (p : List ℕ). Among p (map path_of (take (most + 1) files))) (entry_at-path path entries) (subst (λ (fs : List SourceEntry). Among (entry_at path entries).path (map path_of fs)) (sym all) has));
     }
 
 pub listing-right : (listed : Option (List SourceEntry)) (under : List ℕ) (most : ℕ) (found : List Found) → Lists listed under most found → RightBy listed (record { under = under; most = most; found = paths_of found } ∷ [])

@@ -15,7 +15,7 @@ use Rattle.rx_world.specs.declared.sources.Sources as sources
 use Rattle.rx_world.specs.declared.world.World as world
 use Rattle.rx_world.specs.Answers.{Gives, IsAnswerOf}
 use Rattle.rx_world.specs.Sources.{GivesContent, HoldContent, entry_at}
-use Rattle.rx_world.proofs.Among.{among-from}
+use Rattle.rx_base.proofs.Members.{Among-from_contains}
 use Rattle.rx_reach.specs.Explored.{AreSeen, HaveDigests}
 use Rattle.rx_reach.specs.Sights.{Notes, first_at, seen_at}
 use Rattle.rx_reach.proofs.SightLemmas.{first-contains}
@@ -43,7 +43,7 @@ one-listed content entries view answers file given holds n seen d =
     let found = first-contains file.path answers look first in
     let right : IsAnswerOf entries found.0 = All-contains (IsAnswerOf entries) answers found.0 given found.1 in
     let is : (entry_at file.path entries).look ≡ look = ap (λ p. (entry_at p entries).look) (sym found.2) ∙ sym right.look_is ∙ found.3 in
-    let some : answers ≢ [] = λ none. among-from found.0 [] (subst (λ xs. Contains xs found.0) none found.1) in
+    let some : answers ≢ [] = λ none. Among-from_contains found.0 [] (subst (λ xs. Contains xs found.0) none found.1) in
     let has = holds-at content file.path entries (recursion_from_All (λ (e : SourceEntry). GivesContent content e.path e.look e.bytes) entries (holds some)) in
     record { look_is = is; digest_is = ap digest_of (subst (λ l. GivesContent content file.path l (entry_at file.path entries).bytes) is has) ∙ sym d }
 

@@ -4,7 +4,8 @@ use Rattle.std.specs.Prelude.{Contains, ◌↔◌}
 use Rattle.std.proofs.lemmas.Bool.Decides.{nat_tests}
 use Rattle.std.proofs.lemmas.List.Elements.{Contains-append_cases, Contains-append_left, Contains-append_right}
 use Rattle.rx_base.specs.SortedPaths.{HasSameMembers}
-use Rattle.rx_world.proofs.Among.{among-filter, among-from, among-from_filter, contains-from}
+use Rattle.rx_base.proofs.Members.{Among-from_contains, Contains-from_among}
+use Rattle.rx_world.proofs.Among.{among-filter, among-from_filter}
 use Rattle.rx_scan.proofs.InputSteps.{kept, taken}
 
 -- the paths of paths are these
@@ -28,8 +29,8 @@ not-root (x ∷ xs) f =
 
 pub in-filter : (p : List ℕ → Bool) (xs ys : List (List ℕ)) → ys ≡ filter p xs → (path : List ℕ) → Contains ys path ↔ ((p path ≡ true) × Contains xs path)
 in-filter p xs ys e path = (
-  λ c. let a = among-from_filter p path xs (among-from path (filter p xs) (subst (λ zs. Contains zs path) e c)) in (a.1, contains-from path xs a.0),
-  λ d. subst (λ zs. Contains zs path) (sym e) (contains-from path (filter p xs) (among-filter p path xs (among-from path xs d.1) d.0)),
+  λ c. let a = among-from_filter p path xs (Among-from_contains path (filter p xs) (subst (λ zs. Contains zs path) e c)) in (a.1, Contains-from_among path xs a.0),
+  λ d. subst (λ zs. Contains zs path) (sym e) (Contains-from_among path (filter p xs) (among-filter p path xs (Among-from_contains path xs d.1) d.0)),
 )
 
 pub in-below : (paths below : List (List ℕ)) → below ≡ filter (λ path. not (length path == 0)) paths → (path : List ℕ) → Contains below path ↔ ((path ≢ []) × Contains paths path)
@@ -57,7 +58,7 @@ in-joined_below xs ys all below sorted e b same path =
     )
 
 only-one : (x y : List ℕ) → Contains (x ∷ []) y → y ≡ x
-only-one x y c = elim (among-from y (x ∷ []) c) [ inl e ↦ sym e | inr a ↦ absurd a ]
+only-one x y c = elim (Among-from_contains y (x ∷ []) c) [ inl e ↦ sym e | inr a ↦ absurd a ]
 
 pub in-with : (xs all below sorted : List (List ℕ)) (one copy : List ℕ) → copy ≡ one → all ≡ xs ++ copy ∷ [] → below ≡ filter (λ path. not (length path == 0)) all → HasSameMembers below sorted
     → (path : List ℕ) → Contains sorted path ↔ ((path ≢ []) × (Contains xs path ⊎ (path ≡ one)))

@@ -7,7 +7,7 @@ use Rattle.rx_base.specs.SortedPaths.{AreSorted}
 use Rattle.rx_world.specs.declared.input_files.InputFile.{InputFile}
 use Rattle.rx_world.specs.declared.looks.Look.{Look}
 use Rattle.rx_world.specs.Sources.{is_file}
-use Rattle.rx_world.proofs.Among.{Among, all-among, among-from, contains-from}
+use Rattle.rx_base.proofs.Members.{All-among, Among, Among-from_contains, Contains-from_among}
 use Rattle.rx_scan.specs.declared.inputs.Declared.{Declared}
 use Rattle.rx_scan.specs.declared.limits.Extent.TheVariants.{Scan}
 use Rattle.rx_reach.specs.declared.reach.Reached.{Reached}
@@ -38,7 +38,7 @@ some-is : (s t : Search) → Some s ≡ Some t → s ≡ t
 some-is s t e = cc e
 
 none-in : (path : List ℕ) → Contains [] path → ⊥
-none-in path c = among-from path [] c
+none-in path c = Among-from_contains path [] c
 
 reach-files : (scene : Scene) (o : Option Search) (reached : Reached) → IsReachOf scene o reached → length reached.files ≤ 20000 → (path : List ℕ) → Contains (paths_of reached.files) path ↔ IsReachedBy scene o path
 reach-files scene None reached h few path = (
@@ -123,7 +123,7 @@ seen-dir sights scene path r k t = ap is_dir_seen k.1 ∙ ap is_dir (r path k.0 
 pub list-of-scan : (scene : Scene) (inputs : List (List ℕ)) (meaning : WordMeaning) (sights : Sights) (paths : ScanPaths) (files : List SeenFile) → IsPathsOf scene inputs meaning paths → AreRight scene sights → AreSorted paths.files → All (IsKnownAt sights) paths.files
     → files ≡ filter_map (file_seen sights) paths.files → IsScanListBy scene inputs meaning files
 list-of-scan scene inputs meaning sights paths files h r sorted fk fe =
-    let known = known-all sights scene paths.files r (recursion_from_All (IsKnownAt sights) paths.files fk) (λ p a. scanned-file scene inputs meaning p ((h.files p).0 (contains-from p paths.files a))) in
+    let known = known-all sights scene paths.files r (recursion_from_All (IsKnownAt sights) paths.files fk) (λ p a. scanned-file scene inputs meaning p ((h.files p).0 (Contains-from_among p paths.files a))) in
     let same = same-paths sights scene paths.files known in
     subst (λ fs. IsScanListBy scene inputs meaning fs) (sym fe) (record {
       sorted = sorted-seen sights paths.files sorted;
@@ -146,7 +146,7 @@ scan-of scene inputs meaning sights paths files dirs h r sorted fk dk fe de fits
         λ c. (h.dirs path).0 (i.0 c).1,
         λ d.
             let has = (h.dirs path).1 d in
-            let k = all-among (IsKnownAt sights) path paths.dirs (recursion_from_All (IsKnownAt sights) paths.dirs dk) (among-from path paths.dirs has) in
+            let k = All-among (IsKnownAt sights) path paths.dirs (recursion_from_All (IsKnownAt sights) paths.dirs dk) (Among-from_contains path paths.dirs has) in
             i.1 (seen-dir sights scene path r k (dir-is scene inputs meaning path d), has),
       );
 }

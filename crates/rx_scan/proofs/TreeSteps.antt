@@ -18,7 +18,8 @@ use Rattle.rx_world.specs.declared.refusals.LocalCause.{LocalCause}
 use Rattle.rx_world.specs.declared.sources.Given.{Given}
 use Rattle.rx_world.specs.declared.sources.Sources as sources
 use Rattle.rx_world.specs.declared.world.World as world
-use Rattle.rx_world.proofs.Among.{Among, all-among, among-from, among-from_map, contains-from}
+use Rattle.rx_base.proofs.Members.{All-among, Among, Among-from_contains, Contains-from_among}
+use Rattle.rx_world.proofs.Among.{among-from_map}
 use Rattle.rx_world.proofs.AnswerLemmas.{gives-none}
 use Rattle.rx_scan.specs.declared.gather_fault.GatherFault.{GatherFault}
 use Rattle.rx_scan.specs.declared.gather_fault.GatherFault.TheVariants.{Blocked, InputChanged, InputMissing, NoMemory, NotRemotable, SourceFault, TooLarge}
@@ -52,7 +53,7 @@ below-upper files [] at e = absurd (cc e)
 below-upper files (path ∷ paths) at e =
     elim (or_cases (above_among files path) (upper_among files paths) at e) [
       | inl here ↦ (path, (0, omega arith, refl), (position-Some (λ file. is_below path file) files at [] here).1)
-      | inr there ↦ let h = below-upper files paths at there in (h.0, contains-from h.0 (path ∷ paths) (inr (among-from h.0 paths h.1)), h.2)
+      | inr there ↦ let h = below-upper files paths at there in (h.0, Contains-from_among h.0 (path ∷ paths) (inr (Among-from_contains h.0 paths h.1)), h.2)
     ]
 
 below-over : (files dirs : List (List ℕ)) (at : ℕ) → over_among files dirs ≡ Some at → (dir : List ℕ) × Contains dirs dir × ((bytes_eq dir (get_or files at []) || is_below dir (get_or files at [])) ≡ true)
@@ -60,7 +61,7 @@ below-over files [] at e = absurd (cc e)
 below-over files (dir ∷ dirs) at e =
     elim (or_cases (first_at_or_above files dir) (over_among files dirs) at e) [
       | inl here ↦ (dir, (0, omega arith, refl), (position-Some (λ file. bytes_eq dir file || is_below dir file) files at [] here).1)
-      | inr there ↦ let h = below-over files dirs at there in (h.0, contains-from h.0 (dir ∷ dirs) (inr (among-from h.0 dirs h.1)), h.2)
+      | inr there ↦ let h = below-over files dirs at there in (h.0, Contains-from_among h.0 (dir ∷ dirs) (inr (Among-from_contains h.0 dirs h.1)), h.2)
     ]
 
 path-there : (files : List SeenFile) (at : ℕ) (file : SeenFile) → slice_get files at ≡ Some file → (get_or (paths_of files) at [] ≡ file.path) × Among file files
@@ -78,9 +79,9 @@ pub record SeenBelow (sights : Sights) (path : List ℕ) : Type 0 where
 
 below-file : (sights : Sights) (files : List SeenFile) (path upper : List ℕ) → All (IsSeen sights) files → Contains (paths_of files) path → is_below path upper ≡ true → SeenBelow sights upper
 below-file sights files path upper seen has under =
-    let a = among-from_map (λ (f : SeenFile). f.path) path files (among-from path (paths_of files) has) in
+    let a = among-from_map (λ (f : SeenFile). f.path) path files (Among-from_contains path (paths_of files) has) in
     let f : SeenFile = a.0 in
-    let is : IsSeen sights f = all-among (IsSeen sights) f files (recursion_from_All (IsSeen sights) files seen) a.1 in
+    let is : IsSeen sights f = All-among (IsSeen sights) f files (recursion_from_All (IsSeen sights) files seen) a.1 in
     record { below = path; look = File f.stamp f.executable; under = under; some = λ e. absurd (cc e); seen = ap (seen_at sights) (sym a.2) ∙ is }
 
 at-or_below : (b : Bool) (dir upper : List ℕ) (c : Bool) → bytes_eq dir upper ≡ b → (b || c) ≡ true → (dir ≡ upper) ⊎ (c ≡ true)
@@ -89,7 +90,7 @@ at-or_below false dir upper c e t = inr t
 
 below-dir : (sights : Sights) (dirs : List (List ℕ)) (dir upper : List ℕ) (stamp : Stamp) (executable : Bool) → All (IsDirSeen sights) dirs → Contains dirs dir → seen_at sights upper ≡ Some (File stamp executable) → (bytes_eq dir upper || is_below dir upper) ≡ true → SeenBelow sights upper
 below-dir sights dirs dir upper stamp executable seen has here t =
-    let is : seen_at sights dir ≡ Some Dir = all-among (IsDirSeen sights) dir dirs (recursion_from_All (IsDirSeen sights) dirs seen) (among-from dir dirs has) in
+    let is : seen_at sights dir ≡ Some Dir = All-among (IsDirSeen sights) dir dirs (recursion_from_All (IsDirSeen sights) dirs seen) (Among-from_contains dir dirs has) in
     elim (at-or_below (bytes_eq dir upper) dir upper (is_below dir upper) refl t) [
       | inl e ↦ absurd (cc (sym is ∙ ap (seen_at sights) e ∙ here))
       | inr under ↦ record { below = dir; look = Dir; under = under; some = λ e. absurd (cc e); seen = is }
@@ -106,7 +107,7 @@ upper-below sights files paths dirs at file is fs ds here (inr e) =
     let h = below-over paths dirs at e in
     let p = path-there files at file here in
     let there : get_or paths at [] ≡ file.path = ap (λ (ps : List (List ℕ)). get_or ps at []) is ∙ p.0 in
-    let seen : IsSeen sights file = all-among (IsSeen sights) file files (recursion_from_All (IsSeen sights) files fs) p.1 in
+    let seen : IsSeen sights file = All-among (IsSeen sights) file files (recursion_from_All (IsSeen sights) files fs) p.1 in
     below-dir sights dirs h.0 file.path file.stamp file.executable ds h.1 seen (subst (λ (q : List ℕ). (bytes_eq h.0 q || is_below h.0 q) ≡ true) there h.2)
 
 change-is : (old new : Sights) (answers : List Given) (file : SeenFile) (change : ChangedInput) → Notes old new answers → IsSeen new file → SeenBelow new file.path → InputChanged change ≡ change_above file → IsChangeFrom old answers change
@@ -125,7 +126,7 @@ of-way : (old new : Sights) (command : Command) (scanned files : List SeenFile) 
     → BlamesWay command files paths dirs fault → BlamesTree command scanned cause strategy fault (stretch old new before now xs ls)
 of-way old new command scanned files paths dirs cause strategy before now (InputChanged change) xs ls n fact is sorted fs ds planned h =
     let p = path-there files h.0 h.1 h.3 in
-    let seen : IsSeen new h.1 = all-among (IsSeen new) h.1 files (recursion_from_All (IsSeen new) files fs) p.1 in
+    let seen : IsSeen new h.1 = All-among (IsSeen new) h.1 files (recursion_from_All (IsSeen new) files fs) p.1 in
     change-is old new xs h.1 change n seen (upper-below new files paths dirs h.0 h.1 is fs ds h.3 (or_cases (upper_among paths paths) (over_among paths dirs) h.0 h.2)) h.4
 of-way old new command scanned files paths dirs cause strategy before now (Blocked path) xs ls n fact is sorted fs ds planned h =
     let blocks = subst (λ ps. blocked command ps ≡ Some path) is h.2 in

@@ -20,7 +20,8 @@ use Rattle.rx_world.specs.declared.sources.Given.{Given}
 use Rattle.rx_world.specs.declared.sources.Sources as sources
 use Rattle.rx_world.specs.declared.world.World as world
 use Rattle.rx_world.specs.Sources.{given_all, is_file}
-use Rattle.rx_world.proofs.Among.{all-among, among-filter, among-from, among-from_filter, contains-from}
+use Rattle.rx_base.proofs.Members.{All-among, Among-from_contains, Contains-from_among}
+use Rattle.rx_world.proofs.Among.{among-filter, among-from_filter}
 use Rattle.rx_reach.specs.declared.faults.SightFault.{SightFault}
 use Rattle.rx_reach.specs.declared.faults.SightFault.TheVariants.{InputChanged as Changed, NoMemory as OutOfMemory, SourceFault as Lost}
 use Rattle.rx_scan.specs.declared.gather_fault.GatherFault.{GatherFault}
@@ -215,12 +216,12 @@ whole-by sights scene paths outputs h fits =
       looks = same-looks sights scene (without paths outputs) known;
       only = λ path. (
         λ c.
-            let a = among-from_filter p path paths (among-from path (without paths outputs) (subst (λ ps. Contains ps path) same c)) in (
-              (all-among (IsKnown sights scene) path paths h.known a.0).1,
+            let a = among-from_filter p path paths (Among-from_contains path (without paths outputs) (subst (λ ps. Contains ps path) same c)) in (
+              (All-among (IsKnown sights scene) path paths h.known a.0).1,
               λ o. absurd (true≢false (sym (any-is outputs path o) ∙ false_not (list_any (λ other. bytes_eq path other) outputs) a.1)),
             ),
         λ d. subst (λ ps. Contains ps path) (sym same)
-            (contains-from path (without paths outputs) (among-filter p path paths (among-from path paths (h.whole few path d.0)) (ap not (none-is outputs path d.1)))),
+            (Contains-from_among path (without paths outputs) (among-filter p path paths (Among-from_contains path paths (h.whole few path d.0)) (ap not (none-is outputs path d.1)))),
       );
       fits = (seen_files sights paths, list-of sights scene paths h, fits);
     }

@@ -14,10 +14,14 @@ use Rattle.rx_base.proofs.Orders.{HasSameMembers-sorted_once}
 use Rattle.rx_session.specs.declared.bad.Bad.{Bad}
 use Rattle.rx_session.specs.declared.bad.BadReason.{BadReason}
 use Rattle.rx_session.specs.declared.bad.BadReason.TheVariants.{BadField, CutShort, NotBuilt, Trailing, UnknownVersion, WrongRoot}
+use Rattle.rx_session.specs.declared.frames.Incoming.{Incoming}
+use Rattle.rx_session.specs.declared.frames.Incoming.TheVariants as incomings
+use Rattle.rx_session.specs.declared.headers.Head.{Head}
+use Rattle.rx_session.specs.declared.headers.Head.TheVariants as heads
 use Rattle.rx_session.specs.declared.raw_request.RawRequest.{RawRequest}
 use Rattle.rx_session.specs.declared.requests.Request.{Request}
 use Rattle.rx_session.specs.Bad.{bad}
-use Rattle.rx_session.specs.Frames.{alone, len_in, or_bad_message, payload_request, request_of, request_within}
+use Rattle.rx_session.specs.Frames.{IsRequest, alone, head_in, incoming_by, incoming_of, or_bad_message, or_request, payload_request, request_within}
 use Rattle.rx_session.specs.Jobs.{command_of}
 use Rattle.rx_session.specs.Messages.{raw_request_of}
 use Rattle.rx_session.specs.Rules.{bad_field, outputs_hold, outputs_stand, path_in, paths_hold, paths_in, refused, request_by, request_from, some_above, unbuilt_field}
@@ -62,12 +66,29 @@ module _ (P : Request → Type 0) where
         let payload = payload_request root (take len (drop 5 text)) in
         test-if (nat_lt (length text) (5 + len)) (bad CutShort (length text)) (payload >>= alone len text) (alone-holds len text payload (message-holds root (take len (drop 5 text))))
 
-    frame-holds : (root text : List ℕ) → IfOk (request_of root text) P
-    unfolding request_of
-    frame-holds root text = bind-if (len_in text) (λ len. request_within root len text) (λ len. within-holds root len text)
+    -- P holds of a request that came in
+    abbrev ForRequest : Incoming → Type 0
+    ForRequest (incomings.Request request) = P request
+    ForRequest incomings.Shutdown = Unit {0}
+
+    found-holds : (request : Result Request Bad) → IfOk request P → IfOk (or_request request) ForRequest
+    found-holds (Ok request) h = h
+    found-holds (Err why) h = tt
+
+    head-holds : (root text : List ℕ) (head : Head) → IfOk (incoming_by root text head) ForRequest
+    head-holds root text (heads.Request len) = found-holds (request_within root len text) (within-holds root len text)
+    head-holds root text heads.Shutdown = tt
+
+    told-holds : (root text : List ℕ) (head : Result Head Bad) → IfOk (head >>= incoming_by root text) ForRequest
+    told-holds root text (Ok head) = head-holds root text head
+    told-holds root text (Err why) = tt
+
+    frame-holds : (root text : List ℕ) → IfOk (incoming_of root text) ForRequest
+    unfolding incoming_of
+    frame-holds root text = told-holds root text (head_in text)
 
     -- what holds of each message whose fields hold, holds of each request that bytes are
-    pub decoded-holds : (root text : List ℕ) (request : Request) → request_of root text ≡ Ok request → P request
+    pub decoded-holds : (root text : List ℕ) (request : Request) → IsRequest root text request → P request
     decoded-holds root text request h = let held = frame-holds root text in rw h at held
 
 -- ---- the outputs
@@ -105,5 +126,5 @@ unfolding command_of
 fields-below raw h = sorted-below (path_in raw.working_directory) (paths_in raw.outputs) (held-below raw.working_directory raw.inputs raw.toolchain_inputs raw.outputs (outputs-hold raw h))
 
 -- so they are of each request that bytes are
-pub outputs-below : (root text : List ℕ) (request : Request) → request_of root text ≡ Ok request → AreOutputsBelow request
+pub outputs-below : (root text : List ℕ) (request : Request) → IsRequest root text request → AreOutputsBelow request
 outputs-below root text request h = decoded-holds AreOutputsBelow fields-below root text request h

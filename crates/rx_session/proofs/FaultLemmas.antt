@@ -4,11 +4,12 @@ use Rattle.std.specs.Prelude.{nat_lt}
 use Rattle.std.specs.List.{AllByRecursion}
 use Rattle.std.proofs.lemmas.Bool.{ne_eqb, ltb-true}
 use Rattle.std.proofs.lemmas.List.{length-drop}
-use Rattle.rx_wire.specs.Varints.{Spells, shortest}
+use Rattle.rx_wire.specs.Varints.{shortest}
 use Rattle.rx_wire.proofs.FieldLaws.{after}
 use Rattle.rx_wire.proofs.Grammar.{IsVarint-shortest, number_again}
 use Rattle.rx_world.specs.declared.call_faults.CallFault.{CallFault}
 use Rattle.rx_world.specs.declared.call_faults.CallFault.TheVariants as calls
+use Rattle.rx_wire.proofs.FieldLaws.{Spells-some}
 use Rattle.rx_session.specs.CallFaults.{IsOfCall, call_fault_number, fault_at, fault_by, fault_of, faults_from, faults_in, low_byte, packed_faults, told_fault, with_code}
 
 low_fits : (code : ℕ) → low_byte code < 256
@@ -53,10 +54,6 @@ number_fits calls.Cut = lit< tt
 number_fits (calls.BlobRefused digest code) = code_fits 9 code (omega arith)
 number_fits calls.NoMemory = lit< tt
 
-spells_some : (text : List ℕ) (n : ℕ) → Spells text n → 0 < length text
-spells_some [] n s = absurd s
-spells_some (b ∷ text) n s = omega arith
-
 faults_again_from : (faults : List CallFault) (most : ℕ) (all : List ℕ) (at : ℕ) → length all ≤ at + most → at ≤ length all → drop at all ≡ packed_faults faults
     → AllByRecursion IsOfCall faults → faults_from most all at ≡ Ok (map told_fault faults)
 unfolding faults_from fault_at
@@ -65,12 +62,12 @@ faults_again_from [] (suc most) all at enough within e each =
     let end : (at == length all) ≡ true = eq-eqb at (length all) (omega (arith, length-drop at all, ap length e)) in
     rw end refl
 faults_again_from (fault ∷ faults) zero all at enough within e each =
-    let some = spells_some (shortest (call_fault_number fault)) (call_fault_number fault) (IsVarint-shortest (call_fault_number fault) (number_fits fault)).spelled in
+    let some = Spells-some (shortest (call_fault_number fault)) (call_fault_number fault) (IsVarint-shortest (call_fault_number fault) (number_fits fault)).spelled in
     absurd (omega (arith, length-drop at all, ap length e, length-append (shortest (call_fault_number fault)) (packed_faults faults)))
 faults_again_from (fault ∷ faults) (suc most) all at enough within e each =
     let number = call_fault_number fault in
     let spelled = IsVarint-shortest number (number_fits fault) in
-    let some = spells_some (shortest number) number spelled.spelled in
+    let some = Spells-some (shortest number) number spelled.spelled in
     let size : length all ≡ at + length (shortest number) + length (packed_faults faults) =
     omega (arith, length-drop at all, ap length e, length-append (shortest number) (packed_faults faults)) in
     let open_end : (at == length all) ≡ false = ne_eqb at (length all) (λ same. omega arith) in

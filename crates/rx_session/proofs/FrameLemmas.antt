@@ -10,9 +10,13 @@ use Rattle.rx_session.specs.declared.bad.Bad.{Bad}
 use Rattle.rx_session.specs.declared.bad.BadReason.TheVariants.{CutShort, Trailing}
 use Rattle.rx_session.specs.declared.bad.SessionFault.{SessionFault}
 use Rattle.rx_session.specs.declared.bad.SessionFault.TheVariants as faults
+use Rattle.rx_session.specs.declared.frames.Incoming.{Incoming}
+use Rattle.rx_session.specs.declared.frames.Incoming.TheVariants as incomings
+use Rattle.rx_session.specs.declared.headers.Head.{Head}
+use Rattle.rx_session.specs.declared.headers.Head.TheVariants as heads
 use Rattle.rx_session.specs.declared.requests.Request.{Request}
 use Rattle.rx_session.specs.Bad.{Decodes, bad}
-use Rattle.rx_session.specs.Frames.{EndsRead, alone, len_in, payload_request, reach_by, reach_of, request_of, request_within}
+use Rattle.rx_session.specs.Frames.{EndsRead, alone, head_in, incoming_of, or_request, payload_request, reach_by, reach_of, request_within}
 use Rattle.rx_session.specs.Streams.{IsNoBad, IsNoCut, IsNoCutPast, ReadsOn}
 
 -- ---- pieces that were read one after the other
@@ -56,44 +60,52 @@ header_ends left len (faults.Bad why) h end = λ e. end (h e)
 
 -- ---- the header
 
-pub header_refused : (view : ℕ → ℕ) (seen : Request → Request) (root text : List ℕ) (fault : SessionFault) → Decodes view (Err fault) (len_in text) → Decodes seen (Err fault) (request_of root text)
-unfolding request_of
+pub header_refused : (view : Head → Head) (seen : Incoming → Incoming) (root text : List ℕ) (fault : SessionFault) → Decodes view (Err fault) (head_in text)
+    → Decodes seen (Err fault) (incoming_of root text)
+unfolding incoming_of
 header_refused view seen root text faults.ReadFault h = tt
 header_refused view seen root text faults.NoMemory h = tt
 header_refused view seen root text (faults.Bad why) h = rw h refl
 
+pub header_ends_all : (root text : List ℕ) → head_in text ≡ Ok heads.Shutdown → incoming_of root text ≡ Ok incomings.Shutdown
+unfolding incoming_of
+header_ends_all root text h = rw h refl
+
 -- the header tells the same with more bytes behind it
-len_in-more : (len : ℕ) (text more : List ℕ) → len_in text ≡ Ok len → len_in (text ++ more) ≡ Ok len
-unfolding len_in
-len_in-more len [] more h = absurd (cc h)
-len_in-more len (a ∷ []) more h = absurd (cc h)
-len_in-more len (a ∷ b ∷ []) more h = absurd (cc h)
-len_in-more len (a ∷ b ∷ c ∷ []) more h = absurd (cc h)
-len_in-more len (a ∷ b ∷ c ∷ d ∷ []) more h = absurd (cc h)
-len_in-more len (a ∷ b ∷ c ∷ d ∷ e ∷ rest) more h =
+head_in-more : (head : Head) (text more : List ℕ) → head_in text ≡ Ok head → head_in (text ++ more) ≡ Ok head
+unfolding head_in
+head_in-more head [] more h = absurd (cc h)
+head_in-more head (a ∷ []) more h = absurd (cc h)
+head_in-more head (a ∷ b ∷ []) more h = absurd (cc h)
+head_in-more head (a ∷ b ∷ c ∷ []) more h = absurd (cc h)
+head_in-more head (a ∷ b ∷ c ∷ d ∷ []) more h = absurd (cc h)
+head_in-more head (a ∷ b ∷ c ∷ d ∷ e ∷ rest) more h =
     let first : nat_lt (length (a ∷ b ∷ c ∷ d ∷ e ∷ rest)) 5 ≡ false = le-ltb _ _ (omega arith) in
     let second : nat_lt (length (a ∷ b ∷ c ∷ d ∷ e ∷ (rest ++ more))) 5 ≡ false = le-ltb _ _ (omega arith) in
     rw second (rw first at h)
 
--- the request where the header and more were read
-pub request_of-header : (root : List ℕ) (len : ℕ) (head text more : List ℕ) → len_in head ≡ Ok len → text ≡ head ++ more → request_of root text ≡ request_within root len text
-unfolding request_of
-request_of-header root len head text more h e =
-    let told : len_in text ≡ Ok len = rw e (len_in-more len head more h) in
+-- what comes in where the header of a request and more were read
+pub incoming_of-header : (root : List ℕ) (len : ℕ) (head text more : List ℕ) → head_in head ≡ Ok (heads.Request len) → text ≡ head ++ more
+    → incoming_of root text ≡ or_request (request_within root len text)
+unfolding incoming_of
+incoming_of-header root len head text more h e =
+    let told : head_in text ≡ Ok (heads.Request len) = rw e (head_in-more (heads.Request len) head more h) in
     rw told refl
 
 -- ---- how far is read
 
-five_reached : (told : Result ℕ Bad) → 5 ≤ reach_by told
-five_reached (Ok len) = omega arith
+five_reached : (told : Result Head Bad) → 5 ≤ reach_by told
+five_reached (Ok (heads.Request len)) = omega arith
+five_reached (Ok heads.Shutdown) = omega arith
 five_reached (Err why) = omega arith
 
 pub reach-header : (text : List ℕ) → length text ≤ 5 → length text ≤ reach_of text
-reach-header text h = let five = five_reached (len_in text) in omega (arith, h, five)
+reach-header text h = let five = five_reached (head_in text) in omega (arith, h, five)
 
-pub reach-told : (len : ℕ) (head text more : List ℕ) → len_in head ≡ Ok len → text ≡ head ++ more → length text ≤ 5 + len + 1 → length text ≤ reach_of text
+pub reach-told : (len : ℕ) (head text more : List ℕ) → head_in head ≡ Ok (heads.Request len) → text ≡ head ++ more → length text ≤ 5 + len + 1
+    → length text ≤ reach_of text
 reach-told len head text more h e le =
-    let told : len_in text ≡ Ok len = rw e (len_in-more len head more h) in
+    let told : head_in text ≡ Ok (heads.Request len) = rw e (head_in-more (heads.Request len) head more h) in
     rw told le
 
 -- ---- the payload
@@ -102,7 +114,7 @@ pub within_cut : (root : List ℕ) (len : ℕ) (text : List ℕ) → length text
 unfolding request_within
 within_cut root len text lt = let test : nat_lt (length text) (5 + len) ≡ true = lt-ltb _ _ lt in rw test refl
 
-payload_is : (len : ℕ) (front more : List ℕ) → length front ≡ 5 + len → take len (drop 5 (front ++ more)) ≡ drop 5 front
+pub payload_is : (len : ℕ) (front more : List ℕ) → length front ≡ 5 + len → take len (drop 5 (front ++ more)) ≡ drop 5 front
 payload_is len front more e =
     let size : length (drop 5 front) ≡ len = omega (arith, length-drop 5 front) in
     rw (drop-append-le 5 front more (omega arith), ← size) (take-append_seam (drop 5 front) more)
@@ -115,11 +127,13 @@ within_whole root len front text more size e =
     let payload : take len (drop 5 text) ≡ drop 5 front = rw e (payload_is len front more size) in
     rw (test, payload) refl
 
-pub within_refused : (seen : Request → Request) (root : List ℕ) (len : ℕ) (front : List ℕ) (fault : SessionFault) → length front ≡ 5 + len
-    → Decodes seen (Err fault) (payload_request root (drop 5 front)) → Decodes seen (Err fault) (request_within root len front)
-within_refused seen root len front faults.ReadFault size h = tt
-within_refused seen root len front faults.NoMemory size h = tt
-within_refused seen root len front (faults.Bad why) size h = within_whole root len front front [] size (sym (append-nil front)) ∙ rw h refl
+pub within_refused : (payloads : Request → Request) (seen : Incoming → Incoming) (root : List ℕ) (len : ℕ) (front : List ℕ) (fault : SessionFault)
+    → length front ≡ 5 + len → Decodes payloads (Err fault) (payload_request root (drop 5 front)) → Decodes seen (Err fault) (or_request (request_within root len front))
+within_refused payloads seen root len front faults.ReadFault size h = tt
+within_refused payloads seen root len front faults.NoMemory size h = tt
+within_refused payloads seen root len front (faults.Bad why) size h =
+    let given : request_within root len front ≡ Err why = within_whole root len front front [] size (sym (append-nil front)) ∙ rw h refl in
+    ap or_request given
 
 pub within_trailing : (root : List ℕ) (len : ℕ) (front text more : List ℕ) (request : Request) → length front ≡ 5 + len → text ≡ front ++ more
     → payload_request root (drop 5 front) ≡ Ok request → 5 + len < length text → request_within root len text ≡ Err (bad Trailing (5 + len))

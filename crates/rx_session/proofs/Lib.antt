@@ -14,5 +14,6 @@ pub mod ReplyLemmas
 pub mod RequestLemmas
 pub mod RuleLemmas
 pub mod SeenLemmas
+pub mod ShutdownLemmas
 pub mod TextLemmas
 pub mod VersionLemmas

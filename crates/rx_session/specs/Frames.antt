@@ -1,5 +1,5 @@
 -- Frames: a kind byte, a length in four bytes, the highest first, and so many bytes of payload.
-use Rattle.std.specs.Prelude.{◌≡◌, ℕ, ◌+◌, ◌-◌, ◌^◌, ◌==◌, not, min, nat_lt, List, ◌∷◌, ◌++◌, length, take, drop, Option, Result, Ok, Err, if◌then◌else◌, slice_index}
+use Rattle.std.specs.Prelude.{◌≡◌, ℕ, ◌+◌, ◌-◌, ◌^◌, ◌≤◌, ◌==◌, ◌||◌, not, Bool, min, nat_lt, List, [], ◌∷◌, ◌++◌, length, take, drop, Option, Result, Ok, Err, if◌then◌else◌, slice_index}
 use Rattle.std.specs.Int.{w32, to_be_bytes, from_be_bytes}
 use Rattle.std.specs.Io.KnownBytes.{IsAtEnd}
 use Rattle.rx_base.specs.Results.{◌>>=◌}
@@ -11,6 +11,10 @@ use Rattle.rx_session.specs.declared.bad.Bad.{Bad}
 use Rattle.rx_session.specs.declared.bad.BadReason.TheVariants.{CutShort, BadKind, TooLong, BadMessage, Trailing}
 use Rattle.rx_session.specs.declared.bad.SessionFault.{SessionFault}
 use Rattle.rx_session.specs.declared.bad.SessionFault.TheVariants as faults
+use Rattle.rx_session.specs.declared.frames.Incoming.{Incoming}
+use Rattle.rx_session.specs.declared.frames.Incoming.TheVariants as incomings
+use Rattle.rx_session.specs.declared.headers.Head.{Head}
+use Rattle.rx_session.specs.declared.headers.Head.TheVariants as heads
 use Rattle.rx_session.specs.declared.requests.Request.{Request}
 use Rattle.rx_session.specs.Bad.{bad}
 use Rattle.rx_session.specs.Messages.{raw_request_of}
@@ -19,6 +23,13 @@ use Rattle.rx_session.specs.Rules.{request_by}
 -- the bytes of a frame
 abbrev pub frame : ℕ → List ℕ → List ℕ
 frame kind payload = kind ∷ (to_be_bytes w32 (length payload) ++ payload)
+
+-- the frame that asks the proxy to end, and the one that answers it
+abbrev pub shutdown : List ℕ
+shutdown = frame 4 []
+
+abbrev pub shutdown_done : List ℕ
+shutdown_done = frame 5 []
 
 -- the most bytes of a Request's payload
 abbrev pub longest_payload : ℕ
@@ -51,13 +62,29 @@ payload_request root payload = do
 abbrev pub length_in : List ℕ → ℕ
 length_in text = from_be_bytes w32 (take 4 (drop 1 text))
 
--- the length of the payload, as bytes that begin with a header tell it
-unfoldable pub len_in : List ℕ → Result ℕ Bad
-len_in text =
+-- a client's frame begins with one of these kinds
+abbrev pub begins : ℕ → Bool
+begins kind = kind == 1 || kind == 4
+
+-- what a kind and a length tell: a Request has a payload of this length, and Shutdown has none
+abbrev pub head_by : ℕ → ℕ → Result Head Bad
+head_by kind len =
+    if kind == 1 then Ok (heads.Request len)
+    else if nat_lt 0 len then Err (bad BadMessage 1)
+    else Ok heads.Shutdown
+
+-- what the header tells, of bytes that begin with one
+unfoldable pub head_in : List ℕ → Result Head Bad
+head_in text =
     if nat_lt (length text) 5 then Err (bad CutShort (length text))
-    else if not (slice_index text 0 == 1) then Err (bad BadKind 0)
+    else if not (begins (slice_index text 0)) then Err (bad BadKind 0)
     else if nat_lt longest_payload (length_in text) then Err (bad TooLong (length_in text))
-    else Ok (length_in text)
+    else head_by (slice_index text 0) (length_in text)
+
+-- the payload has at most so many bytes
+abbrev pub IsWithin : ℕ → Head → Type 0
+IsWithin most (heads.Request len) = len ≤ most
+IsWithin most heads.Shutdown = Unit {0}
 
 -- a request, where nothing follows its frame
 abbrev pub alone : ℕ → List ℕ → Request → Result Request Bad
@@ -69,23 +96,40 @@ request_within root len text =
     if nat_lt (length text) (5 + len) then Err (bad CutShort (length text))
     else payload_request root (take len (drop 5 text)) >>= alone len text
 
--- The request that bytes are, all of them. (No request that watches is served yet, and only after such a one more bytes may come.)
-unfoldable pub request_of : List ℕ → List ℕ → Result Request Bad
-request_of root text = do
-  len ← len_in text
-  request_within root len text
+-- a request that was found, as what comes in
+abbrev pub or_request : Result Request Bad → Result Incoming Bad
+or_request (Ok request) = Ok (incomings.Request request)
+or_request (Err why) = Err why
 
--- The most bytes that are read: a header and, where it tells a length, so many bytes of payload and one byte behind the frame.
-abbrev pub reach_by : Result ℕ Bad → ℕ
-reach_by (Ok len) = 5 + len + 1
+-- what comes in behind such a header; behind Shutdown nothing counts
+abbrev pub incoming_by : List ℕ → List ℕ → Head → Result Incoming Bad
+incoming_by root text (heads.Request len) = or_request (request_within root len text)
+incoming_by root text heads.Shutdown = Ok incomings.Shutdown
+
+-- What comes in by a client's bytes: the Request that they are, all of them, or Shutdown, with whose frame they begin. (No request that
+-- watches is served yet, and only after such a one more bytes may come.)
+unfoldable pub incoming_of : List ℕ → List ℕ → Result Incoming Bad
+incoming_of root text = do
+  head ← head_in text
+  incoming_by root text head
+
+-- the bytes are this request
+abbrev pub IsRequest : List ℕ → List ℕ → Request → Type 0
+IsRequest root text request = incoming_of root text ≡ Ok (incomings.Request request)
+
+-- The most bytes that are read: a header and, where it tells a Request, its payload and one byte behind the frame.
+abbrev pub reach_by : Result Head Bad → ℕ
+reach_by (Ok (heads.Request len)) = 5 + len + 1
+reach_by (Ok heads.Shutdown) = 5
 reach_by (Err why) = 5
 
 abbrev pub reach_of : List ℕ → ℕ
-reach_of text = reach_by (len_in text)
+reach_of text = reach_by (head_in text)
 
 -- Whether the end of the input was read: for a request, and where the frame is cut short.
-abbrev pub EndsRead : Option (List ℕ) → Result Request SessionFault → Type 0
-EndsRead left (Ok request) = IsAtEnd left
+abbrev pub EndsRead : Option (List ℕ) → Result Incoming SessionFault → Type 0
+EndsRead left (Ok (incomings.Request request)) = IsAtEnd left
+EndsRead left (Ok incomings.Shutdown) = Unit {0}
 EndsRead left (Err (faults.Bad why)) = why.reason ≡ CutShort → IsAtEnd left
 EndsRead left (Err faults.ReadFault) = Unit {0}
 EndsRead left (Err faults.NoMemory) = Unit {0}

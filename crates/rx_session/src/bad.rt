@@ -21,7 +21,8 @@ pub enum BadReason {
     #[error("the frame is too long")]
     TooLong,
     /// The payload breaks the wire rules of Protocol Buffers, or a text in it is not UTF-8; the
-    /// value is where, counted from the frame's first byte.
+    /// value is where, counted from the frame's first byte. Or a Shutdown has a payload; the value
+    /// is 1, where the length stands.
     #[error("the payload is no message")]
     BadMessage,
     /// The version is not 1; the value is the version.

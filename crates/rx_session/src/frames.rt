@@ -1,46 +1,61 @@
-//! Frames of a client, read from a source.
+//! Frames of a client, read from a source, and the frames by which the proxy ends.
 //!
 //! ```text
 //! +--------+----------------------------+---------------------+
-//! | kind 1 | length 4, the highest first | payload, so many    |
+//! | kind   | length 4, the highest first | payload, so many    |
 //! +--------+----------------------------+---------------------+
 //! ```
 //!
-//! Kind 1 is a Request; no other kind is served yet.
+//! Kind 1 is a Request. Kind 4, Shutdown, has no payload, and kind 5, ShutdownDone, answers it.
 
 ghost use Rattle.std.specs.Prelude.{◌≡◌, ◌≤◌, ◌+◌, IfErr, IfOk, IsErrOf, length};
 ghost use Rattle.std.specs.Io.KnownBytes.{Consumes};
 ghost use Rattle.rx_world.specs.Causes.{Rose};
 ghost use Rattle.rx_session.specs.Bad.{Decodes};
-ghost use Rattle.rx_session.specs.Frames.{EndsRead, len_in, reach_of, request_of};
+ghost use Rattle.rx_session.specs.Frames.{EndsRead, IsWithin, begins, head_in, incoming_of, reach_of};
 ghost use Rattle.rx_session.specs.Streams.{IsNoCutPast};
 
 use crate::bad::{BadReason, SessionFault, refuse};
-use crate::headers::{HEADER_LEN, REQUEST_KIND};
+use crate::headers::{HEADER_LEN, Head, REQUEST_KIND, SHUTDOWN_KIND};
 use crate::requests::Request;
 use crate::streams::read_up_to;
 use rx_world::Source;
 use std::alloc::Global;
 
+/// What a client's frame is.
+#[derive(Debug, Drop)]
+pub enum Incoming {
+    Request(Request),
+    /// It asks the proxy to end.
+    Shutdown,
+}
+
+/// The frame that asks the proxy to end.
+pub const SHUTDOWN: [u8; 5] = [4, 0, 0, 0, 0];
+
+/// The frame that answers it.
+pub const SHUTDOWN_DONE: [u8; 5] = [5, 0, 0, 0, 0];
+
 /// The most bytes of a request's payload.
 pub const MAX_REQUEST_LEN: usize = 4_194_304;
 
-/// Reads one request frame of the served root, and then whether the input ends there, of which it
-/// takes one byte at most. All that is read is left in `read`, in place of what stood there. It
-/// grows as the bytes come: a length alone takes no memory.
-pub fn read_request<S: Source>(
+/// Reads one frame of a client of the served root. Behind a request it reads whether the input ends
+/// there, and takes one byte at most. Behind a Shutdown it reads nothing. All that is read is left in
+/// `read`, in place of what stood there. It grows as the bytes come: a length alone takes no memory.
+pub fn read_incoming<S: Source>(
     alloc: Global,
     source: &mut S,
     root: &str,
     read: &mut Vec<u8>,
-) -> Result<Request, SessionFault>
+) -> Result<Incoming, SessionFault>
     // What was taken from the source is what was read.
     ensures read { Consumes (S.left source.old) (S.left source.new) read.new.items }
-    // No more is taken than a header, the payload of the length that it tells, and one byte behind.
+    // No more is taken than a header and, of a request, the payload of the length that it tells, and
+    // one byte behind.
     ensures reach { length read.new.items ≤ reach_of read.new.items }
     ensures most { length read.new.items ≤ MAX_REQUEST_LEN + 6 }
     // The answer is the one that the definition gives for it.
-    ensures request { Decodes (λ request. request) result (request_of root.now read.new.items) }
+    ensures incoming { Decodes (λ incoming. incoming) result (incoming_of root.now read.new.items) }
     // After a request, and where the frame is cut short, the input is at its end.
     ensures end { EndsRead (S.left source.new) result }
     ensures later { S.faults source.old ≤ S.faults source.new }
@@ -49,7 +64,10 @@ pub fn read_request<S: Source>(
 {
     read.clear();
     read_up_to(source, read, HEADER_LEN)?;
-    let len = payload_len(read)?;
+    let head = head_of(read)?;
+    let Head::Request(len) = head else {
+        return Ok(Incoming::Shutdown);
+    };
     read_up_to(source, read, HEADER_LEN + len)?;
     if read.len() < HEADER_LEN + len {
         return refuse(BadReason::CutShort, read.len() as u64);
@@ -60,25 +78,38 @@ pub fn read_request<S: Source>(
     if read.len() > HEADER_LEN + len {
         return refuse(BadReason::Trailing, (HEADER_LEN + len) as u64);
     }
-    Ok(request)
+    Ok(Incoming::Request(request))
 }
 
-/// The length of the payload that a header tells.
-#[tactic(auto, unfolding(crate::specs::Frames::len_in))]
-fn payload_len(header: &[u8]) -> Result<usize, SessionFault>
-    ensures len { Decodes (λ len. len) result (len_in header.now) }
-    ensures bound { IfOk result (λ len. len ≤ MAX_REQUEST_LEN) }
+/// Whether a client's frame may begin so.
+fn begins(kind: u8) -> bool
+    ensures { result ≡ begins kind }
+{
+    kind == REQUEST_KIND || kind == SHUTDOWN_KIND
+}
+
+/// What the header of a client's frame tells.
+#[tactic(auto, unfolding(crate::specs::Frames::head_in))]
+fn head_of(header: &[u8]) -> Result<Head, SessionFault>
+    ensures head { Decodes (λ head. head) result (head_in header.now) }
+    ensures bound { IfOk result (IsWithin MAX_REQUEST_LEN) }
     ensures short { IfErr result (IsNoCutPast (length header.now)) }
 {
     if header.len() < HEADER_LEN {
         return refuse(BadReason::CutShort, header.len() as u64);
     }
-    if header[0] != REQUEST_KIND {
+    if !begins(header[0]) {
         return refuse(BadReason::BadKind, 0);
     }
     let len = u32::from_be_bytes([header[1], header[2], header[3], header[4]]) as usize;
     if len > MAX_REQUEST_LEN {
         return refuse(BadReason::TooLong, len as u64);
     }
-    Ok(len)
+    if header[0] == REQUEST_KIND {
+        return Ok(Head::Request(len));
+    }
+    if len > 0 {
+        return refuse(BadReason::BadMessage, 1);
+    }
+    Ok(Head::Shutdown)
 }

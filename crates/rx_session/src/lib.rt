@@ -37,7 +37,7 @@ mod version_text;
 mod written_requests;
 
 pub use bad::{Bad, BadReason, SessionFault};
-pub use frames::{MAX_REQUEST_LEN, read_request};
+pub use frames::{Incoming, MAX_REQUEST_LEN, SHUTDOWN, SHUTDOWN_DONE, read_incoming};
 pub use jobs::{command_for, declared_inputs};
 pub use replies::Reply;
 pub use reply_fault::ReplyFault;

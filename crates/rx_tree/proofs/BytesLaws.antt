@@ -1,5 +1,5 @@
 -- The bytes of a Directory tell its files, and the names of its directories.
-use Rattle.std.proofs.Common.{◌≡◌, ◌∙◌, ℕ, zero, suc, ◌+◌, ◌*◌, ◌^◌, ◌<◌, ◌≤◌, ◌==◌, Bool, true, false, List, [], ◌∷◌, ◌++◌, Some, cond, length, map, nat_lt, ◌/◌, ◌%◌, append-nil, length-append, refl, sym, ap, subst, arith}
+use Rattle.std.proofs.Common.{◌≡◌, ◌∙◌, ℕ, ◌+◌, ◌*◌, ◌^◌, ◌<◌, ◌≤◌, ◌==◌, Bool, true, false, List, [], ◌∷◌, ◌++◌, Some, cond, length, map, ◌/◌, ◌%◌, append-nil, length-append, refl, sym, ap, subst, arith}
 use Rattle.std.specs.List.{AllByRecursion}
 use Rattle.std.proofs.lemmas.Grind.{flat_map-append}
 use Rattle.std.proofs.lemmas.List.{map-id}
@@ -7,7 +7,7 @@ use Rattle.hex.specs.Hex.{IsBytes, decode_sized, encode_lower, lower_digits}
 use Rattle.hex.proofs.HexLemmas.{decode_sized-encode_lower, length-encode_with}
 use Rattle.rx_base.specs.declared.digests.Digest.{Digest}
 use Rattle.rx_wire.specs.Values.{Content as Value, Field, bytes, fixed32, fixed64, varint}
-use Rattle.rx_wire.specs.Varints.{groups, shortest}
+use Rattle.rx_wire.specs.Varints.{shortest}
 use Rattle.rx_wire.specs.Fields.{SpellsField, SpellsFields}
 use Rattle.rx_wire.specs.Out.{bytes_field, varint_field}
 use Rattle.rx_wire.proofs.FieldLaws.{Appends-bytes, Appends-varint}
@@ -22,6 +22,7 @@ use Rattle.rx_messages.specs.declared.directories.Directory.{Directory}
 use Rattle.rx_codec.proofs.ContentLaws.{contents-append, contents-numbered, number_again, text_again, truth_again}
 use Rattle.rx_codec.proofs.FieldRead.{fields_in-spelled}
 use Rattle.rx_base.proofs.Lists.{All-append, All-weaken}
+use Rattle.rx_wire.proofs.Grammar.{length-groups}
 use Rattle.rx_tree.specs.Entries.{Content}
 use Rattle.rx_tree.specs.Listings.{IsDigest}
 use Rattle.rx_tree.specs.Trees.{bytes_with, directory_node, file_node}
@@ -59,15 +60,6 @@ same_fields fs gs h k e =
     sym (fields_in-spelled fs (fields_bytes fs) (spelled_all fs h)) ∙ ap fields_in e ∙ fields_in-spelled gs (fields_bytes gs) (spelled_all gs k)
 
 -- ---- how long they are
-
-length-groups : (k n : ℕ) → length (groups k n) ≤ suc k
-unfolding groups
-length-groups zero n = omega arith
-length-groups (suc k) n =
-    elim (nat_lt n 128) as (λ b. length (cond b (n ∷ []) ((n % 128 + 128) ∷ groups k (n / 128))) ≤ suc (suc k)) [
-      | true ↦ omega arith
-      | false ↦ let rest = length-groups k (n / 128) in omega arith
-    ]
 
 length-shortest : (n : ℕ) → length (shortest n) ≤ 10
 unfolding shortest

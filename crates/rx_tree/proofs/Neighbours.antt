@@ -1,12 +1,12 @@
 -- Entries in order: what clashes stands side by side.
-use Rattle.std.proofs.Common.{◌≡◌, ◌∙◌, ℕ, zero, suc, ◌+◌, ◌<◌, ◌≤◌, ◌⊎◌, inl, inr, Bool, true, false, ◌&&◌, ◌||◌, List, [], ◌∷◌, ◌++◌, Option, Some, None, cond, length, get_or, refl, sym, ap, subst, arith, append-nil}
+use Rattle.std.proofs.Common.{◌≡◌, ◌∙◌, ℕ, zero, suc, ◌+◌, ◌<◌, ◌≤◌, ◌⊎◌, inl, inr, Bool, true, false, ◌&&◌, List, [], ◌∷◌, ◌++◌, Option, Some, None, cond, length, get_or, refl, sym, ap, subst, arith, append-nil}
 use Rattle.std.specs.Prelude.{is_some, is_none}
 use Rattle.std.specs.declared.cmp.Ordering.TheVariants.{Less}
 use Rattle.std.specs.Ordering.{bool_cmp, is_lt}
 use Rattle.std.specs.List.{count_by}
 use Rattle.std.specs.List.Sorted.{IsSorted}
 use Rattle.std.specs.Str.{bytes_eq}
-use Rattle.std.proofs.lemmas.Bool.{and_parts, cases_lt, false≢true, or_right}
+use Rattle.std.proofs.lemmas.Bool.{and_from, and_parts, cases_lt, false≢true, or_cases, or_left, or_right}
 use Rattle.std.proofs.lemmas.List.{get_or_default}
 use Rattle.std.proofs.lemmas.List.Sums.{sum_by-cons}
 use Rattle.std.proofs.lemmas.List.Sorted.{ranks_by, sorted_far}
@@ -22,21 +22,11 @@ use Rattle.rx_tree.proofs.NamesLemmas.{below-names, below-from_names, names_of-s
 
 -- ---- tests
 
-pub both : (a b : Bool) → a ≡ true → b ≡ true → (a && b) ≡ true
-both a b e f = rw e f
-
 pub same_path : (p q : List ℕ) → bytes_eq p q ≡ true → p ≡ q
 same_path p q e = (bytes_eq-Decides p q).0 e
 
 pub is_path : (p q : List ℕ) → p ≡ q → bytes_eq p q ≡ true
 is_path p q e = (bytes_eq-Decides p q).1 e
-
-either : (a b : Bool) → (a || b) ≡ true → (a ≡ true) ⊎ (b ≡ true)
-either true b e = inl refl
-either false b e = inr e
-
-left_or : (a b : Bool) → a ≡ true → (a || b) ≡ true
-left_or a b e = rw e refl
 
 some_or_none : {A : Type 0} (o : Option A) → (is_some o ≡ true) ⊎ (is_none o ≡ true)
 some_or_none None = inr refl
@@ -57,7 +47,7 @@ same_file-parts x y e =
     (first.0, second.0, same_path x.path y.path second.1)
 
 same_file-from : (x y : Entry) → is_some x.file ≡ true → is_some y.file ≡ true → x.path ≡ y.path → is_same_file x y ≡ true
-same_file-from x y e f g = both _ _ e (both _ _ f (is_path x.path y.path g))
+same_file-from x y e f g = and_from _ _ e (and_from _ _ f (is_path x.path y.path g))
 
 -- ---- names that go on from a file's
 
@@ -66,10 +56,10 @@ same_or_under x w file [] e =
     let path : w.path ≡ x.path = names_of-same w.path x.path (e ∙ append-nil (names_of x.path)) in
     elim (some_or_none w.file) [
       | inl some ↦ inl (same_file-from x w file some (sym path))
-      | inr none ↦ inr (both _ _ file (or_right (is_below w.path x.path) (is_none w.file && bytes_eq w.path x.path) (both _ _ none (is_path w.path x.path path))))
+      | inr none ↦ inr (and_from _ _ file (or_right (is_below w.path x.path) (is_none w.file && bytes_eq w.path x.path) (and_from _ _ none (is_path w.path x.path path))))
     ]
 same_or_under x w file (n ∷ ns) e =
-    inr (both _ _ file (left_or (is_below w.path x.path) (is_none w.file && bytes_eq w.path x.path) (below-from_names w.path x.path n ns e)))
+    inr (and_from _ _ file (or_left (is_below w.path x.path) (is_none w.file && bytes_eq w.path x.path) (below-from_names w.path x.path n ns e)))
 
 -- ---- counts
 
@@ -146,9 +136,9 @@ module _ (xs : List Entry) (up : IsSorted by_place xs) where
       let next : h.at + 1 ≡ suc h.at = omega arith in
       let lt : h.at + 1 < length xs = h.within in
       two_count (is_file_at p) xs h.at (omega arith)
-      (λ d. let parts = same_file-parts (get_or xs h.at d) (get_or xs (h.at + 1) d) (h.passes d) in both _ _ parts.0 (is_path _ _ (h.path_is d)))
+      (λ d. let parts = same_file-parts (get_or xs h.at d) (get_or xs (h.at + 1) d) (h.passes d) in and_from _ _ parts.0 (is_path _ _ (h.path_is d)))
       (λ d. let parts = same_file-parts (get_or xs h.at d) (get_or xs (h.at + 1) d) (h.passes d) in
-      subst (λ (k : ℕ). is_file_at p (get_or xs k d) ≡ true) next (both _ _ parts.1 (is_path _ _ (sym parts.2 ∙ h.path_is d))))
+      subst (λ (k : ℕ). is_file_at p (get_or xs k d) ≡ true) next (and_from _ _ parts.1 (is_path _ _ (sym parts.2 ∙ h.path_is d))))
 
   -- ---- what stands under a file
 
@@ -156,7 +146,7 @@ module _ (xs : List Entry) (up : IsSorted by_place xs) where
   under-names : (x y : Entry) → is_under x y ≡ true → (is_some x.file ≡ true) × (more : List (List ℕ)) × (names_of y.path ≡ names_of x.path ++ more) × (by_place x y ≡ Less)
   under-names x y e =
       let parts = and_parts (is_some x.file) (stands_under x.path y) e in
-      elim (either (is_below y.path x.path) (is_none y.file && bytes_eq y.path x.path) parts.1) [
+      elim (or_cases (is_below y.path x.path) (is_none y.file && bytes_eq y.path x.path) parts.1) [
         | inl below ↦
             let on = below-names y.path x.path below in
             (parts.0, on.0 ∷ on.1, on.2, rw (on.2, by_names-on (names_of x.path) on.0 on.1) refl)
@@ -259,7 +249,7 @@ module _ (xs : List Entry) (up : IsSorted by_place xs) where
         below = y;
         has_file = clash.has_file;
         has_below = (h.at, h.within, get_or_default xs h.at y d h.within);
-        under = both _ _ (and_parts (is_some clash.file.file) (stands_under clash.file.path clash.below) clash.under).0 (subst (λ (path : List ℕ). stands_under path y ≡ true) (sym clash.file_path) (h.under d));
+        under = and_from _ _ (and_parts (is_some clash.file.file) (stands_under clash.file.path clash.below) clash.under).0 (subst (λ (path : List ℕ). stands_under path y ≡ true) (sym clash.file_path) (h.under d));
         file_path = clash.file_path;
         below_path = h.path_is d;
       }

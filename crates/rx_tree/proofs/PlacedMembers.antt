@@ -1,14 +1,10 @@
 -- Members of a list in which items were placed by their paths.
-use Rattle.std.proofs.Common.{◌≡◌, ◌∙◌, ℕ, ◌⊎◌, inl, inr, List, [], ◌∷◌, Ordering, Less, Equal, Greater, nat_cmp, refl, sym, ap, subst}
-use Rattle.std.specs.Ordering.{is_eq, match_ordering}
+use Rattle.std.proofs.Common.{◌≡◌, ◌∙◌, ℕ, ◌⊎◌, inl, inr, List, [], ◌∷◌, Ordering, Less, Equal, Greater, nat_cmp, refl, subst}
+use Rattle.std.specs.Ordering.{match_ordering}
 use Rattle.std.specs.Cmp.Lexicographic.{slice_cmp}
-use Rattle.std.proofs.lemmas.Map.Text.{is_eq-slice_cmp}
-use Rattle.std.proofs.lemmas.Slice.Eq.{bytes_eq-Decides}
 use Rattle.rx_base.proofs.Members.{Among}
 use Rattle.rx_world.specs.Files.{all_placed_by, placed_by}
-
-same_path : (x y : List ℕ) → slice_cmp nat_cmp x y ≡ Equal → x ≡ y
-same_path x y e = (bytes_eq-Decides x y).0 (sym (is_eq-slice_cmp x y) ∙ ap is_eq e)
+use Rattle.rx_tree.proofs.NameOrder.{is_equal}
 
 -- ---- what is there was placed, or was there
 
@@ -48,7 +44,7 @@ module _ {T : Type 0} (path : T → List ℕ) where
     old_case : (o : Ordering) (new item q : T) (items rest : List T) → slice_cmp nat_cmp (path new) (path item) ≡ o → P new → P item → (Among q items → Among q rest) → Among q (item ∷ items)
         → Among q (match_ordering o (new ∷ item ∷ items) (new ∷ items) (item ∷ rest))
     old_case Less new item q items rest e n i h a = inr a
-    old_case Equal new item q items rest e n i h (inl is) = inl (one new item n i (same_path (path new) (path item) e) ∙ is)
+    old_case Equal new item q items rest e n i h (inl is) = inl (one new item n i (is_equal (path new) (path item) e) ∙ is)
     old_case Equal new item q items rest e n i h (inr a) = inr a
     old_case Greater new item q items rest e n i h (inl is) = inl is
     old_case Greater new item q items rest e n i h (inr a) = inr (h a)

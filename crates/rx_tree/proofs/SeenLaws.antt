@@ -2,6 +2,7 @@
 use Rattle.std.proofs.Common.{◌≡◌, ◌≢◌, ◌∙◌, ℕ, zero, suc, ◌≤◌, ◌==◌, ◌&&◌, inl, inr, true, false, not, List, [], ◌∷◌, ◌++◌, length, Option, Some, None, cond, append_assoc, refl, sym, ap, subst, arith}
 use Rattle.std.specs.List.{Contains}
 use Rattle.std.proofs.lemmas.Bool.{and_parts, eqb-true}
+use Rattle.std.proofs.lemmas.List.{nil_from_length}
 use Rattle.std.proofs.lemmas.List.Elements.{Contains-append_cases, Contains-append_left, Contains-append_right}
 use Rattle.rx_base.specs.Paths.{joined}
 use Rattle.rx_base.proofs.ByteLists.{some_bytes}
@@ -168,15 +169,11 @@ files-from (suc most) rs at f h =
 
 -- ---- directories without entries
 
-no_items : {A : Type 0} (xs : List A) → (length xs == 0) ≡ true → xs ≡ []
-no_items [] e = refl
-no_items (x ∷ xs) e = let none : length (x ∷ xs) ≡ 0 = eqb-true (length (x ∷ xs)) 0 e in absurd (omega arith)
-
 pub is_bare-from : (t : Tree) → is_bare (directory_of t) ≡ true → IsBare t
 is_bare-from t e =
     let first = and_parts (length (file_nodes t) == 0) (length (directory_nodes t) == 0 && true) e in
     let second = and_parts (length (directory_nodes t) == 0) true first.1 in
-    (no_items (file_nodes t) first.0, no_items (directory_nodes t) second.0)
+    (nil_from_length (file_nodes t) (eqb-true _ 0 first.0), nil_from_length (directory_nodes t) (eqb-true _ 0 second.0))
 
 pub bare_path-from : (path : List ℕ) (t : Tree) (p : List ℕ) → Contains (with_bare path (directory_of t) []) p → (is_bare (directory_of t) ≡ true) × (path ≡ p)
 bare_path-from path t p h =

@@ -5,7 +5,7 @@ use Rattle.std.specs.Ordering.{bool_cmp, is_lt}
 use Rattle.std.specs.List.{Contains, count_by}
 use Rattle.std.specs.List.Sorted.{IsPermutation, IsSorted}
 use Rattle.std.specs.Str.{bytes_eq}
-use Rattle.std.proofs.lemmas.Bool.{cases_lt}
+use Rattle.std.proofs.lemmas.Bool.{and_from, cases_lt}
 use Rattle.std.proofs.lemmas.List.{get_or_default}
 use Rattle.std.proofs.lemmas.List.Sorted.{Contains-permutation, IsPermutation-map, IsPermutation-sym, ranks_by, sorted_far}
 use Rattle.rx_base.proofs.Members.{All-members, Contains-head, Contains-later, Contains-from_map}
@@ -17,7 +17,7 @@ use Rattle.rx_tree.specs.Refusals.{IsApart, IsTwice, is_file_at, is_same_file}
 use Rattle.rx_tree.specs.Trees.{Rest, rests, tree, tree_of}
 use Rattle.rx_tree.proofs.Members.{sorted_tail}
 use Rattle.rx_tree.proofs.NamesLemmas.{names_of-same}
-use Rattle.rx_tree.proofs.Neighbours.{both, counted, is_path, same_file-parts, same_or_under, some_count}
+use Rattle.rx_tree.proofs.Neighbours.{counted, is_path, same_file-parts, same_or_under, some_count}
 use Rattle.rx_tree.proofs.RefusalLemmas.{clash-entries, twice-entries}
 use Rattle.rx_tree.proofs.TreeMembers.{HasOneFile, tree_of-members}
 
@@ -38,7 +38,7 @@ two_here p x xs y c e f =
     omega arith
 
 same_twice : (x y : Entry) → is_same_file x y ≡ true → (is_file_at x.path x ≡ true) × (is_file_at x.path y ≡ true)
-same_twice x y e = let parts = same_file-parts x y e in (both (is_some x.file) (bytes_eq x.path x.path) parts.0 (is_path x.path x.path refl), both (is_some y.file) (bytes_eq y.path x.path) parts.1 (is_path y.path x.path (sym parts.2)))
+same_twice x y e = let parts = same_file-parts x y e in (and_from (is_some x.file) (bytes_eq x.path x.path) parts.0 (is_path x.path x.path refl), and_from (is_some y.file) (bytes_eq y.path x.path) parts.1 (is_path y.path x.path (sym parts.2)))
 
 apart_tail : (x : Entry) (xs : List Entry) → IsApart (x ∷ xs) → IsApart xs
 apart_tail x xs h = record {
@@ -130,8 +130,8 @@ one_file xs h a b c d e f g =
     let path : x.0.path ≡ y.0.path = names_of-same x.0.path y.0.path names in
     let x_some : is_some x.0.file ≡ true = ap (λ (r : Rest). is_some r.file) x.2 ∙ f in
     let y_some : is_some y.0.file ≡ true = ap (λ (r : Rest). is_some r.file) y.2 ∙ g in
-    let same = same_entry xs x.0.path (h.once x.0.path) x.0 y.0 x.1 y.1 (both (is_some x.0.file) (bytes_eq x.0.path x.0.path) x_some (is_path x.0.path x.0.path refl))
-    (both (is_some y.0.file) (bytes_eq y.0.path x.0.path) y_some (is_path y.0.path x.0.path (sym path))) in
+    let same = same_entry xs x.0.path (h.once x.0.path) x.0 y.0 x.1 y.1 (and_from (is_some x.0.file) (bytes_eq x.0.path x.0.path) x_some (is_path x.0.path x.0.path refl))
+    (and_from (is_some y.0.file) (bytes_eq y.0.path x.0.path) y_some (is_path y.0.path x.0.path (sym path))) in
     sym (ap (λ (r : Rest). r.file) x.2) ∙ ap (λ (z : Entry). z.file) same ∙ ap (λ (r : Rest). r.file) y.2
 
 -- ---- sorted entries

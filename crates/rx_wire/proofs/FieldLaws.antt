@@ -195,7 +195,7 @@ pub Reads-if : {X : Type 0} (all : List ℕ) (at : ℕ) (view : X → Placed) (r
 Reads-if all at view (Ok x) h e = field_stands all at (view x) h e
 Reads-if all at view (Err fault) h e = tt
 
-Spells-some : (text : List ℕ) (n : ℕ) → Spells text n → 0 < length text
+pub Spells-some : (text : List ℕ) (n : ℕ) → Spells text n → 0 < length text
 Spells-some [] n s = absurd s
 Spells-some (b ∷ text) n s = omega arith
 

@@ -1,28 +1,6 @@
--- Members of a list, by recursion.
-use Rattle.std.proofs.Common.{◌≡◌, ℕ, zero, suc, ◌<◌, ◌⊎◌, inl, inr, Bool, true, false, cond, List, [], ◌∷◌, ◌++◌, filter, map, length, get_or, refl, sym, ap, subst, arith}
-use Rattle.std.specs.List.{AllByRecursion, Contains}
-
-abbrev pub Among : {K : Type 0} → K → List K → Type 0
-Among q [] = ⊥
-Among q (x ∷ xs) = (x ≡ q) ⊎ Among q xs
-
-among_at : {K : Type 0} (q : K) (xs : List K) (k : ℕ) → k < length xs → get_or xs k q ≡ q → Among q xs
-among_at q [] k lt e = absurd (omega arith)
-among_at q (x ∷ xs) zero lt e = inl e
-among_at q (x ∷ xs) (suc k) lt e = inr (among_at q xs k (omega arith) e)
-
-pub among-from : {K : Type 0} (q : K) (xs : List K) → Contains xs q → Among q xs
-among-from q xs c = among_at q xs c.0 c.1 c.2
-
-pub contains-from : {K : Type 0} (q : K) (xs : List K) → Among q xs → Contains xs q
-contains-from q [] a = absurd a
-contains-from q (x ∷ xs) (inl e) = (0, omega arith, e)
-contains-from q (x ∷ xs) (inr a) = let c = contains-from q xs a in (suc c.0, omega (arith, c.1), c.2)
-
-pub all-among : {K : Type 0} (P : K → Type 0) (q : K) (xs : List K) → AllByRecursion P xs → Among q xs → P q
-all-among P q [] all a = absurd a
-all-among P q (x ∷ xs) all (inl e) = subst P e all.0
-all-among P q (x ∷ xs) all (inr a) = all-among P q xs all.1 a
+-- Members of a list by recursion, after a filter, a map and an append.
+use Rattle.std.proofs.Common.{◌≡◌, ◌⊎◌, inl, inr, Bool, true, false, cond, List, [], ◌∷◌, ◌++◌, filter, map, refl, ap, subst}
+use Rattle.rx_base.proofs.Members.{Among}
 
 among-kept_case : {K : Type 0} (b : Bool) (q x : K) (xs : List K) → Among q xs → Among q (cond b (x ∷ xs) xs)
 among-kept_case true q x xs a = inr a

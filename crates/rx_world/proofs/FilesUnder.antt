@@ -18,7 +18,8 @@ use Rattle.rx_world.specs.declared.sources.SourceEntry.{SourceEntry}
 use Rattle.rx_world.specs.Answers.{IsAnswerOf}
 use Rattle.rx_world.specs.Files.{first_placed_by, placed_by}
 use Rattle.rx_world.specs.Sources.{Lists, entry_at, files_under, given_all, given_look, is_file}
-use Rattle.rx_world.proofs.Among.{Among, all-among, among-filter, among-from_filter}
+use Rattle.rx_base.proofs.Members.{All-among, Among}
+use Rattle.rx_world.proofs.Among.{among-filter, among-from_filter}
 
 abbrev path_of : SourceEntry → List ℕ
 path_of entry = entry.path

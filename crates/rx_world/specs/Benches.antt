@@ -1,8 +1,11 @@
 -- What the calls of a bench do to what it tells.
-use Rattle.std.specs.Prelude.{◌≡◌, ℕ, Bool, List, [], ◌∷◌, ◌++◌, Option, None, Some, IfSome, pos}
+use Rattle.std.specs.Prelude.{◌≡◌, ℕ, Bool, List, [], ◌∷◌, ◌++◌, MatchResult, Option, None, Result, Some, IfSome, pos}
 use Rattle.rx_base.specs.Told.{Told}
+use Rattle.rx_world.specs.declared.attempts.BenchStep.{BenchStep}
 use Rattle.rx_world.specs.declared.benches.BenchRun.{BenchRun}
 use Rattle.rx_world.specs.declared.commands.Command.{Command}
+use Rattle.rx_world.specs.declared.failures.Refused.{Refused}
+use Rattle.rx_world.specs.declared.failures.Refused.TheVariants.{Failed, NoMemory}
 use Rattle.rx_world.specs.declared.outcomes.Exit.{Exit}
 use Rattle.rx_world.specs.declared.outcomes.FileOut.{FileOut}
 use Rattle.rx_world.specs.declared.outcomes.Outcome.{Outcome}
@@ -38,9 +41,23 @@ RunsTool tool command old new exit = Told old new (λ tree held. IsToolRun tool 
 abbrev pub Takes : Option Tree → List ℕ → Option FileOut → Type 0
 Takes told path file = IfSome told (λ tree. file ≡ file_at path tree.files)
 
+-- a call that fails leaves its step as the one that failed last, and any other call leaves what was
+abbrev pub FailsAt : {T E : Type 0} → BenchStep → Option BenchStep → Option BenchStep → Result T E → Type 0
+FailsAt step old new result = MatchResult result (λ _. new ≡ old) (λ _. new ≡ Some step)
+
+-- the step that failed last, after a call of this step that is refused
+abbrev pub refused_at : BenchStep → Option BenchStep → Refused → Option BenchStep
+refused_at step old Failed = Some step
+refused_at step old NoMemory = old
+
+-- the same of a call that may be refused for want of memory
+abbrev pub IsRefusedAt : {T : Type 0} → BenchStep → Option BenchStep → Option BenchStep → Result T Refused → Type 0
+IsRefusedAt step old new result = MatchResult result (λ _. new ≡ old) (λ refused. new ≡ refused_at step old refused)
+
 -- an empty bench without faults, which tells its tree in an honest world
-pub record IsFresh (honest : Type 0) (tree : Option Tree) (runs : Option (List BenchRun)) (faults : ℕ) : Type 0 where
+pub record IsFresh (honest : Type 0) (tree : Option Tree) (runs : Option (List BenchRun)) (faults : ℕ) (failed : Option BenchStep) : Type 0 where
   pub no_faults : faults ≡ 0
+  pub no_failure : failed ≡ None
   pub empty : IfSome tree (λ held. held ≡ empty_tree)
   pub tells : honest → tree ≡ Some empty_tree
   pub no_runs : IfSome runs (λ before. (before ≡ []) × (tree ≡ Some empty_tree))

@@ -1,10 +1,11 @@
 //! Benches: places in which a command runs once, over a tree of its own.
 
 ghost use Rattle.std.specs.Prelude.{◌≡◌, ◌<◌, ◌≤◌, ℕ, List, Option, IfOk, OnOk, OnErr, IfSome};
+ghost use Rattle.rx_world.specs.declared.attempts.BenchStep.{BenchStep};
 ghost use Rattle.rx_world.specs.declared.benches.BenchRun.{BenchRun};
 ghost use Rattle.rx_world.specs.declared.failures.Refused.TheVariants.{Failed as failed};
 ghost use Rattle.rx_world.specs.declared.trees.Tree.{Tree};
-ghost use Rattle.rx_world.specs.Benches.{IsFresh, Makes, Puts, Returns, Runs, RunsTool, Takes};
+ghost use Rattle.rx_world.specs.Benches.{FailsAt, IsFresh, IsRefusedAt, Makes, Puts, Returns, Runs, RunsTool, Takes};
 ghost use Rattle.rx_world.specs.Causes.{HasCause, HasCauseOf, Rose};
 
 use crate::{Command, Exit, Failed, FileOut, Refused, Tree, World};
@@ -29,10 +30,14 @@ pub trait Bench<W: World> {
     /// How often a call failed.
     ghost faults: { Self → ℕ };
 
+    /// The step of the last call that failed, if one did. Want of memory is no such failure.
+    ghost failed_at: { Self → Option BenchStep };
+
     /// Makes a directory, and those above it that are missing.
     fn make_dir(&mut self, path: &RelPath) -> Result<(), Failed>
         ensures made { OnOk result (Makes (tree self.old) (tree self.new) path.now) }
         ensures runs { runs self.new ≡ runs self.old }
+        ensures step { FailsAt BenchStep.MakeDir (failed_at self.old) (failed_at self.new) result }
         ensures cause { HasCause (faults self.old) (faults self.new) result };
 
     /// Puts a file there, and makes the directories above it that are missing.
@@ -40,6 +45,7 @@ pub trait Bench<W: World> {
         ensures put { OnOk result
             (Puts (tree self.old) (tree self.new) path.now bytes.now executable) }
         ensures runs { runs self.new ≡ runs self.old }
+        ensures step { FailsAt BenchStep.Put (failed_at self.old) (failed_at self.new) result }
         ensures cause { HasCause (faults self.old) (faults self.new) result };
 
     /// Runs the command in the tree once, and answers how it ended.
@@ -49,6 +55,7 @@ pub trait Bench<W: World> {
             (Runs (tree self.old) (runs self.old) (runs self.new) command.now) }
         ensures honest { IfOk result (λ exit. W.tools_honest →
             RunsTool W.tool command.now (tree self.old) (tree self.new) exit) }
+        ensures step { IsRefusedAt BenchStep.Run (failed_at self.old) (failed_at self.new) result }
         ensures cause { HasCauseOf failed (faults self.old) (faults self.new) result };
 
     /// The file at a path, where a regular file is there.
@@ -57,6 +64,7 @@ pub trait Bench<W: World> {
         ensures path { IfOk result (λ file. IfSome file (λ f. f.path ≡ path.now)) }
         ensures same { tree self.new ≡ tree self.old }
         ensures runs { runs self.new ≡ runs self.old }
+        ensures step { IsRefusedAt BenchStep.Take (failed_at self.old) (failed_at self.new) result }
         ensures cause { HasCauseOf failed (faults self.old) (faults self.new) result };
 }
 
@@ -73,7 +81,8 @@ pub trait BenchMaker<W: World> {
     /// A new bench, whose tree is empty.
     fn make(&mut self) -> Result<Self::B, Failed>
         ensures fresh { IfOk result (λ bench.
-            IsFresh W.tools_honest (Self.B.tree bench) (Self.B.runs bench) (Self.B.faults bench)) }
+            IsFresh W.tools_honest (Self.B.tree bench) (Self.B.runs bench) (Self.B.faults bench)
+            (Self.B.failed_at bench)) }
         ensures returned { returned self.new ≡ returned self.old }
         ensures cause { HasCause (faults self.old) (faults self.new) result };
 

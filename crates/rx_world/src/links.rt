@@ -2,6 +2,7 @@
 
 ghost use Rattle.std.specs.Prelude.{◌≡◌, ◌||◌, ℕ, Bool, [], List, Option, IfOk, length};
 ghost use Rattle.std.specs.Io.{ReadsAtMost, WritesAtMost};
+ghost use Rattle.rx_world.specs.declared.versions.Dialect.{Dialect};
 ghost use Rattle.rx_world.specs.Causes.{HasCause};
 ghost use Rattle.rx_world.specs.Links.{Goes, IsNew, Meets, SameRule, Wire, is_end, received_by, sent_by};
 
@@ -44,10 +45,13 @@ pub trait Link {
 
 /// Makes connections to one farm.
 pub trait Dial {
-    type L: Link + Send + Drop;
+    type L: Link + Drop;
 
     /// What the bytes of each of its links meet. No call changes it.
     ghost rule: { Self → List ℕ → List ℕ → Type 0 };
+
+    /// Where its farm looks for the outputs of a Command.
+    ghost dialect: { Dialect };
 
     /// How often a call failed.
     ghost faults: { Self → ℕ };

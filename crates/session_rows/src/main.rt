@@ -30,6 +30,7 @@ impl Calls for Session {
         let alloc = self.alloc;
         match row.word()? {
             b"request" => requests::answer_request(alloc, row, answer),
+            b"shutdown" => requests::answer_shutdown(answer),
             b"taken" => requests::answer_taken(alloc, row, answer),
             b"command" => requests::answer_command(alloc, row, answer),
             b"inputs" => requests::answer_inputs(alloc, row, answer),

@@ -5,7 +5,10 @@ use crate::streams::read_script;
 use rx_base::{RelPath, Text};
 use rx_fakes::{MemorySource, Script};
 use rx_rows::{Answer, Row, RowFault};
-use rx_session::{Request, SessionFault, command_for, declared_inputs, read_request};
+use rx_session::{
+    Incoming, Request, SHUTDOWN, SHUTDOWN_DONE, SessionFault, command_for, declared_inputs,
+    read_incoming,
+};
 use rx_world::Pair;
 use std::alloc::{AllocError, Global};
 
@@ -16,10 +19,10 @@ fn read(
     frame: Vec<u8>,
     script: Script,
     all: &mut Vec<u8>,
-) -> Result<Request, SessionFault> {
+) -> Result<Incoming, SessionFault> {
     let mut source = MemorySource::new(frame, script);
     source.most = 1;
-    read_request(alloc, &mut source, "/r", all)
+    read_incoming(alloc, &mut source, "/r", all)
 }
 
 /// The request that a frame is.
@@ -27,12 +30,12 @@ fn asked(alloc: Global, row: &mut Row<'_>) -> Result<Request, RowFault> {
     let frame = read_frame(alloc, row)?;
     let mut all = Vec::new(alloc);
     match read(alloc, frame, Script::empty(alloc), &mut all) {
-        Ok(request) => Ok(request),
-        Err(_) => Err(RowFault::BadCall),
+        Ok(Incoming::Request(request)) => Ok(request),
+        Ok(Incoming::Shutdown) | Err(_) => Err(RowFault::BadCall),
     }
 }
 
-/// `request FAILS FRAME`: how many bytes were read, and the request or the fault.
+/// `request FAILS FRAME`: how many bytes were read, and the request, `Shutdown` or the fault.
 pub(crate) fn answer_request(
     alloc: Global,
     row: &mut Row<'_>,
@@ -41,9 +44,13 @@ pub(crate) fn answer_request(
     let script = read_script(alloc, row)?;
     let frame = read_frame(alloc, row)?;
     let mut all = Vec::new(alloc);
-    let request = read(alloc, frame, script, &mut all);
+    let incoming = read(alloc, frame, script, &mut all);
     answer.number(all.len() as u64)?;
-    write_result(&request, answer)?;
+    match incoming {
+        Ok(Incoming::Request(request)) => write_request(&request, answer)?,
+        Ok(Incoming::Shutdown) => answer.word("Shutdown")?,
+        Err(fault) => write_fault(&fault, answer)?,
+    }
     Ok(())
 }
 
@@ -55,9 +62,16 @@ pub(crate) fn answer_taken(
 ) -> Result<(), RowFault> {
     let frame = read_frame(alloc, row)?;
     let mut all = Vec::from_slice(alloc, b"before")?;
-    let request = read(alloc, frame, Script::empty(alloc), &mut all);
-    answer.value(&request.is_ok())?;
+    let incoming = read(alloc, frame, Script::empty(alloc), &mut all);
+    answer.value(&incoming.is_ok())?;
     answer.bytes(&all)?;
+    Ok(())
+}
+
+/// `shutdown`: the frame that asks the proxy to end, and the one that answers it.
+pub(crate) fn answer_shutdown(answer: &mut Answer) -> Result<(), RowFault> {
+    answer.bytes(&SHUTDOWN)?;
+    answer.bytes(&SHUTDOWN_DONE)?;
     Ok(())
 }
 

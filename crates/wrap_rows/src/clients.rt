@@ -7,7 +7,6 @@ use rx_base::{Bytes, Text};
 use rx_client::{Invocation, Wrapped, wrap};
 use rx_fakes::{MemorySink, Script};
 use rx_rows::{Answer, Row, RowFault};
-use rx_world::Pair;
 use std::alloc::{AllocError, Global};
 use std::collections::VecDeque;
 use std::mem::replace;
@@ -87,18 +86,26 @@ impl Scene {
         let variables = read_variables(alloc, row)?;
         let words = read_texts(alloc, row)?;
         let scene = replace(self, Scene::new(alloc));
-        run(scene, &directory, &variables, &words, answer)
+        let invocation = Invocation {
+            words: &words,
+            environment: &variables,
+            directory: directory.as_str(),
+        };
+        run(scene, &invocation, answer)
     }
 }
 
-/// Runs a client in a scene.
-fn run(
-    scene: Scene,
-    directory: &Text,
-    variables: &[Pair],
-    words: &[Text],
-    answer: &mut Answer,
-) -> Result<(), RowFault> {
+/// The outside of one client.
+#[derive(Debug, Drop)]
+struct Outside {
+    configs: MemoryConfigs,
+    connect: MemoryConnect,
+    out: MemorySink,
+    err: MemorySink,
+}
+
+/// The outside that a scene makes.
+fn outside_of(scene: Scene) -> Outside {
     let Scene {
         alloc,
         file,
@@ -110,36 +117,39 @@ fn run(
         Some(file) => file,
         None => (Text::new(alloc), Bytes::new(alloc)),
     };
-    let mut configs = MemoryConfigs {
-        alloc,
-        path,
-        bytes,
-        script: Script::empty(alloc),
-    };
-    let mut connect = MemoryConnect {
-        alloc,
-        ahead: proxies,
-        back: Some(Vec::new(alloc)),
-        called: Some(Vec::new(alloc)),
-        script: Script::empty(alloc),
-    };
-    let mut out = MemorySink::new(alloc, Script::new(out_fails));
-    let mut err = MemorySink::new(alloc, Script::new(err_fails));
-    let invocation = Invocation {
-        words,
-        environment: variables,
-        directory: directory.as_str(),
-    };
+    Outside {
+        configs: MemoryConfigs {
+            alloc,
+            path,
+            bytes,
+            script: Script::empty(alloc),
+        },
+        connect: MemoryConnect {
+            alloc,
+            ahead: proxies,
+            back: Some(Vec::new(alloc)),
+            called: Some(Vec::new(alloc)),
+            script: Script::empty(alloc),
+        },
+        out: MemorySink::new(alloc, Script::new(out_fails)),
+        err: MemorySink::new(alloc, Script::new(err_fails)),
+    }
+}
+
+/// Runs a client in a scene.
+fn run(scene: Scene, invocation: &Invocation<'_>, answer: &mut Answer) -> Result<(), RowFault> {
+    let alloc = scene.alloc;
+    let mut outside = outside_of(scene);
     let wrapped = wrap(
         alloc,
-        &invocation,
-        &mut configs,
-        &mut connect,
-        &mut out,
-        &mut err,
+        invocation,
+        &mut outside.configs,
+        &mut outside.connect,
+        &mut outside.out,
+        &mut outside.err,
     );
-    write_wrapped(&wrapped, &out, &err, answer)?;
-    write_connections(&connect, answer)?;
+    write_wrapped(&wrapped, &outside.out, &outside.err, answer)?;
+    write_connections(&outside.connect, answer)?;
     Ok(())
 }
 

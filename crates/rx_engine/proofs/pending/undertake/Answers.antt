@@ -1,17 +1,28 @@
 use Rattle.std.proofs.Common.{refl}
-use Rattle.rx_engine.proofs.PendingLemmas.{pending-refusal, pending-request}
+use Rattle.rx_engine.proofs.PendingLemmas.{pending-end, pending-refusal, pending-request}
 use Rattle.rx_engine.proofs.pending.undertake.Goals as goal
 
-pub returns-in-Ok : goal.returns-in-Ok
-returns-in-Ok g c =
+pub returns-in-Ok-Request : goal.returns-in-Ok-Request
+returns-in-Ok-Request g c =
     let read = c.read_asked.ensures in
     let made = c.answer-stage.ensures in
-    pending-request _ _ _ _ _ _ _ _ _ c.args.root.now c.args.parts c.answer-stage.result.1 c.read_asked.new.source c.from_vec.result c.in-Ok.request c.answer-stage.result.0
-    made.input made.output (rw c.from_vec.ensures read.read) (rw c.from_vec.ensures (rw c.in-Ok.is at read.request)) (rw c.in-Ok.is at read.end) read.later made.answered made.later
+    let found = c.in-Ok-Request in
+    pending-request _ _ _ _ _ _ _ _ _ c.args.root.now c.args.parts c.answer-stage.result.1 c.read_asked.new.source c.from_vec.result c.in-Ok-Request.request c.answer-stage.result.0
+    made.input made.output (rw c.from_vec.ensures read.read) (rw c.from_vec.ensures (rw (found.is, found.field-0-is) at read.incoming))
+    (rw (found.is, found.field-0-is) at read.end) read.later made.answered made.later
+
+pub returns-in-Ok-Shutdown : goal.returns-in-Ok-Shutdown
+returns-in-Ok-Shutdown g c =
+    let read = c.read_asked.ensures in
+    let found = c.in-Ok-Shutdown in
+    rw c.unasked.ensures
+    (pending-end _ _ _ _ _ _ _ _ _ c.args.root.now c.args.parts c.read_asked.new.source c.read_asked.new.read.items c.end_of_run.result
+    read.read (rw (found.is, found.field-0-is) at read.incoming) read.reach read.later c.end_of_run.ensures)
 
 pub returns-in-Err : goal.returns-in-Err
 returns-in-Err g c =
     let read = c.read_asked.ensures in
-    pending-refusal _ _ _ _ _ _ _ _ _ c.args.root.now c.args.parts c.read_asked.new.source c.from_vec-in-Err.result c.in-Err.fault c.refusal.result
-    (rw c.from_vec-in-Err.ensures read.read) (rw c.from_vec-in-Err.ensures (rw c.in-Err.is at read.request)) (rw c.in-Err.is at read.end) read.later
-    (λ e. read.failed (rw (c.in-Err.is, e) refl)) c.refusal.ensures
+    rw c.unasked-in-Err.ensures
+    (pending-refusal _ _ _ _ _ _ _ _ _ c.args.root.now c.args.parts c.read_asked.new.source c.read_asked.new.read.items c.in-Err.fault c.refusal.result
+    read.read (rw c.in-Err.is at read.incoming) (rw c.in-Err.is at read.end) read.later
+    (λ e. read.failed (rw (c.in-Err.is, e) refl)) c.refusal.ensures)

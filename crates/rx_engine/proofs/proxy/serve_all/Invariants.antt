@@ -1,6 +1,6 @@
-use Rattle.std.proofs.Common.{◌≡◌, ◌≤◌, length}
+use Rattle.std.proofs.Common.{◌≡◌, ◌≤◌, false, length}
 use Rattle.rx_engine.specs.Meanings.{meanings}
-use Rattle.rx_engine.specs.Proxy.{Runs}
+use Rattle.rx_engine.specs.Proxy.{Runs, is_asked_to_end}
 use Rattle.rx_engine.specs.Serves.{Serves}
 use Rattle.rx_engine.proofs.proxy.serve_all.Given as goal
 
@@ -14,6 +14,7 @@ invariant-loop-served g l =
           (Serves (meanings g.W.World g.F.D.I.Source g.F.D.O.Sink g.F.D.T.Sources g.F.D.L.Sources g.F.D.B.BenchMaker g.F.D.B.B.Bench g.F.D.R.Sources g.F.D.C.Caller)
           g.F.D.Desk.parts l.fn.shared.root l.fn.shared.board.limit)
           l.fn.shared.board.journal l.shared.board.journal (place l.fn.shared.board.place) (place l.shared.board.place) l.desks.items l.transcripts.items;
+      unasked : is_asked_to_end l.transcripts.items ≡ false;
       served_is : l.served ≡ length l.transcripts.items;
       later : faults l.fn.front ≤ faults l.front;
       root : l.shared.root ≡ l.fn.shared.root;

@@ -4,11 +4,11 @@ use Rattle.rx_engine.proofs.sessions.serve_session.Goals as goal
 
 pub returns-clause-session : goal.returns-clause-session
 returns-clause-session g c =
-    rw c.unite.ensures (c.conclude-transcript.ensures.concluded.own _ _ (rw (c.as_str.ensures, c.split.ensures) at c.undertake-pending.ensures))
+    rw c.unite.ensures (c.conclude-transcript.ensures.concluded.own _ _ c.undertake_alone-pending.ensures)
 
 pub returns-clause-journal : goal.returns-clause-journal
 returns-clause-journal g c =
-    c.conclude-transcript.ensures.concluded.journal _ _ (rw (c.as_str.ensures, c.split.ensures) at c.undertake-pending.ensures)
+    c.conclude-transcript.ensures.concluded.journal _ _ c.undertake_alone-pending.ensures
 
 pub returns-clause-clean : goal.returns-clause-clean
 returns-clause-clean g c bytes asked entries honest =

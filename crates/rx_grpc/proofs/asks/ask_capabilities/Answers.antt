@@ -4,4 +4,4 @@ use Rattle.rx_grpc.proofs.CallerLemmas.{unheard}
 use Rattle.rx_grpc.proofs.asks.ask_capabilities.Goals as goal
 
 pub returns-in_default : goal.returns-in_default
-returns-in_default g c = unheard g.D.Dial.faults g.D.L.Link (asks_capabilities c.args.instance.now) c.args.channel.now _ (λ other. absurd (other refl))
+returns-in_default g c = unheard g.D.Dial.faults g.D.Dial.rule g.D.L.Link (asks_capabilities c.args.instance.now) c.args.channel.now _ (λ other. absurd (other refl))

@@ -4,4 +4,4 @@ use Rattle.rx_grpc.proofs.CallerLemmas.{unheard}
 use Rattle.rx_grpc.proofs.asks.ask_result.Goals as goal
 
 pub returns-in_default : goal.returns-in_default
-returns-in_default g c = unheard g.D.Dial.faults g.D.L.Link (asks_result c.args.instance.now c.args.action.now) c.args.channel.now _ (λ other. absurd (other refl))
+returns-in_default g c = unheard g.D.Dial.faults g.D.Dial.rule g.D.L.Link (asks_result c.args.instance.now c.args.action.now) c.args.channel.now _ (λ other. absurd (other refl))

@@ -4,7 +4,7 @@ use Rattle.rx_grpc.proofs.CallerLemmas.{unheard}
 use Rattle.rx_grpc.proofs.asks.ask_update.Goals as goal
 
 pub returns-in_default : goal.returns-in_default
-returns-in_default g c = unheard g.D.Dial.faults g.D.L.Link (asks_update c.args.instance.now c.args.blobs.now) c.args.channel.now _ (λ other. absurd (other refl))
+returns-in_default g c = unheard g.D.Dial.faults g.D.Dial.rule g.D.L.Link (asks_update c.args.instance.now c.args.blobs.now) c.args.channel.now _ (λ other. absurd (other refl))
 
 pub returns-in_default-update_question : goal.returns-in_default-update_question
-returns-in_default-update_question g c = unheard g.D.Dial.faults g.D.L.Link (asks_update c.args.instance.now c.args.blobs.now) c.args.channel.now _ (λ other. absurd (other refl))
+returns-in_default-update_question g c = unheard g.D.Dial.faults g.D.Dial.rule g.D.L.Link (asks_update c.args.instance.now c.args.blobs.now) c.args.channel.now _ (λ other. absurd (other refl))

@@ -7,6 +7,7 @@ pub returns-in-Some-clause-attempted : goal.returns-in-Some-clause-attempted
 returns-in-Some-clause-attempted g c = record {
   made = None;
   returned = refl;
+  failed = tt;
   on = ends-unbegun _ _ _ _ _ _;
   later = omega arith;
   counted = tt;

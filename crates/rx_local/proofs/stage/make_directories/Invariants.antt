@@ -8,5 +8,6 @@ abbrev pub invariant-loop-path : goal.invariant-loop-path
 invariant-loop-path g l = record {
   tree : Told (g.B.Bench.tree l.fn.bench) (g.B.Bench.tree l.bench) (λ x y. tree_with_directories (drop l.path-index l.directories) y ≡ tree_with_directories l.directories x);
   runs : g.B.Bench.runs l.bench ≡ g.B.Bench.runs l.fn.bench;
+  failed : g.B.Bench.failed_at l.bench ≡ g.B.Bench.failed_at l.fn.bench;
   later : g.B.Bench.faults l.fn.bench ≤ g.B.Bench.faults l.bench;
 }

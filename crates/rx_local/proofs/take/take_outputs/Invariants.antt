@@ -1,5 +1,5 @@
 use Rattle.std.proofs.Common.{◌≡◌, ◌≤◌, ◌++◌, drop, map}
-use Rattle.std.specs.Prelude.{IfSome}
+use Rattle.std.specs.Prelude.{IfSome, None}
 use Rattle.rx_world.specs.Files.{cut_files}
 use Rattle.rx_local.specs.Local.{first_missing}
 use Rattle.rx_local.proofs.take.take_outputs.Given as goal
@@ -14,5 +14,6 @@ invariant-loop-path g l =
       missing : IfSome (g.B.Bench.tree l.fn.bench) (λ tree. first_missing left tree.files ≡ first_missing l.outputs tree.files);
       same : g.B.Bench.tree l.bench ≡ g.B.Bench.tree l.fn.bench;
       runs : g.B.Bench.runs l.bench ≡ g.B.Bench.runs l.fn.bench;
+      failed : g.B.Bench.failed_at l.fn.bench ≡ None → g.B.Bench.failed_at l.bench ≡ None;
       later : g.B.Bench.faults l.fn.bench ≤ g.B.Bench.faults l.bench;
     }

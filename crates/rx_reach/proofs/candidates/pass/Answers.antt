@@ -6,7 +6,7 @@ use Rattle.rx_base.specs.Paths.{parts, with_parts, with_text}
 use Rattle.rx_reach.specs.declared.candidates.Step.{Step}
 use Rattle.rx_reach.specs.Candidates.{names_of, steps}
 use Rattle.rx_reach.proofs.PassLemmas.{lacks-at, short-more, part-leads, part-long, part-names, part-steps}
-use Rattle.rx_reach.proofs.WayLemmas.{parts-lack, parts-no_slash}
+use Rattle.rx_base.proofs.PathParts.{parts-lack, parts-no_slash}
 use Rattle.rx_reach.proofs.candidates.pass.Goals as goal
 
 pub loop-part-init : goal.loop-part-init

@@ -1,0 +1,149 @@
+//! How an attempt of a session that lost its race is told to wait no longer: for its connection to the farm, or for
+//! the program that it runs.
+
+use crate::calls::Call;
+use std::alloc::{AllocError, Global};
+use std::io;
+use std::io::Error;
+use std::net::{Shutdown, TcpStream};
+use std::process::Output;
+use std::sync::atomic::{AtomicBool, Ordering};
+use std::sync::{Arc, Mutex, Wait};
+
+/// A run of a program.
+pub(crate) type Run = Call<io::Result<Output>>;
+
+/// A connection that is being made.
+pub(crate) type Connecting = Call<io::Result<TcpStream>>;
+
+/// What a session waits for.
+#[derive(Drop)]
+struct Waits {
+    connecting: Option<Arc<Connecting, Global>>,
+    /// Another handle of the connection to the farm.
+    connection: Option<TcpStream>,
+    run: Option<Arc<Run, Global>>,
+}
+
+/// What is halted, and the waits that this ends. A mark is set before the lock is taken, and read under it, so that no wait
+/// begins unseen.
+#[derive(Drop)]
+struct Marks {
+    is_farm_halted: AtomicBool,
+    are_runs_halted: AtomicBool,
+    waits: Mutex<Waits>,
+}
+
+/// What the parts of one session share, by which its waits are ended from another thread.
+#[derive(Drop)]
+pub struct Halting {
+    marks: Arc<Marks, Global>,
+}
+
+impl Halting {
+    /// Nothing is halted yet.
+    pub fn new(alloc: Global) -> Result<Halting, AllocError> {
+        let marks = Marks {
+            is_farm_halted: AtomicBool::new(false),
+            are_runs_halted: AtomicBool::new(false),
+            waits: Mutex::new(Waits {
+                connecting: None,
+                connection: None,
+                run: None,
+            }),
+        };
+        Ok(Halting {
+            marks: Arc::new(alloc, marks)?,
+        })
+    }
+
+    /// Another handle of the same.
+    pub fn share(&self) -> Result<Halting, AllocError> {
+        Ok(Halting {
+            marks: Arc::try_clone(&self.marks)?,
+        })
+    }
+
+    /// Ends the connection to the farm, and lets no other one be made.
+    pub fn halt_farm(&self, hands: &impl Wait) {
+        self.marks.is_farm_halted.store(true, Ordering::SeqCst);
+        let mut waits = self.marks.waits.lock(hands);
+        if let Some(connecting) = waits.connecting.take() {
+            connecting.leave();
+        }
+        if let Some(connection) = waits.connection.take() {
+            let _ = connection.shutdown(Shutdown::Both);
+        }
+    }
+
+    /// Ends the wait for the program that runs, and lets no other one be started. The program itself runs on.
+    pub fn halt_runs(&self, hands: &impl Wait) {
+        self.marks.are_runs_halted.store(true, Ordering::SeqCst);
+        let mut waits = self.marks.waits.lock(hands);
+        if let Some(run) = waits.run.take() {
+            run.leave();
+        }
+    }
+
+    /// Lets go of the connection to the farm, so that it isn't kept open from here.
+    pub(crate) fn let_go_of_farm(&self, hands: &impl Wait) {
+        self.marks.waits.lock(hands).connection = None;
+    }
+
+    /// Whether the farm was halted.
+    pub(crate) fn is_farm_halted(&self) -> bool {
+        self.marks.is_farm_halted.load(Ordering::SeqCst)
+    }
+
+    /// Whether the runs were halted.
+    pub(crate) fn are_runs_halted(&self) -> bool {
+        self.marks.are_runs_halted.load(Ordering::SeqCst)
+    }
+
+    /// A connection is going to be made.
+    pub(crate) fn begin_connecting(
+        &self,
+        hands: &impl Wait,
+        alloc: Global,
+    ) -> io::Result<Arc<Connecting, Global>> {
+        let connecting = Arc::new(alloc, Connecting::new()).map_err(AllocError::from)?;
+        let mut waits = self.marks.waits.lock(hands);
+        if self.is_farm_halted() {
+            return Err(halted());
+        }
+        waits.connecting = Some(Arc::try_clone(&connecting)?);
+        Ok(connecting)
+    }
+
+    /// This connection was made.
+    pub(crate) fn keep_connection(&self, hands: &impl Wait, stream: &TcpStream) -> io::Result<()> {
+        let connection = stream.try_clone()?;
+        let mut waits = self.marks.waits.lock(hands);
+        waits.connecting = None;
+        if self.is_farm_halted() {
+            return Err(halted());
+        }
+        waits.connection = Some(connection);
+        Ok(())
+    }
+
+    /// A program is going to be run.
+    pub(crate) fn begin_run(
+        &self,
+        hands: &impl Wait,
+        alloc: Global,
+    ) -> io::Result<Arc<Run, Global>> {
+        let run = Arc::new(alloc, Run::new()).map_err(AllocError::from)?;
+        let mut waits = self.marks.waits.lock(hands);
+        if self.are_runs_halted() {
+            return Err(halted());
+        }
+        waits.run = Some(Arc::try_clone(&run)?);
+        Ok(run)
+    }
+}
+
+/// What a call of a halted attempt answers.
+pub(crate) fn halted() -> Error {
+    Error::other("the attempt was halted")
+}

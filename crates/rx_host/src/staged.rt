@@ -1,0 +1,39 @@
+//! Staged directories, each of which is removed when it is no longer used.
+
+use crate::tells::tell;
+use std::alloc::Global;
+use std::fs::Files;
+use std::io::Eprint;
+use std::sync::Arc;
+use std::{fs, io};
+
+/// A directory in which a bench's programs run. Its bench uses it, and so does each program that runs there.
+#[derive(Drop)]
+pub(crate) struct Staged {
+    root: String,
+}
+
+impl Staged {
+    pub(crate) fn new(root: String) -> Staged {
+        Staged { root }
+    }
+}
+
+/// Gives one use of a directory up. With the last one the directory is removed, with all that is in it.
+pub(crate) fn give_up<R: Files + AllocGlobal + Eprint>(
+    rt: &R,
+    staged: Arc<Staged, Global>,
+) -> io::Result<()> {
+    match Arc::into_inner(staged) {
+        Some(last) => remove(rt, last.root.as_str()),
+        None => Ok(()),
+    }
+}
+
+fn remove<R: Files + AllocGlobal + Eprint>(rt: &R, root: &str) -> io::Result<()> {
+    let removed = fs::remove_dir_all(rt, root);
+    if let Err(error) = &removed {
+        tell(rt, "remove", root, error);
+    }
+    removed
+}
