@@ -32,16 +32,16 @@ pub(crate) fn answer_asks(
 /// The call that the next words tell.
 fn read_ask(alloc: Global, row: &mut Row<'_>, names: &mut Names) -> Result<Ask, RowFault> {
     match row.word()? {
-        b"capabilities" => Ok(Ask::Capabilities),
-        b"get_result" => Ok(Ask::GetResult(names.read_digest(row)?)),
-        b"find_missing" => Ok(Ask::FindMissing(names.read_digests(row)?)),
-        b"update" => Ok(Ask::Update(names.read_digests(row)?)),
-        b"write_stream" => Ok(Ask::WriteStream(names.read_digest(row)?)),
-        b"execute" => Ok(Ask::Execute {
+        "capabilities" => Ok(Ask::Capabilities),
+        "get_result" => Ok(Ask::GetResult(names.read_digest(row)?)),
+        "find_missing" => Ok(Ask::FindMissing(names.read_digests(row)?)),
+        "update" => Ok(Ask::Update(names.read_digests(row)?)),
+        "write_stream" => Ok(Ask::WriteStream(names.read_digest(row)?)),
+        "execute" => Ok(Ask::Execute {
             action: names.read_digest(row)?,
             skip_cache: false,
         }),
-        b"wait" => Ok(Ask::Wait(read_name(alloc, row)?)),
+        "wait" => Ok(Ask::Wait(read_name(alloc, row)?)),
         _ => Err(RowFault::BadCall),
     }
 }

@@ -18,8 +18,8 @@ pub(crate) fn answer_dialect(row: &mut Row<'_>, answer: &mut Answer) -> Result<(
 /// `MAJOR MINOR PATCH`, or `none` for a version that isn't told.
 fn read_version(row: &mut Row<'_>) -> Result<Option<SemVer>, RowFault> {
     match row.word()? {
-        b"none" => Ok(None),
-        b"version" => Ok(Some(SemVer {
+        "none" => Ok(None),
+        "version" => Ok(Some(SemVer {
             major: read_part(row)?,
             minor: read_part(row)?,
             patch: read_part(row)?,

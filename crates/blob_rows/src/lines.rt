@@ -27,15 +27,15 @@ pub(crate) fn read_lines(
 /// One line: what a call is answered, or a fault.
 fn read_line(alloc: Global, row: &mut Row<'_>, names: &mut Names) -> Result<ScriptLine, RowFault> {
     match row.word()? {
-        b"says" => read_capabilities(row),
-        b"uncached" => Ok(ScriptLine::Cached(None)),
-        b"lacks" => read_lacks(alloc, row, names),
-        b"stored" => Ok(ScriptLine::Stored),
-        b"blobs" => read_blobs(alloc, row, names),
-        b"changed" => read_changed(alloc, row, names),
-        b"executes" => Ok(ScriptLine::Executes(names.read_digest(row)?)),
-        b"resumes" => Ok(ScriptLine::Resumes(read_name(alloc, row)?)),
-        b"state" => read_state(alloc, row),
+        "says" => read_capabilities(row),
+        "uncached" => Ok(ScriptLine::Cached(None)),
+        "lacks" => read_lacks(alloc, row, names),
+        "stored" => Ok(ScriptLine::Stored),
+        "blobs" => read_blobs(alloc, row, names),
+        "changed" => read_changed(alloc, row, names),
+        "executes" => Ok(ScriptLine::Executes(names.read_digest(row)?)),
+        "resumes" => Ok(ScriptLine::Resumes(read_name(alloc, row)?)),
+        "state" => read_state(alloc, row),
         word => Ok(ScriptLine::Fault(read_fault(word, row, names)?)),
     }
 }
@@ -106,21 +106,21 @@ fn read_changed(
 }
 
 /// A fault, by its name and its numbers.
-fn read_fault(word: &[u8], row: &mut Row<'_>, names: &mut Names) -> Result<CallFault, RowFault> {
+fn read_fault(word: &str, row: &mut Row<'_>, names: &mut Names) -> Result<CallFault, RowFault> {
     match word {
-        b"status" => Ok(CallFault::Status(read_code(row)?)),
-        b"link" => Ok(CallFault::Link),
-        b"protocol" => Ok(CallFault::Protocol(read_code(row)?)),
-        b"compressed" => Ok(CallFault::Compressed),
-        b"too_large" => Ok(CallFault::TooLarge),
-        b"no_status" => Ok(CallFault::NoStatus),
-        b"bad_message" => Ok(CallFault::BadMessage(read_place(row)?)),
-        b"cut" => Ok(CallFault::Cut),
-        b"refused" => {
+        "status" => Ok(CallFault::Status(read_code(row)?)),
+        "link" => Ok(CallFault::Link),
+        "protocol" => Ok(CallFault::Protocol(read_code(row)?)),
+        "compressed" => Ok(CallFault::Compressed),
+        "too_large" => Ok(CallFault::TooLarge),
+        "no_status" => Ok(CallFault::NoStatus),
+        "bad_message" => Ok(CallFault::BadMessage(read_place(row)?)),
+        "cut" => Ok(CallFault::Cut),
+        "refused" => {
             let digest = names.read_digest(row)?;
             Ok(CallFault::BlobRefused(digest, read_code(row)?))
         }
-        b"no_memory" => Ok(CallFault::NoMemory),
+        "no_memory" => Ok(CallFault::NoMemory),
         _ => Err(RowFault::BadCall),
     }
 }

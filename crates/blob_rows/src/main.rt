@@ -28,15 +28,15 @@ struct BlobCalls<'a, R> {
 impl<'a, R: Wait> Calls for BlobCalls<'a, R> {
     fn call(&mut self, row: &mut Row<'_>, answer: &mut Answer) -> Result<(), RowFault> {
         match row.word()? {
-            b"ask" => asks::answer_asks(self.alloc, row, answer),
-            b"batch_limit" => {
+            "ask" => asks::answer_asks(self.alloc, row, answer),
+            "batch_limit" => {
                 answer.number(batch_limit(row.number()?))?;
                 Ok(())
             }
-            b"copies" => copies::answer_copies(self.rt, self.alloc, row, answer),
-            b"dialect" => dialects::answer_dialect(row, answer),
-            b"fetch" => fetches::answer_fetch(self.alloc, row, answer),
-            b"upload" => uploads::answer_upload(self.rt, self.alloc, row, answer),
+            "copies" => copies::answer_copies(self.rt, self.alloc, row, answer),
+            "dialect" => dialects::answer_dialect(row, answer),
+            "fetch" => fetches::answer_fetch(self.alloc, row, answer),
+            "upload" => uploads::answer_upload(self.rt, self.alloc, row, answer),
             _ => Err(RowFault::NoCall),
         }
     }

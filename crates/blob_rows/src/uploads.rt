@@ -71,9 +71,9 @@ pub(crate) fn answer_upload<R: Wait>(
 /// How many uploads there are, and whether those behind the first are fresh.
 fn read_times(row: &mut Row<'_>) -> Result<(u64, bool), RowFault> {
     match row.word()? {
-        b"once" => Ok((1, false)),
-        b"twice" => Ok((2, false)),
-        b"fresh" => Ok((2, true)),
+        "once" => Ok((1, false)),
+        "twice" => Ok((2, false)),
+        "fresh" => Ok((2, true)),
         _ => Err(RowFault::BadCall),
     }
 }

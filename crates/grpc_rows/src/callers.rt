@@ -40,7 +40,7 @@ fn read_anew(row: &mut Row<'_>) -> Result<bool, RowFault> {
     if row.is_done() {
         return Ok(false);
     }
-    Ok(row.word()? == b"anew".as_slice())
+    Ok(row.word()? == "anew")
 }
 
 /// The digests that are left.
@@ -164,28 +164,28 @@ fn next_state(caller: &mut GrpcCaller<MemoryDial>, answer: &mut Answer) -> Resul
 fn call_streamed(
     alloc: Global,
     caller: &mut GrpcCaller<MemoryDial>,
-    word: &[u8],
+    word: &str,
     row: &mut Row<'_>,
     answer: &mut Answer,
 ) -> Result<(), RowFault> {
     let done = match word {
-        b"execute" => match caller.hear_execute(&read_digest(row)?, read_anew(row)?) {
+        "execute" => match caller.hear_execute(&read_digest(row)?, read_anew(row)?) {
             Ok(()) => write_done(answer),
             Err(fault) => write_fault(fault, answer),
         },
-        b"wait" => match caller.hear_wait(read_string(alloc, row)?.as_str()) {
+        "wait" => match caller.hear_wait(read_string(alloc, row)?.as_str()) {
             Ok(()) => write_done(answer),
             Err(fault) => write_fault(fault, answer),
         },
-        b"write" => {
+        "write" => {
             let digest = read_digest(row)?;
             match caller.hear_write(&digest, &row.bytes(alloc)?) {
                 Ok(()) => write_done(answer),
                 Err(fault) => write_fault(fault, answer),
             }
         }
-        b"operation" => return next_state(caller, answer),
-        b"blob" => match caller.hear_blob(&read_digest(row)?) {
+        "operation" => return next_state(caller, answer),
+        "blob" => match caller.hear_blob(&read_digest(row)?) {
             Ok(text) => write_blob(text, answer),
             Err(fault) => write_fault(fault, answer),
         },
@@ -207,32 +207,32 @@ fn call_farm(
 ) -> Result<(), RowFault> {
     let word = row.word()?;
     let done = match word {
-        b"capabilities" => match caller.hear_capabilities() {
+        "capabilities" => match caller.hear_capabilities() {
             Ok(told) => write_capabilities(told, answer),
             Err(fault) => write_fault(fault, answer),
         },
-        b"result" => match caller.hear_result(&read_digest(row)?) {
+        "result" => match caller.hear_result(&read_digest(row)?) {
             Ok(found) => write_result(found, answer),
             Err(fault) => write_fault(fault, answer),
         },
-        b"missing" => match caller.hear_missing(&read_digests(alloc, row)?) {
+        "missing" => match caller.hear_missing(&read_digests(alloc, row)?) {
             Ok(digests) => write_digests(digests, answer),
             Err(fault) => write_fault(fault, answer),
         },
-        b"update" => match caller.hear_update(&read_blobs(alloc, row)?) {
+        "update" => match caller.hear_update(&read_blobs(alloc, row)?) {
             Ok(()) => write_done(answer),
             Err(fault) => write_fault(fault, answer),
         },
-        b"read" => match caller.hear_read(&read_digests(alloc, row)?) {
+        "read" => match caller.hear_read(&read_digests(alloc, row)?) {
             Ok(texts) => write_texts(texts, answer),
             Err(fault) => write_fault(fault, answer),
         },
-        b"faults" => answer.number(caller.faults()),
-        b"hang_up" => {
+        "faults" => answer.number(caller.faults()),
+        "hang_up" => {
             caller.hang_up();
             write_done(answer)
         }
-        b"sent" => match caller.channel().link() {
+        "sent" => match caller.channel().link() {
             Some(link) => answer.bytes(&link.sent),
             None => answer.word("none"),
         },

@@ -7,8 +7,8 @@ use rx_rows::{Row, RowFault};
 /// Reads whether the server ended the stream.
 pub(crate) fn read_last(row: &mut Row<'_>) -> Result<bool, RowFault> {
     match row.word()? {
-        b"last" => Ok(true),
-        b"more" => Ok(false),
+        "last" => Ok(true),
+        "more" => Ok(false),
         _ => Err(RowFault::BadCall),
     }
 }

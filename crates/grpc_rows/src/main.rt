@@ -81,8 +81,8 @@ impl Grpc {
     /// `unary ended|open`: the answer of a call that expects one message, or `none`.
     fn unary(&mut self, row: &mut Row<'_>, answer: &mut Answer) -> Result<(), RowFault> {
         let ended = match row.word()? {
-            b"ended" => true,
-            b"open" => false,
+            "ended" => true,
+            "open" => false,
             _ => return Err(RowFault::BadCall),
         };
         Ok(cuts::write_answer(self.answers.unary(ended), answer)?)
@@ -92,38 +92,38 @@ impl Grpc {
 impl Calls for Grpc {
     fn call(&mut self, row: &mut Row<'_>, answer: &mut Answer) -> Result<(), RowFault> {
         match row.word()? {
-            b"new" => {
+            "new" => {
                 self.answers = Answers::new(self.alloc);
                 Ok(answer.word("ok")?)
             }
-            b"headers" => self.headers(row, answer),
-            b"bytes" => self.bytes(row, answer),
-            b"reset" => {
+            "headers" => self.headers(row, answer),
+            "bytes" => self.bytes(row, answer),
+            "reset" => {
                 let code = number_32(row)?;
                 self.add(ConnEvent::Reset { stream: 1, code }, answer)
             }
-            b"gone" => self.add(ConnEvent::Gone { last: 0 }, answer),
-            b"next" => self.next(answer),
-            b"size" => self.size(answer),
-            b"end" => self.end(answer),
-            b"cut" => Ok(answer.value(&self.answers.is_cut())?),
-            b"text" => Ok(answer.text(&self.answers.status_text(self.alloc)?)?),
-            b"unary" => self.unary(row, answer),
-            b"cuts" => cuts::call(self.alloc, row, answer),
-            b"link" => self.links.link(row, answer),
-            b"channel" => self.links.channel(row, answer),
-            b"call" => self.links.call(row, answer),
-            b"upload" => self.links.upload(row, answer),
-            b"begin" => self.links.begin(row, answer),
-            b"item" => self.links.item(answer),
-            b"sent" => self.links.sent(true, answer),
-            b"frames" => self.links.sent(false, answer),
-            b"dials" => self.links.dials(answer),
-            b"answer" => self.callers.answer(row, 0, answer),
-            b"cut_answer" => self.callers.answer(row, 1, answer),
-            b"client" => self.callers.client(row, answer),
-            b"farm" => self.callers.call(row, answer),
-            b"recorded" => run_recorded(self.alloc, answer),
+            "gone" => self.add(ConnEvent::Gone { last: 0 }, answer),
+            "next" => self.next(answer),
+            "size" => self.size(answer),
+            "end" => self.end(answer),
+            "cut" => Ok(answer.value(&self.answers.is_cut())?),
+            "text" => Ok(answer.text(&self.answers.status_text(self.alloc)?)?),
+            "unary" => self.unary(row, answer),
+            "cuts" => cuts::call(self.alloc, row, answer),
+            "link" => self.links.link(row, answer),
+            "channel" => self.links.channel(row, answer),
+            "call" => self.links.call(row, answer),
+            "upload" => self.links.upload(row, answer),
+            "begin" => self.links.begin(row, answer),
+            "item" => self.links.item(answer),
+            "sent" => self.links.sent(true, answer),
+            "frames" => self.links.sent(false, answer),
+            "dials" => self.links.dials(answer),
+            "answer" => self.callers.answer(row, 0, answer),
+            "cut_answer" => self.callers.answer(row, 1, answer),
+            "client" => self.callers.client(row, answer),
+            "farm" => self.callers.call(row, answer),
+            "recorded" => run_recorded(self.alloc, answer),
             _ => Err(RowFault::NoCall),
         }
     }

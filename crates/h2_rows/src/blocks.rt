@@ -26,13 +26,13 @@ impl Blocks {
 
     pub(crate) fn call(&mut self, row: &mut Row<'_>, answer: &mut Answer) -> Result<(), RowFault> {
         match row.word()? {
-            b"new" => {
+            "new" => {
                 self.decoder = Decoder::new(self.alloc);
                 Ok(answer.word("ok")?)
             }
-            b"decode" => self.decode(row, answer),
-            b"count" => self.count(row, answer),
-            b"encode" => self.encode(row, answer),
+            "decode" => self.decode(row, answer),
+            "count" => self.count(row, answer),
+            "encode" => self.encode(row, answer),
             _ => Err(RowFault::NoCall),
         }
     }

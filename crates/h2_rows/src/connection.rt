@@ -17,8 +17,8 @@ pub(crate) struct Connection {
 /// Reads whether this side of the stream ends.
 fn read_last(row: &mut Row<'_>) -> Result<bool, RowFault> {
     match row.word()? {
-        b"last" => Ok(true),
-        b"more" => Ok(false),
+        "last" => Ok(true),
+        "more" => Ok(false),
         _ => Err(RowFault::BadCall),
     }
 }
@@ -46,17 +46,17 @@ impl Connection {
 
     pub(crate) fn call(&mut self, row: &mut Row<'_>, answer: &mut Answer) -> Result<(), RowFault> {
         match row.word()? {
-            b"new" => {
+            "new" => {
                 self.session = Session::new(self.alloc)?;
                 Ok(answer.word("ok")?)
             }
-            b"open" => self.open(row, answer),
-            b"send" => self.send(row, answer),
-            b"reset" => self.reset(row, answer),
-            b"feed" => self.feed(row, answer),
-            b"next" => self.next(answer),
-            b"output" => Ok(answer.bytes(&self.session.take_output()?)?),
-            b"written" => Ok(answer.number(self.session.take_output()?.len() as u64)?),
+            "open" => self.open(row, answer),
+            "send" => self.send(row, answer),
+            "reset" => self.reset(row, answer),
+            "feed" => self.feed(row, answer),
+            "next" => self.next(answer),
+            "output" => Ok(answer.bytes(&self.session.take_output()?)?),
+            "written" => Ok(answer.number(self.session.take_output()?.len() as u64)?),
             _ => Err(RowFault::NoCall),
         }
     }

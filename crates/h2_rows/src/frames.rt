@@ -15,10 +15,10 @@ const STREAM_BOUND: u32 = 2_147_483_648;
 
 pub(crate) fn call(alloc: Global, row: &mut Row<'_>, answer: &mut Answer) -> Result<(), RowFault> {
     match row.word()? {
-        b"next" => next(alloc, row, answer),
-        b"write" => write(alloc, row, answer),
-        b"flag" => flag(row, answer),
-        b"header" => Ok(answer.number(HEADER_SIZE as u64)?),
+        "next" => next(alloc, row, answer),
+        "write" => write(alloc, row, answer),
+        "flag" => flag(row, answer),
+        "header" => Ok(answer.number(HEADER_SIZE as u64)?),
         _ => Err(RowFault::NoCall),
     }
 }
@@ -88,11 +88,11 @@ fn write(alloc: Global, row: &mut Row<'_>, answer: &mut Answer) -> Result<(), Ro
 fn flag(row: &mut Row<'_>, answer: &mut Answer) -> Result<(), RowFault> {
     let flags = byte(row)?;
     let bit = match row.word()? {
-        b"END_STREAM" => END_STREAM,
-        b"ACK" => ACK,
-        b"END_HEADERS" => END_HEADERS,
-        b"PADDED" => PADDED,
-        b"PRIORITY" => PRIORITY,
+        "END_STREAM" => END_STREAM,
+        "ACK" => ACK,
+        "END_HEADERS" => END_HEADERS,
+        "PADDED" => PADDED,
+        "PRIORITY" => PRIORITY,
         _ => return Err(RowFault::BadCall),
     };
     Ok(answer.value(&is_set(flags, bit))?)

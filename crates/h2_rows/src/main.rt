@@ -33,9 +33,9 @@ impl Http2 {
 impl Calls for Http2 {
     fn call(&mut self, row: &mut Row<'_>, answer: &mut Answer) -> Result<(), RowFault> {
         match row.word()? {
-            b"block" => self.blocks.call(row, answer),
-            b"frame" => frames::call(self.blocks.alloc(), row, answer),
-            b"conn" => self.connection.call(row, answer),
+            "block" => self.blocks.call(row, answer),
+            "frame" => frames::call(self.blocks.alloc(), row, answer),
+            "conn" => self.connection.call(row, answer),
             _ => Err(RowFault::NoCall),
         }
     }

@@ -63,8 +63,8 @@ fn write_kind(found: &Directives, answer: &mut Answer) -> Result<(), RowFault> {
 impl Calls for Lexer {
     fn call(&mut self, row: &mut Row<'_>, answer: &mut Answer) -> Result<(), RowFault> {
         match row.word()? {
-            b"directives" => self.directives(row, answer),
-            b"repeated" => self.repeated(row, answer),
+            "directives" => self.directives(row, answer),
+            "repeated" => self.repeated(row, answer),
             _ => Err(RowFault::NoCall),
         }
     }

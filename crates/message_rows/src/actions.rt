@@ -51,8 +51,8 @@ fn command(alloc: Global, row: &mut Row<'_>) -> Result<Command, RowFault> {
 /// The next word, a dialect. `BadCall` where it is none.
 fn dialect(row: &mut Row<'_>) -> Result<Dialect, RowFault> {
     match row.word()? {
-        b"New" => Ok(Dialect::New),
-        b"Old" => Ok(Dialect::Old),
+        "New" => Ok(Dialect::New),
+        "Old" => Ok(Dialect::Old),
         _ => Err(RowFault::BadCall),
     }
 }

@@ -8,9 +8,9 @@ use std::alloc::Global;
 /// Makes the call that the next word names.
 pub(crate) fn call(alloc: Global, row: &mut Row<'_>, answer: &mut Answer) -> Result<(), RowFault> {
     match row.word()? {
-        b"of" => of(alloc, row, answer),
-        b"hash" => hash(alloc, row, answer),
-        b"order" => order(alloc, row, answer),
+        "of" => of(alloc, row, answer),
+        "hash" => hash(alloc, row, answer),
+        "order" => order(alloc, row, answer),
         _ => Err(RowFault::NoCall),
     }
 }

@@ -12,24 +12,24 @@ use std::alloc::Global;
 /// Reads and writes a message of a kind.
 pub(crate) fn call(
     alloc: Global,
-    kind: &[u8],
+    kind: &str,
     bytes: &[u8],
     answer: &mut Answer,
 ) -> Result<(), RowFault> {
     match kind {
-        b"Version" => again::<Version>(alloc, bytes, answer),
-        b"CacheCapabilities" => again::<CacheCapabilities>(alloc, bytes, answer),
-        b"GetCapabilitiesRequest" => again::<GetCapabilitiesRequest>(alloc, bytes, answer),
-        b"ServerCapabilities" => again::<ServerCapabilities>(alloc, bytes, answer),
-        b"GetActionResultRequest" => again::<GetActionResultRequest>(alloc, bytes, answer),
-        b"ExecuteRequest" => again::<ExecuteRequest>(alloc, bytes, answer),
-        b"ExecuteResponse" => again::<ExecuteResponse>(alloc, bytes, answer),
-        b"WaitExecutionRequest" => again::<WaitExecutionRequest>(alloc, bytes, answer),
-        b"OperationMessage" => again::<OperationMessage>(alloc, bytes, answer),
-        b"WriteRequest" => again::<WriteRequest>(alloc, bytes, answer),
-        b"WriteResponse" => again::<WriteResponse>(alloc, bytes, answer),
-        b"ReadRequest" => again::<ReadRequest>(alloc, bytes, answer),
-        b"ReadResponse" => again::<ReadResponse>(alloc, bytes, answer),
+        "Version" => again::<Version>(alloc, bytes, answer),
+        "CacheCapabilities" => again::<CacheCapabilities>(alloc, bytes, answer),
+        "GetCapabilitiesRequest" => again::<GetCapabilitiesRequest>(alloc, bytes, answer),
+        "ServerCapabilities" => again::<ServerCapabilities>(alloc, bytes, answer),
+        "GetActionResultRequest" => again::<GetActionResultRequest>(alloc, bytes, answer),
+        "ExecuteRequest" => again::<ExecuteRequest>(alloc, bytes, answer),
+        "ExecuteResponse" => again::<ExecuteResponse>(alloc, bytes, answer),
+        "WaitExecutionRequest" => again::<WaitExecutionRequest>(alloc, bytes, answer),
+        "OperationMessage" => again::<OperationMessage>(alloc, bytes, answer),
+        "WriteRequest" => again::<WriteRequest>(alloc, bytes, answer),
+        "WriteResponse" => again::<WriteResponse>(alloc, bytes, answer),
+        "ReadRequest" => again::<ReadRequest>(alloc, bytes, answer),
+        "ReadResponse" => again::<ReadResponse>(alloc, bytes, answer),
         _ => Err(RowFault::NoCall),
     }
 }

@@ -24,12 +24,12 @@ struct MessageCalls {
 impl Calls for MessageCalls {
     fn call(&mut self, row: &mut Row<'_>, answer: &mut Answer) -> Result<(), RowFault> {
         match row.word()? {
-            b"path" => paths::call(self.alloc, row, answer),
-            b"digest" => digests::call(self.alloc, row, answer),
-            b"wire" => wire::call(self.alloc, row, answer),
-            b"message" => messages::call(self.alloc, row, answer),
-            b"tree" => trees::call(self.alloc, row, answer),
-            b"action" => actions::call(self.alloc, row, answer),
+            "path" => paths::call(self.alloc, row, answer),
+            "digest" => digests::call(self.alloc, row, answer),
+            "wire" => wire::call(self.alloc, row, answer),
+            "message" => messages::call(self.alloc, row, answer),
+            "tree" => trees::call(self.alloc, row, answer),
+            "action" => actions::call(self.alloc, row, answer),
             _ => Err(RowFault::NoCall),
         }
     }

@@ -11,14 +11,14 @@ use std::alloc::Global;
 /// Makes the call that the next word names.
 pub(crate) fn call(alloc: Global, row: &mut Row<'_>, answer: &mut Answer) -> Result<(), RowFault> {
     match row.word()? {
-        b"read" => read(alloc, row, answer),
-        b"join" => join(alloc, row, answer),
-        b"parent" => parent(alloc, row, answer),
-        b"prefixes" => prefixes(alloc, row, answer),
-        b"is_below" => is_below(alloc, row, answer),
-        b"sort" => sort(alloc, row, answer),
-        b"find" => find(alloc, row, answer),
-        b"ask" => ask(alloc, row, answer),
+        "read" => read(alloc, row, answer),
+        "join" => join(alloc, row, answer),
+        "parent" => parent(alloc, row, answer),
+        "prefixes" => prefixes(alloc, row, answer),
+        "is_below" => is_below(alloc, row, answer),
+        "sort" => sort(alloc, row, answer),
+        "find" => find(alloc, row, answer),
+        "ask" => ask(alloc, row, answer),
         _ => Err(RowFault::NoCall),
     }
 }

@@ -12,12 +12,12 @@ use std::alloc::Global;
 /// Makes the call that the next word names.
 pub(crate) fn call(alloc: Global, row: &mut Row<'_>, answer: &mut Answer) -> Result<(), RowFault> {
     match row.word()? {
-        b"build" => build_tree(alloc, row, answer),
-        b"blobs" => blobs(alloc, row, answer),
-        b"list" => list(alloc, row, answer),
-        b"read" => read(alloc, row, answer),
-        b"many" => many(alloc, row, answer),
-        b"cycle" => cycle(alloc, row, answer),
+        "build" => build_tree(alloc, row, answer),
+        "blobs" => blobs(alloc, row, answer),
+        "list" => list(alloc, row, answer),
+        "read" => read(alloc, row, answer),
+        "many" => many(alloc, row, answer),
+        "cycle" => cycle(alloc, row, answer),
         _ => Err(RowFault::NoCall),
     }
 }

@@ -12,13 +12,13 @@ const FIELD_NUMBERS: u64 = 1 << 29;
 /// Makes the call that the next word names.
 pub(crate) fn call(alloc: Global, row: &mut Row<'_>, answer: &mut Answer) -> Result<(), RowFault> {
     match row.word()? {
-        b"fields" => fields(alloc, row, answer),
-        b"inside" => inside(alloc, row, answer),
-        b"varint" => varint(alloc, row, answer),
-        b"write_varint" => write_varint(alloc, row, answer),
-        b"write_int32" => write_int32(alloc, row, answer),
-        b"write_bytes" => write_bytes(alloc, row, answer),
-        b"text" => text(alloc, row, answer),
+        "fields" => fields(alloc, row, answer),
+        "inside" => inside(alloc, row, answer),
+        "varint" => varint(alloc, row, answer),
+        "write_varint" => write_varint(alloc, row, answer),
+        "write_int32" => write_int32(alloc, row, answer),
+        "write_bytes" => write_bytes(alloc, row, answer),
+        "text" => text(alloc, row, answer),
         _ => Err(RowFault::NoCall),
     }
 }

@@ -4,15 +4,14 @@ use rx_base::{Bytes, Items};
 use rx_rows::{Row, RowFault};
 use rx_world::{Attempt, BenchStep, Cause, End, Exit, Origin, Outcome, Plan, RemoteCause};
 use std::alloc::Global;
-use std::str;
 
 /// The next word, a plan by its name.
 pub(crate) fn read_plan(row: &mut Row<'_>) -> Result<Plan, RowFault> {
     match row.word()? {
-        b"LocalOnly" => Ok(Plan::LocalOnly),
-        b"RemoteOnly" => Ok(Plan::RemoteOnly),
-        b"Fallback" => Ok(Plan::Fallback),
-        b"Both" => Ok(Plan::Both),
+        "LocalOnly" => Ok(Plan::LocalOnly),
+        "RemoteOnly" => Ok(Plan::RemoteOnly),
+        "Fallback" => Ok(Plan::Fallback),
+        "Both" => Ok(Plan::Both),
         _ => Err(RowFault::BadCall),
     }
 }
@@ -20,8 +19,8 @@ pub(crate) fn read_plan(row: &mut Row<'_>) -> Result<Plan, RowFault> {
 /// The next word, an attempt by its name.
 pub(crate) fn read_attempt(row: &mut Row<'_>) -> Result<Attempt, RowFault> {
     match row.word()? {
-        b"Local" => Ok(Attempt::Local),
-        b"Remote" => Ok(Attempt::Remote),
+        "Local" => Ok(Attempt::Local),
+        "Remote" => Ok(Attempt::Remote),
         _ => Err(RowFault::BadCall),
     }
 }
@@ -32,11 +31,11 @@ pub(crate) fn read_local_end(
     row: &mut Row<'_>,
 ) -> Result<End<Outcome, Cause>, RowFault> {
     match row.word()? {
-        b"done" => Ok(End::Done {
+        "done" => Ok(End::Done {
             outcome: read_outcome(alloc, row)?,
             origin: Origin::Local,
         }),
-        b"BenchFault" => Ok(End::Failed {
+        "BenchFault" => Ok(End::Failed {
             cause: Cause::BenchFault {
                 step: BenchStep::Run,
             },
@@ -51,11 +50,11 @@ pub(crate) fn read_remote_end(
     row: &mut Row<'_>,
 ) -> Result<End<Outcome, RemoteCause>, RowFault> {
     match row.word()? {
-        b"done" => Ok(End::Done {
+        "done" => Ok(End::Done {
             outcome: read_outcome(alloc, row)?,
             origin: Origin::Remote,
         }),
-        b"CallFailed" => Ok(End::Failed {
+        "CallFailed" => Ok(End::Failed {
             cause: RemoteCause::CallFailed {
                 faults: Items::new(alloc),
             },
@@ -78,10 +77,7 @@ fn read_outcome(alloc: Global, row: &mut Row<'_>) -> Result<Outcome, RowFault> {
 
 /// The next word, a number of 32 bits that may have a minus.
 fn read_code(row: &mut Row<'_>) -> Result<i32, RowFault> {
-    let Ok(digits) = str::from_utf8(row.word()?) else {
-        return Err(RowFault::BadNumber);
-    };
-    match digits.parse::<i32>() {
+    match row.word()?.parse::<i32>() {
         Ok(code) => Ok(code),
         Err(_) => Err(RowFault::BadNumber),
     }

@@ -12,13 +12,13 @@ use std::io::BufReader;
 impl Calls for Races {
     fn call(&mut self, row: &mut Row<'_>, answer: &mut Answer) -> Result<(), RowFault> {
         match row.word()? {
-            b"new" => self.open(row, answer),
-            b"start" => self.start(row, answer),
-            b"offer" => self.offer(row, answer),
-            b"cancel" => self.cancel(answer),
-            b"decision" => self.answer_decision(answer),
-            b"phase" => self.answer_phase(row, answer),
-            b"events" => self.answer_events(answer),
+            "new" => self.open(row, answer),
+            "start" => self.start(row, answer),
+            "offer" => self.offer(row, answer),
+            "cancel" => self.cancel(answer),
+            "decision" => self.answer_decision(answer),
+            "phase" => self.answer_phase(row, answer),
+            "events" => self.answer_events(answer),
             _ => Err(RowFault::NoCall),
         }
     }

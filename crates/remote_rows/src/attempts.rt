@@ -39,7 +39,7 @@ fn turn(
     answer: &mut Answer,
 ) -> Result<RemoteState, RowFault> {
     let word = row.word()?;
-    let (state, ask) = if word == b"states".as_slice() {
+    let (state, ask) = if word == "states" {
         hear_states(alloc, row, state)?
     } else {
         hear(alloc, state, read_heard(alloc, word, row)?)?

@@ -11,18 +11,18 @@ use rx_world::{Attempt, Decision};
 use std::alloc::Global;
 
 /// The event of this word, whose arguments are the next words.
-pub(crate) fn read_heard(alloc: Global, word: &[u8], row: &mut Row<'_>) -> Result<Heard, RowFault> {
+pub(crate) fn read_heard(alloc: Global, word: &str, row: &mut Row<'_>) -> Result<Heard, RowFault> {
     match word {
-        b"told" => read_told(row),
-        b"cached" => read_cached(alloc, row),
-        b"uploaded" => Ok(Heard::Uploaded(Items::new(alloc))),
-        b"begun" => Ok(Heard::Begun),
-        b"state" => read_state(alloc, row),
-        b"done" => read_done(alloc, row),
-        b"fetched" => read_fetched(alloc, row),
-        b"fault" => read_call(row),
-        b"blobs" => read_transfer(alloc, row),
-        b"stopped" => read_stopped(row),
+        "told" => read_told(row),
+        "cached" => read_cached(alloc, row),
+        "uploaded" => Ok(Heard::Uploaded(Items::new(alloc))),
+        "begun" => Ok(Heard::Begun),
+        "state" => read_state(alloc, row),
+        "done" => read_done(alloc, row),
+        "fetched" => read_fetched(alloc, row),
+        "fault" => read_call(row),
+        "blobs" => read_transfer(alloc, row),
+        "stopped" => read_stopped(row),
         _ => Err(RowFault::BadCall),
     }
 }
@@ -43,14 +43,19 @@ fn read_state(alloc: Global, row: &mut Row<'_>) -> Result<Heard, RowFault> {
     Ok(Heard::Next(Operation { name, done: None }))
 }
 
+/// The next word: `kept`, or `run` for false.
+fn read_kept(row: &mut Row<'_>) -> Result<bool, RowFault> {
+    match row.word()? {
+        "kept" => Ok(true),
+        "run" => Ok(false),
+        _ => Err(RowFault::BadCall),
+    }
+}
+
 /// `done NAME ORIGIN RESULT`: the end of an execution, whose result was `kept` or is of a `run`.
 fn read_done(alloc: Global, row: &mut Row<'_>) -> Result<Heard, RowFault> {
     let name = read_name(alloc, row)?;
-    let cached_result = match row.word()? {
-        b"kept" => true,
-        b"run" => false,
-        _ => return Err(RowFault::BadCall),
-    };
+    let cached_result = read_kept(row)?;
     let response = ExecuteResponse {
         result: read_result(alloc, row)?,
         cached_result,
@@ -83,8 +88,8 @@ fn read_transfer(alloc: Global, row: &mut Row<'_>) -> Result<Heard, RowFault> {
 /// `stopped DECISION`: the race is decided.
 fn read_stopped(row: &mut Row<'_>) -> Result<Heard, RowFault> {
     match row.word()? {
-        b"Local" => Ok(Heard::Stopped(Decision::By(Attempt::Local))),
-        b"Cancelled" => Ok(Heard::Stopped(Decision::Cancelled)),
+        "Local" => Ok(Heard::Stopped(Decision::By(Attempt::Local))),
+        "Cancelled" => Ok(Heard::Stopped(Decision::Cancelled)),
         _ => Err(RowFault::BadCall),
     }
 }

@@ -11,13 +11,13 @@ use std::alloc::Global;
 /// The next words, a fault of an upload or of a fetch.
 pub(crate) fn read_blobs(alloc: Global, row: &mut Row<'_>) -> Result<BlobFault, RowFault> {
     match row.word()? {
-        b"Call" => Ok(BlobFault::Call(read_fault(row)?)),
-        b"Missing" => Ok(BlobFault::Missing(digest_of(b"abc"))),
-        b"Refused" => Ok(BlobFault::Refused(digest_of(b"abc"), read_code(row)?)),
-        b"BadBlob" => Ok(bad_blob()),
-        b"InputChanged" => changed_input(alloc),
-        b"SourceFault" => source_fault(alloc),
-        b"NoMemory" => Ok(BlobFault::NoMemory),
+        "Call" => Ok(BlobFault::Call(read_fault(row)?)),
+        "Missing" => Ok(BlobFault::Missing(digest_of(b"abc"))),
+        "Refused" => Ok(BlobFault::Refused(digest_of(b"abc"), read_code(row)?)),
+        "BadBlob" => Ok(bad_blob()),
+        "InputChanged" => changed_input(alloc),
+        "SourceFault" => source_fault(alloc),
+        "NoMemory" => Ok(BlobFault::NoMemory),
         _ => Err(RowFault::BadCall),
     }
 }

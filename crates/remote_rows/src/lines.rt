@@ -27,18 +27,18 @@ pub(crate) fn read_lines(alloc: Global, row: &mut Row<'_>) -> Result<Vec<ScriptL
 /// One line: what a call is answered, or a fault.
 fn read_line(alloc: Global, row: &mut Row<'_>) -> Result<ScriptLine, RowFault> {
     match row.word()? {
-        b"lacks" => read_lacks(alloc, row),
-        b"stored" => Ok(ScriptLine::Stored),
-        b"executes" => Ok(ScriptLine::Executes(read_key(alloc, row)?.digest)),
-        b"resumes" => Ok(ScriptLine::Resumes(read_name(alloc, row)?)),
-        b"gives" => read_gives(alloc, row),
-        b"gone" => Ok(ScriptLine::Fault(gone())),
+        "lacks" => read_lacks(alloc, row),
+        "stored" => Ok(ScriptLine::Stored),
+        "executes" => Ok(ScriptLine::Executes(read_key(alloc, row)?.digest)),
+        "resumes" => Ok(ScriptLine::Resumes(read_name(alloc, row)?)),
+        "gives" => read_gives(alloc, row),
+        "gone" => Ok(ScriptLine::Fault(gone())),
         word => read_answer(alloc, word, row),
     }
 }
 
 /// The line of an event that one call is answered.
-fn read_answer(alloc: Global, word: &[u8], row: &mut Row<'_>) -> Result<ScriptLine, RowFault> {
+fn read_answer(alloc: Global, word: &str, row: &mut Row<'_>) -> Result<ScriptLine, RowFault> {
     match read_heard(alloc, word, row)? {
         Heard::Told(capabilities) => Ok(ScriptLine::Capabilities(capabilities)),
         Heard::Cached(result) => Ok(ScriptLine::Cached(result)),
@@ -51,8 +51,8 @@ fn read_answer(alloc: Global, word: &[u8], row: &mut Row<'_>) -> Result<ScriptLi
 /// The next word, a dialect: the key of the one command on an empty tree under it.
 fn read_key(alloc: Global, row: &mut Row<'_>) -> Result<ActionKey, RowFault> {
     let dialect = match row.word()? {
-        b"New" => Dialect::New,
-        b"Old" => Dialect::Old,
+        "New" => Dialect::New,
+        "Old" => Dialect::Old,
         _ => return Err(RowFault::BadCall),
     };
     let command = command(alloc)?;

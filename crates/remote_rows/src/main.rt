@@ -28,12 +28,12 @@ struct AttemptCalls<'a, R> {
 impl<'a, R: Wait> Calls for AttemptCalls<'a, R> {
     fn call(&mut self, row: &mut Row<'_>, answer: &mut Answer) -> Result<(), RowFault> {
         let attempt = match row.word()? {
-            b"accepts" => return attempts::call(self.alloc, row, true, answer),
-            b"refuses" => return attempts::call(self.alloc, row, false, answer),
-            b"run" => Attempt::new(true),
-            b"refusing" => Attempt::new(false),
-            b"until" => Attempt::until(row.number()?),
-            b"with" => Attempt::with(row.text(self.alloc)?, row.text(self.alloc)?),
+            "accepts" => return attempts::call(self.alloc, row, true, answer),
+            "refuses" => return attempts::call(self.alloc, row, false, answer),
+            "run" => Attempt::new(true),
+            "refusing" => Attempt::new(false),
+            "until" => Attempt::until(row.number()?),
+            "with" => Attempt::with(row.text(self.alloc)?, row.text(self.alloc)?),
             _ => return Err(RowFault::NoCall),
         };
         runs::call(self.rt, self.alloc, row, attempt, answer)

@@ -17,18 +17,18 @@ pub(crate) fn read_result(
     row: &mut Row<'_>,
 ) -> Result<Option<ActionResult>, RowFault> {
     let word = row.word()?;
-    if word == b"none".as_slice() {
+    if word == "none" {
         return Ok(None);
     }
     let mut result = code_alone(alloc, 0);
     match word {
-        b"inline" => result.output_files.push(output(alloc, b"abc")?)?,
-        b"dotted" => result.output_files.push(output_at(alloc, "./b", b"abc")?)?,
-        b"outside" => result.output_files.push(output_at(alloc, "../b", b"abc")?)?,
-        b"apart" => result.output_files.push(output(alloc, b"")?)?,
-        b"spoiled" => result.output_files.push(output(alloc, b"abd")?)?,
-        b"absent" => {}
-        b"code1" => result = code_1(alloc)?,
+        "inline" => result.output_files.push(output(alloc, b"abc")?)?,
+        "dotted" => result.output_files.push(output_at(alloc, "./b", b"abc")?)?,
+        "outside" => result.output_files.push(output_at(alloc, "../b", b"abc")?)?,
+        "apart" => result.output_files.push(output(alloc, b"")?)?,
+        "spoiled" => result.output_files.push(output(alloc, b"abd")?)?,
+        "absent" => {}
+        "code1" => result = code_1(alloc)?,
         _ => return Err(RowFault::BadCall),
     }
     Ok(Some(result))

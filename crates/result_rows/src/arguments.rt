@@ -5,7 +5,6 @@ use rx_messages::{OutputDirectory, OutputFile, OutputSymlink};
 use rx_row_values::{path_of, read_string};
 use rx_rows::{Row, RowFault};
 use std::alloc::Global;
-use std::str;
 
 /// The next word, paths with a space between each two in one pair of quotes.
 pub(crate) fn read_paths(alloc: Global, row: &mut Row<'_>) -> Result<Items<RelPath>, RowFault> {
@@ -22,26 +21,23 @@ pub(crate) fn read_paths(alloc: Global, row: &mut Row<'_>) -> Result<Items<RelPa
 /// The next word, a digest: `none`, `size:N` for a hash of zero bytes alone, or `of:TEXT`.
 pub(crate) fn read_digest(row: &mut Row<'_>) -> Result<Option<Digest>, RowFault> {
     let word = row.word()?;
-    if let Some(text) = word.strip_prefix(b"of:".as_slice()) {
-        return Ok(Some(digest_of(text)));
+    if let Some(text) = word.strip_prefix("of:") {
+        return Ok(Some(digest_of(text.as_bytes())));
     }
-    if let Some(digits) = word.strip_prefix(b"size:".as_slice()) {
+    if let Some(digits) = word.strip_prefix("size:") {
         return Ok(Some(Digest {
             hash: [0; 32],
             size: read_size(digits)?,
         }));
     }
     match word {
-        b"none" => Ok(None),
+        "none" => Ok(None),
         _ => Err(RowFault::BadCall),
     }
 }
 
 /// A number in decimal digits.
-fn read_size(digits: &[u8]) -> Result<u64, RowFault> {
-    let Ok(digits) = str::from_utf8(digits) else {
-        return Err(RowFault::BadNumber);
-    };
+fn read_size(digits: &str) -> Result<u64, RowFault> {
     match digits.parse::<u64>() {
         Ok(size) => Ok(size),
         Err(_) => Err(RowFault::BadNumber),
@@ -54,17 +50,22 @@ pub(crate) fn read_file(alloc: Global, row: &mut Row<'_>) -> Result<OutputFile, 
     let path = Text::from_string(read_string(alloc, row)?);
     let contents = Bytes::from_vec(row.text(alloc)?);
     let digest = read_digest(row)?;
-    let is_executable = match row.word()? {
-        b"x" => true,
-        b"-" => false,
-        _ => return Err(RowFault::BadCall),
-    };
+    let is_executable = read_executable(row)?;
     Ok(OutputFile {
         path,
         digest,
         is_executable,
         contents,
     })
+}
+
+/// The next word: `x`, or `-` for false.
+fn read_executable(row: &mut Row<'_>) -> Result<bool, RowFault> {
+    match row.word()? {
+        "x" => Ok(true),
+        "-" => Ok(false),
+        _ => Err(RowFault::BadCall),
+    }
 }
 
 /// The next word, a directory's path.

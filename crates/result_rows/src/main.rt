@@ -18,7 +18,7 @@ struct ResultCalls {
 impl Calls for ResultCalls {
     fn call(&mut self, row: &mut Row<'_>, answer: &mut Answer) -> Result<(), RowFault> {
         match row.word()? {
-            b"result" => results::call(self.alloc, row, answer),
+            "result" => results::call(self.alloc, row, answer),
             _ => Err(RowFault::NoCall),
         }
     }

@@ -65,10 +65,10 @@ fn read_parts(
             break;
         }
         match row.word()? {
-            b"file" => given.output_files.push(read_file(alloc, row)?)?,
-            b"directory" => given.output_directories.push(read_directory(alloc, row)?)?,
-            b"link" => given.output_symlinks.push(read_link(alloc, row)?)?,
-            b"text" => texts.push(Bytes::from_vec(row.text(alloc)?))?,
+            "file" => given.output_files.push(read_file(alloc, row)?)?,
+            "directory" => given.output_directories.push(read_directory(alloc, row)?)?,
+            "link" => given.output_symlinks.push(read_link(alloc, row)?)?,
+            "text" => texts.push(Bytes::from_vec(row.text(alloc)?))?,
             _ => return Err(RowFault::BadCall),
         }
     }

@@ -21,22 +21,22 @@ fn nth<T>(items: &[T], number: u64) -> Result<&T, RowFault> {
 pub(crate) fn show_after(
     alloc: Global,
     run: &Finished,
-    word: &[u8],
+    word: &str,
     row: &mut Row<'_>,
     answer: &mut Answer,
 ) -> Result<(), RowFault> {
-    if word == b"place".as_slice() {
+    if word == "place" {
         show_files(answer, run.place.files.as_slice())?;
         return Ok(());
     }
     let number = row.number()?;
     match word {
-        b"session" => show_session(alloc, answer, nth(&run.transcripts, number)?)?,
-        b"frame" => answer.bytes(nth(&run.desks, number)?.output.bytes.as_slice())?,
-        b"entry" => show_entry(alloc, answer, nth(&run.journal, number)?)?,
-        b"ends" => show_ends(alloc, answer, &nth(&run.transcripts, number)?.ends)?,
-        b"reads" => show_reads(answer, nth(&run.desks, number)?)?,
-        b"calls" => show_farm(alloc, answer, nth(&run.desks, number)?)?,
+        "session" => show_session(alloc, answer, nth(&run.transcripts, number)?)?,
+        "frame" => answer.bytes(nth(&run.desks, number)?.output.bytes.as_slice())?,
+        "entry" => show_entry(alloc, answer, nth(&run.journal, number)?)?,
+        "ends" => show_ends(alloc, answer, &nth(&run.transcripts, number)?.ends)?,
+        "reads" => show_reads(answer, nth(&run.desks, number)?)?,
+        "calls" => show_farm(alloc, answer, nth(&run.desks, number)?)?,
         _ => show_benches(answer, nth(&run.desks, number)?)?,
     }
     Ok(())

@@ -6,7 +6,6 @@ use rx_row_values::read_string;
 use rx_rows::{Row, RowFault};
 use rx_world::Stamp;
 use std::alloc::Global;
-use std::str;
 
 /// The words of a text, with one space between each two.
 pub(crate) fn words_in(alloc: Global, row: &mut Row<'_>) -> Result<Vec<String>, RowFault> {
@@ -20,10 +19,7 @@ pub(crate) fn words_in(alloc: Global, row: &mut Row<'_>) -> Result<Vec<String>, 
 
 /// The next word, a digest as answers have it: `HASH/SIZE`.
 pub(crate) fn read_digest(row: &mut Row<'_>) -> Result<Digest, RowFault> {
-    let Ok(word) = str::from_utf8(row.word()?) else {
-        return Err(RowFault::BadBytes);
-    };
-    let Some((hash, size)) = word.split_once('/') else {
+    let Some((hash, size)) = row.word()?.split_once('/') else {
         return Err(RowFault::BadBytes);
     };
     match (read_hash(hash), size.parse::<u64>()) {
@@ -41,8 +37,8 @@ fn marks_in(row: &mut Row<'_>) -> Result<(u64, bool), RowFault> {
             return Ok((mark, executable));
         }
         match row.word()? {
-            b"mark" => mark = row.number()?,
-            b"executable" => executable = true,
+            "mark" => mark = row.number()?,
+            "executable" => executable = true,
             _ => return Err(RowFault::BadCall),
         }
     }
@@ -77,15 +73,15 @@ pub(crate) fn sized_in(alloc: Global, row: &mut Row<'_>) -> Result<Node, RowFaul
 /// The part of a word.
 pub(crate) fn part_in(row: &mut Row<'_>) -> Result<Part, RowFault> {
     match row.word()? {
-        b"input" => Ok(Part::Input),
-        b"output" => Ok(Part::Output),
-        b"tree" => Ok(Part::Tree),
-        b"local" => Ok(Part::TreeLocal),
-        b"remote" => Ok(Part::TreeRemote),
-        b"benches" => Ok(Part::Benches),
-        b"bench" => Ok(Part::Bench),
-        b"place" => Ok(Part::Place),
-        b"front" => Ok(Part::Front),
+        "input" => Ok(Part::Input),
+        "output" => Ok(Part::Output),
+        "tree" => Ok(Part::Tree),
+        "local" => Ok(Part::TreeLocal),
+        "remote" => Ok(Part::TreeRemote),
+        "benches" => Ok(Part::Benches),
+        "bench" => Ok(Part::Bench),
+        "place" => Ok(Part::Place),
+        "front" => Ok(Part::Front),
         _ => Err(RowFault::BadCall),
     }
 }

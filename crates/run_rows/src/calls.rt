@@ -42,12 +42,12 @@ pub(crate) struct RunCalls {
 }
 
 /// The run that a row asks for.
-fn errand_in(alloc: Global, word: &[u8], row: &mut Row<'_>) -> Result<Errand, RowFault> {
+fn errand_in(alloc: Global, word: &str, row: &mut Row<'_>) -> Result<Errand, RowFault> {
     match word {
-        b"run" => Ok(Errand::Run {
+        "run" => Ok(Errand::Run {
             words: words_in(alloc, row)?,
         }),
-        b"threads" => Ok(Errand::Threads {
+        "threads" => Ok(Errand::Threads {
             words: words_in(alloc, row)?,
         }),
         _ => Ok(Errand::Serve {
@@ -145,26 +145,26 @@ impl RunCalls {
     }
 
     /// Rows that say what stands at a path.
-    fn call_paths(&mut self, word: &[u8], row: &mut Row<'_>) -> Result<(), RowFault> {
+    fn call_paths(&mut self, word: &str, row: &mut Row<'_>) -> Result<(), RowFault> {
         let path = read_path(self.alloc, row)?;
         let node = match word {
-            b"file" => file_in(self.alloc, row)?,
-            b"sized" => sized_in(self.alloc, row)?,
-            b"dir" => Node::Dir,
+            "file" => file_in(self.alloc, row)?,
+            "sized" => sized_in(self.alloc, row)?,
+            "dir" => Node::Dir,
             _ => Node::Other,
         };
         self.put(path, node)
     }
 
     /// Rows that say which tree the next rows fill.
-    fn call_trees(&mut self, word: &[u8], row: &mut Row<'_>) -> Result<(), RowFault> {
+    fn call_trees(&mut self, word: &str, row: &mut Row<'_>) -> Result<(), RowFault> {
         let desk = self.desk()?;
         match word {
-            b"local" => {
+            "local" => {
                 desk.local_apart = true;
                 desk.filling = PlannedTree::Local;
             }
-            b"remote" => {
+            "remote" => {
                 desk.remote_apart = true;
                 desk.filling = PlannedTree::Remote;
             }
@@ -179,13 +179,13 @@ impl RunCalls {
     /// Rows that say which bytes come in. The answer is all of them.
     fn call_input(
         &mut self,
-        word: &[u8],
+        word: &str,
         row: &mut Row<'_>,
         answer: &mut Answer,
     ) -> Result<(), RowFault> {
         let alloc = self.alloc;
         let bytes = match word {
-            b"request" => request_frame(alloc, row)?,
+            "request" => request_frame(alloc, row)?,
             _ => row.bytes(alloc)?,
         };
         let desk = self.desk()?;
@@ -210,7 +210,7 @@ impl RunCalls {
     /// what the run came to.
     fn call_runs(
         &mut self,
-        word: &[u8],
+        word: &str,
         row: &mut Row<'_>,
         answer: &mut Answer,
     ) -> Result<(), RowFault> {
@@ -269,15 +269,15 @@ impl RunCalls {
     }
 
     /// Rows that say something of a run that is still to begin.
-    fn call_plans(&mut self, word: &[u8], row: &mut Row<'_>) -> Result<(), RowFault> {
+    fn call_plans(&mut self, word: &str, row: &mut Row<'_>) -> Result<(), RowFault> {
         match word {
-            b"new" => self.forget(),
-            b"desk" => self.desks.push(DeskPlan::new(self.alloc))?,
-            b"fails" => self.add_failure(row)?,
-            b"pieces" => self.set_piece(row)?,
-            b"local" | b"remote" | b"later" => self.call_trees(word, row)?,
-            b"farm" => self.add_line(row)?,
-            b"file" | b"sized" | b"dir" | b"other" => self.call_paths(word, row)?,
+            "new" => self.forget(),
+            "desk" => self.desks.push(DeskPlan::new(self.alloc))?,
+            "fails" => self.add_failure(row)?,
+            "pieces" => self.set_piece(row)?,
+            "local" | "remote" | "later" => self.call_trees(word, row)?,
+            "farm" => self.add_line(row)?,
+            "file" | "sized" | "dir" | "other" => self.call_paths(word, row)?,
             _ => return Err(RowFault::NoCall),
         }
         Ok(())
@@ -288,17 +288,12 @@ impl Calls for RunCalls {
     fn call(&mut self, row: &mut Row<'_>, answer: &mut Answer) -> Result<(), RowFault> {
         let word = row.word()?;
         match word {
-            b"request" | b"bytes" => self.call_input(word, row, answer),
-            b"run" | b"threads" | b"serve" => self.call_runs(word, row, answer),
-            b"session"
-            | b"frame"
-            | b"entry"
-            | b"place"
-            | b"benches"
-            | b"reads"
-            | b"ends"
-            | b"calls" => { show_after(self.alloc, self.last_run()?, word, row, answer) }
-            b"options" => self.call_options(row, answer),
+            "request" | "bytes" => self.call_input(word, row, answer),
+            "run" | "threads" | "serve" => self.call_runs(word, row, answer),
+            "session" | "frame" | "entry" | "place" | "benches" | "reads" | "ends" | "calls" => {
+                show_after(self.alloc, self.last_run()?, word, row, answer)
+            }
+            "options" => self.call_options(row, answer),
             _ => {
                 self.call_plans(word, row)?;
                 answer.word("ok")?;

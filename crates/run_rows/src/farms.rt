@@ -14,17 +14,17 @@ use std::collections::BTreeSet;
 /// The line that the next words tell: what a call is answered, or a fault.
 pub(crate) fn read_line(alloc: Global, row: &mut Row<'_>) -> Result<ScriptLine, RowFault> {
     match row.word()? {
-        b"told" => read_told(row),
-        b"cached" => read_cached(alloc, row),
-        b"lacks" => read_lacks(alloc, row),
-        b"stored" => Ok(ScriptLine::Stored),
-        b"gives" => read_gives(alloc, row),
-        b"executes" => read_begun(row),
-        b"resumes" => read_resumed(alloc, row),
-        b"state" => read_state(alloc, row),
-        b"done" => read_done(alloc, row),
-        b"refuses" => read_refused(row),
-        b"fault" => read_failed(row),
+        "told" => read_told(row),
+        "cached" => read_cached(alloc, row),
+        "lacks" => read_lacks(alloc, row),
+        "stored" => Ok(ScriptLine::Stored),
+        "gives" => read_gives(alloc, row),
+        "executes" => read_begun(row),
+        "resumes" => read_resumed(alloc, row),
+        "state" => read_state(alloc, row),
+        "done" => read_done(alloc, row),
+        "refuses" => read_refused(row),
+        "fault" => read_failed(row),
         _ => Err(RowFault::BadCall),
     }
 }
@@ -82,14 +82,19 @@ fn read_state(alloc: Global, row: &mut Row<'_>) -> Result<ScriptLine, RowFault> 
     Ok(ScriptLine::Operation(Operation { name, done: None }))
 }
 
+/// The next word: `kept`, or `run` for false.
+fn read_kept(row: &mut Row<'_>) -> Result<bool, RowFault> {
+    match row.word()? {
+        "kept" => Ok(true),
+        "run" => Ok(false),
+        _ => Err(RowFault::BadCall),
+    }
+}
+
 /// `done NAME ORIGIN RESULT`: the end of an execution, whose result was `kept` or is of a `run`.
 fn read_done(alloc: Global, row: &mut Row<'_>) -> Result<ScriptLine, RowFault> {
     let name = read_name(alloc, row)?;
-    let cached_result = match row.word()? {
-        b"kept" => true,
-        b"run" => false,
-        _ => return Err(RowFault::BadCall),
-    };
+    let cached_result = read_kept(row)?;
     let response = ExecuteResponse {
         result: read_result(alloc, row)?,
         cached_result,

@@ -41,21 +41,21 @@ const TIMEOUT_SECONDS: u32 = 14;
 const REQUEST_KIND: u8 = 1;
 
 /// The number of a kind in field 7.
-fn kind_number(word: &[u8]) -> Result<u64, RowFault> {
+fn kind_number(word: &str) -> Result<u64, RowFault> {
     match word {
-        b"tool" => Ok(1),
-        b"compile" => Ok(2),
+        "tool" => Ok(1),
+        "compile" => Ok(2),
         _ => Err(RowFault::BadCall),
     }
 }
 
 /// The number of a strategy in field 6.
-fn strategy_number(word: &[u8]) -> Result<u64, RowFault> {
+fn strategy_number(word: &str) -> Result<u64, RowFault> {
     match word {
-        b"local" => Ok(1),
-        b"remote" => Ok(2),
-        b"fallback" => Ok(3),
-        b"racing" => Ok(4),
+        "local" => Ok(1),
+        "remote" => Ok(2),
+        "fallback" => Ok(3),
+        "racing" => Ok(4),
         _ => Err(RowFault::BadCall),
     }
 }
@@ -81,17 +81,17 @@ fn add_pair(alloc: Global, out: &mut Out, number: u32, row: &mut Row<'_>) -> Res
 }
 
 /// Adds a field by its word.
-fn add_field(alloc: Global, out: &mut Out, word: &[u8], row: &mut Row<'_>) -> Result<(), RowFault> {
+fn add_field(alloc: Global, out: &mut Out, word: &str, row: &mut Row<'_>) -> Result<(), RowFault> {
     match word {
-        b"environment" => add_pair(alloc, out, ENVIRONMENT, row)?,
-        b"platform" => add_pair(alloc, out, PLATFORM, row)?,
-        b"directory" => out.bytes(WORKING_DIRECTORY, &row.text(alloc)?)?,
-        b"input" => out.bytes(INPUTS, &row.text(alloc)?)?,
-        b"toolchain" => out.bytes(TOOLCHAIN_INPUTS, &row.text(alloc)?)?,
-        b"output" => out.bytes(OUTPUTS, &row.text(alloc)?)?,
-        b"cached" => out.varint(ACCEPT_CACHED, row.number()?)?,
-        b"watch" => out.varint(WATCH, row.number()?)?,
-        b"timeout" => out.varint(TIMEOUT_SECONDS, row.number()?)?,
+        "environment" => add_pair(alloc, out, ENVIRONMENT, row)?,
+        "platform" => add_pair(alloc, out, PLATFORM, row)?,
+        "directory" => out.bytes(WORKING_DIRECTORY, &row.text(alloc)?)?,
+        "input" => out.bytes(INPUTS, &row.text(alloc)?)?,
+        "toolchain" => out.bytes(TOOLCHAIN_INPUTS, &row.text(alloc)?)?,
+        "output" => out.bytes(OUTPUTS, &row.text(alloc)?)?,
+        "cached" => out.varint(ACCEPT_CACHED, row.number()?)?,
+        "watch" => out.varint(WATCH, row.number()?)?,
+        "timeout" => out.varint(TIMEOUT_SECONDS, row.number()?)?,
         _ => return Err(RowFault::BadCall),
     }
     Ok(())

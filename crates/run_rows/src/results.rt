@@ -13,8 +13,8 @@ pub(crate) fn read_result(
     row: &mut Row<'_>,
 ) -> Result<Option<ActionResult>, RowFault> {
     match row.word()? {
-        b"none" => Ok(None),
-        b"code" => read_whole(alloc, row),
+        "none" => Ok(None),
+        "code" => read_whole(alloc, row),
         _ => Err(RowFault::BadCall),
     }
 }
@@ -52,22 +52,27 @@ fn code_alone(alloc: Global, exit_code: i32) -> ActionResult {
 /// `stdout TEXT`, `stderr TEXT` or `output FILE`.
 fn add_part(alloc: Global, row: &mut Row<'_>, given: &mut ActionResult) -> Result<(), RowFault> {
     match row.word()? {
-        b"stdout" => given.stdout_raw = Bytes::from_vec(row.text(alloc)?),
-        b"stderr" => given.stderr_raw = Bytes::from_vec(row.text(alloc)?),
-        b"output" => given.output_files.push(read_file(alloc, row)?)?,
+        "stdout" => given.stdout_raw = Bytes::from_vec(row.text(alloc)?),
+        "stderr" => given.stderr_raw = Bytes::from_vec(row.text(alloc)?),
+        "output" => given.output_files.push(read_file(alloc, row)?)?,
         _ => return Err(RowFault::BadCall),
     }
     Ok(())
 }
 
+/// The next word: `executable`, or `plain` for false.
+fn read_executable(row: &mut Row<'_>) -> Result<bool, RowFault> {
+    match row.word()? {
+        "executable" => Ok(true),
+        "plain" => Ok(false),
+        _ => Err(RowFault::BadCall),
+    }
+}
+
 /// `PATH MARK DIGEST TEXT`: an output, whose contents are in the result unless the text is empty.
 fn read_file(alloc: Global, row: &mut Row<'_>) -> Result<OutputFile, RowFault> {
     let path = Text::from_string(read_string(alloc, row)?);
-    let is_executable = match row.word()? {
-        b"executable" => true,
-        b"plain" => false,
-        _ => return Err(RowFault::BadCall),
-    };
+    let is_executable = read_executable(row)?;
     Ok(OutputFile {
         path,
         digest: Some(read_digest(row)?),

@@ -6,15 +6,15 @@ use rx_world::CallFault;
 /// The next words, a fault of a call: its name, and its number where it has one.
 pub fn read_fault(row: &mut Row<'_>) -> Result<CallFault, RowFault> {
     match row.word()? {
-        b"Link" => Ok(CallFault::Link),
-        b"Cut" => Ok(CallFault::Cut),
-        b"NoStatus" => Ok(CallFault::NoStatus),
-        b"Compressed" => Ok(CallFault::Compressed),
-        b"TooLarge" => Ok(CallFault::TooLarge),
-        b"NoMemory" => Ok(CallFault::NoMemory),
-        b"BadMessage" => Ok(CallFault::BadMessage(0)),
-        b"Status" => read_status(row),
-        b"Protocol" => read_protocol(row),
+        "Link" => Ok(CallFault::Link),
+        "Cut" => Ok(CallFault::Cut),
+        "NoStatus" => Ok(CallFault::NoStatus),
+        "Compressed" => Ok(CallFault::Compressed),
+        "TooLarge" => Ok(CallFault::TooLarge),
+        "NoMemory" => Ok(CallFault::NoMemory),
+        "BadMessage" => Ok(CallFault::BadMessage(0)),
+        "Status" => read_status(row),
+        "Protocol" => read_protocol(row),
         _ => Err(RowFault::BadCall),
     }
 }

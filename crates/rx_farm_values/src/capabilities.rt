@@ -14,12 +14,12 @@ pub fn read_capabilities(row: &mut Row<'_>) -> Result<Capabilities, RowFault> {
 /// The next word, a version by its name, or `none`.
 fn read_version(row: &mut Row<'_>) -> Result<Option<SemVer>, RowFault> {
     let (major, minor) = match row.word()? {
-        b"none" => return Ok(None),
-        b"1.9.0" => (1, 9),
-        b"2.0.0" => (2, 0),
-        b"2.1.0" => (2, 1),
-        b"3.0.0" => (3, 0),
-        b"3.1.0" => (3, 1),
+        "none" => return Ok(None),
+        "1.9.0" => (1, 9),
+        "2.0.0" => (2, 0),
+        "2.1.0" => (2, 1),
+        "3.0.0" => (3, 0),
+        "3.1.0" => (3, 1),
         _ => return Err(RowFault::BadCall),
     };
     Ok(Some(SemVer {

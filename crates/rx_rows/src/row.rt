@@ -59,8 +59,15 @@ impl<'a> Row<'a> {
         self.rest.is_none()
     }
 
-    /// The next word, as it stands. `NoWord` where there is none.
-    pub fn word(&mut self) -> Result<&'a [u8], RowFault>
+    /// The next word, as it stands. `NoWord` where there is none, `BadText` where it isn't UTF-8.
+    pub fn word(&mut self) -> Result<&'a str, RowFault>
+        ensures { IfOk result (λ word. IsWord self.old word.now self.new) }
+    {
+        str::from_utf8(self.next()?).or(Err(RowFault::BadText))
+    }
+
+    /// The bytes of the next word. `NoWord` where there is none.
+    fn next(&mut self) -> Result<&'a [u8], RowFault>
         ensures { IfOk result (λ word. IsWord self.old word.now self.new) }
     {
         let Some(text) = self.rest else {
@@ -79,21 +86,18 @@ impl<'a> Row<'a> {
 
     /// The next word, a number. `BadNumber` where it is none.
     pub fn number(&mut self) -> Result<u64, RowFault> {
-        let word = self.word()?;
-        read_number(word)
+        read_number(self.word()?)
     }
 
     /// The next word, bytes. `BadBytes` where it is none.
     pub fn bytes(&mut self, alloc: Global) -> Result<Vec<u8>, RowFault> {
         let word = self.word()?;
-        let star = word.iter().position(|byte| *byte == b'*');
-        let Some(at) = star else {
+        let Some((unit, count)) = word.split_once('*') else {
             return read_bytes(alloc, word);
         };
-        let unit = read_bytes(alloc, &word[..at])?;
-        let count = read_number(&word[at + 1..])?;
+        let unit = read_bytes(alloc, unit)?;
         let mut bytes = Vec::new(alloc);
-        for _ in 0..count {
+        for _ in 0..read_number(count)? {
             bytes.extend_from_slice(&unit)?;
         }
         Ok(bytes)
@@ -123,22 +127,19 @@ impl<'a> Row<'a> {
 }
 
 /// A number in decimal digits.
-fn read_number(word: &[u8]) -> Result<u64, RowFault> {
-    let Ok(digits) = str::from_utf8(word) else {
-        return Err(RowFault::BadNumber);
-    };
-    match digits.parse::<u64>() {
+fn read_number(word: &str) -> Result<u64, RowFault> {
+    match word.parse::<u64>() {
         Ok(number) => Ok(number),
         Err(_) => Err(RowFault::BadNumber),
     }
 }
 
 /// Bytes in hexadecimal digits, or `-` for none.
-fn read_bytes(alloc: Global, word: &[u8]) -> Result<Vec<u8>, RowFault> {
-    if word == b"-".as_slice() {
+fn read_bytes(alloc: Global, word: &str) -> Result<Vec<u8>, RowFault> {
+    if word == "-" {
         return Ok(Vec::new(alloc));
     }
-    match hex::decode(alloc, word) {
+    match hex::decode(alloc, word.as_bytes()) {
         Ok(bytes) => Ok(bytes),
         Err(FromHexError::OutOfMemory) => Err(RowFault::NoMemory),
         Err(_) => Err(RowFault::BadBytes),

@@ -58,7 +58,7 @@ fn is_row(line: &[u8]) -> bool {
 /// The answer to a row, the last one where the call is repeated.
 fn answer_row<C: Calls>(alloc: Global, line: &[u8], calls: &mut C) -> Result<Answer, RowFault> {
     let mut row = Row::new(line);
-    if row.word()? != b"repeat".as_slice() {
+    if row.word()? != "repeat" {
         return make_call(alloc, Row::new(line), calls);
     }
     let count = row.number()?;

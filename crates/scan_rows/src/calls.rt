@@ -146,12 +146,12 @@ impl<'a, R: Wait> ScanCalls<'a, R> {
     }
 
     /// Rows that say what the tree or the cache is.
-    fn call_state(&mut self, word: &[u8], row: &mut Row<'_>) -> Result<(), RowFault> {
+    fn call_state(&mut self, word: &str, row: &mut Row<'_>) -> Result<(), RowFault> {
         match word {
-            b"tree" => self.set_tree(row),
-            b"many" => self.add_many(row),
-            b"cache" => self.clear_cache(row),
-            b"fails" => self.add_failure(row),
+            "tree" => self.set_tree(row),
+            "many" => self.add_many(row),
+            "cache" => self.clear_cache(row),
+            "fails" => self.add_failure(row),
             _ => Err(RowFault::NoCall),
         }
     }
@@ -161,12 +161,12 @@ impl<'a, R: Wait> Calls for ScanCalls<'a, R> {
     fn call(&mut self, row: &mut Row<'_>, answer: &mut Answer) -> Result<(), RowFault> {
         let word = row.word()?;
         match word {
-            b"gather" => self.call_gather(row, answer),
-            b"digests" => self.call_digests(answer),
-            b"digest" => self.call_digest(row, answer),
-            b"words" => self.call_words(row, answer),
+            "gather" => self.call_gather(row, answer),
+            "digests" => self.call_digests(answer),
+            "digest" => self.call_digest(row, answer),
+            "words" => self.call_words(row, answer),
             // How many reads the tree has answered.
-            b"reads" => Ok(answer.number(self.tree.reads() as u64)?),
+            "reads" => Ok(answer.number(self.tree.reads() as u64)?),
             _ => {
                 self.call_state(word, row)?;
                 Ok(answer.word("ok")?)

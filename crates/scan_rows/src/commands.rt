@@ -59,8 +59,8 @@ pub(crate) fn command_in(
 /// The next word, a kind.
 pub(crate) fn kind_in(row: &mut Row<'_>) -> Result<Kind, RowFault> {
     match row.word()? {
-        b"tool" => Ok(Kind::Tool),
-        b"compile" => Ok(Kind::Compile),
+        "tool" => Ok(Kind::Tool),
+        "compile" => Ok(Kind::Compile),
         _ => Err(RowFault::BadCall),
     }
 }
@@ -68,10 +68,10 @@ pub(crate) fn kind_in(row: &mut Row<'_>) -> Result<Kind, RowFault> {
 /// The next word, a strategy.
 pub(crate) fn strategy_in(row: &mut Row<'_>) -> Result<Strategy, RowFault> {
     match row.word()? {
-        b"local" => Ok(Strategy::Local),
-        b"remote" => Ok(Strategy::Remote),
-        b"fallback" => Ok(Strategy::RemoteLocalFallback),
-        b"racing" => Ok(Strategy::Racing),
+        "local" => Ok(Strategy::Local),
+        "remote" => Ok(Strategy::Remote),
+        "fallback" => Ok(Strategy::RemoteLocalFallback),
+        "racing" => Ok(Strategy::Racing),
         _ => Err(RowFault::BadCall),
     }
 }

@@ -3,7 +3,6 @@
 use rx_base::{PathFault, RelPath};
 use rx_rows::{Row, RowFault};
 use std::alloc::Global;
-use std::str;
 
 /// The bytes of all words that are left, put together.
 pub(crate) fn read_frame(alloc: Global, row: &mut Row<'_>) -> Result<Vec<u8>, RowFault> {
@@ -45,10 +44,7 @@ pub(crate) fn read_u32(row: &mut Row<'_>) -> Result<u32, RowFault> {
 
 /// The next word, a number of 32 bits that may have a minus.
 pub(crate) fn read_i32(row: &mut Row<'_>) -> Result<i32, RowFault> {
-    let Ok(digits) = str::from_utf8(row.word()?) else {
-        return Err(RowFault::BadNumber);
-    };
-    match digits.parse::<i32>() {
+    match row.word()?.parse::<i32>() {
         Ok(number) => Ok(number),
         Err(_) => Err(RowFault::BadNumber),
     }
@@ -57,8 +53,8 @@ pub(crate) fn read_i32(row: &mut Row<'_>) -> Result<i32, RowFault> {
 /// The next word, whether a file may be executed.
 pub(crate) fn read_mark(row: &mut Row<'_>) -> Result<bool, RowFault> {
     match row.word()? {
-        b"executable" => Ok(true),
-        b"plain" => Ok(false),
+        "executable" => Ok(true),
+        "plain" => Ok(false),
         _ => Err(RowFault::BadCall),
     }
 }

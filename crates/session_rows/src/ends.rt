@@ -24,9 +24,9 @@ pub(crate) fn read_failures(alloc: Global, row: &mut Row<'_>) -> Result<Items<Fa
 
 fn read_failure(alloc: Global, row: &mut Row<'_>) -> Result<Failure, RowFault> {
     match row.word()? {
-        b"local" => read_local(alloc, row),
-        b"remote" => read_remote(alloc, row),
-        b"non_zero" => read_non_zero(row),
+        "local" => read_local(alloc, row),
+        "remote" => read_remote(alloc, row),
+        "non_zero" => read_non_zero(row),
         _ => Err(RowFault::BadCall),
     }
 }
@@ -50,13 +50,13 @@ fn read_non_zero(row: &mut Row<'_>) -> Result<Failure, RowFault> {
 /// a `?` in each arm is dear to prove.
 fn read_cause(alloc: Global, row: &mut Row<'_>) -> Result<Cause, RowFault> {
     match row.word()? {
-        b"bench_fault" => read_bench_fault(row),
-        b"output_missing" => read_output_missing(alloc, row),
-        b"input_changed" => read_input_changed(alloc, row),
-        b"output_too_large" => read_output_too_large(row),
-        b"source_fault" => read_source_fault(alloc, row),
-        b"stopped" => read_stopped(row),
-        b"no_memory" => Ok(Cause::NoMemory),
+        "bench_fault" => read_bench_fault(row),
+        "output_missing" => read_output_missing(alloc, row),
+        "input_changed" => read_input_changed(alloc, row),
+        "output_too_large" => read_output_too_large(row),
+        "source_fault" => read_source_fault(alloc, row),
+        "stopped" => read_stopped(row),
+        "no_memory" => Ok(Cause::NoMemory),
         _ => Err(RowFault::BadCall),
     }
 }
@@ -95,15 +95,15 @@ fn read_stopped(row: &mut Row<'_>) -> Result<Cause, RowFault> {
 /// The cause of a remote attempt.
 fn read_remote_cause(alloc: Global, row: &mut Row<'_>) -> Result<RemoteCause, RowFault> {
     match row.word()? {
-        b"call_failed" => read_call_failed(alloc, row),
-        b"bad_blob" => read_bad_blob(alloc, row),
-        b"bad_result" => read_bad_result(row),
-        b"operations_spent" => Ok(RemoteCause::OperationsSpent),
-        b"stopped" => read_remote_stopped(row),
-        b"input_changed" => read_remote_input_changed(alloc, row),
-        b"wrong_version" => read_wrong_version(row),
-        b"source_fault" => read_remote_source_fault(alloc, row),
-        b"no_memory" => Ok(RemoteCause::NoMemory),
+        "call_failed" => read_call_failed(alloc, row),
+        "bad_blob" => read_bad_blob(alloc, row),
+        "bad_result" => read_bad_result(row),
+        "operations_spent" => Ok(RemoteCause::OperationsSpent),
+        "stopped" => read_remote_stopped(row),
+        "input_changed" => read_remote_input_changed(alloc, row),
+        "wrong_version" => read_wrong_version(row),
+        "source_fault" => read_remote_source_fault(alloc, row),
+        "no_memory" => Ok(RemoteCause::NoMemory),
         _ => Err(RowFault::BadCall),
     }
 }
@@ -156,59 +156,59 @@ fn read_call_faults(alloc: Global, row: &mut Row<'_>) -> Result<Items<CallFault>
 
 fn read_call_fault(alloc: Global, row: &mut Row<'_>) -> Result<CallFault, RowFault> {
     match row.word()? {
-        b"status" => Ok(CallFault::Status(read_u32(row)?)),
-        b"link" => Ok(CallFault::Link),
-        b"protocol" => Ok(CallFault::Protocol(read_u32(row)?)),
-        b"compressed" => Ok(CallFault::Compressed),
-        b"too_large" => Ok(CallFault::TooLarge),
-        b"no_status" => Ok(CallFault::NoStatus),
-        b"bad_message" => Ok(CallFault::BadMessage(read_u32(row)? as usize)),
-        b"cut" => Ok(CallFault::Cut),
-        b"blob_refused" => {
+        "status" => Ok(CallFault::Status(read_u32(row)?)),
+        "link" => Ok(CallFault::Link),
+        "protocol" => Ok(CallFault::Protocol(read_u32(row)?)),
+        "compressed" => Ok(CallFault::Compressed),
+        "too_large" => Ok(CallFault::TooLarge),
+        "no_status" => Ok(CallFault::NoStatus),
+        "bad_message" => Ok(CallFault::BadMessage(read_u32(row)? as usize)),
+        "cut" => Ok(CallFault::Cut),
+        "blob_refused" => {
             let digest = read_digest(alloc, row)?;
             Ok(CallFault::BlobRefused(digest, read_u32(row)?))
         }
-        b"no_memory" => Ok(CallFault::NoMemory),
+        "no_memory" => Ok(CallFault::NoMemory),
         _ => Err(RowFault::BadCall),
     }
 }
 
 fn read_step(row: &mut Row<'_>) -> Result<BenchStep, RowFault> {
     match row.word()? {
-        b"Make" => Ok(BenchStep::Make),
-        b"MakeDir" => Ok(BenchStep::MakeDir),
-        b"Put" => Ok(BenchStep::Put),
-        b"Run" => Ok(BenchStep::Run),
-        b"Take" => Ok(BenchStep::Take),
+        "Make" => Ok(BenchStep::Make),
+        "MakeDir" => Ok(BenchStep::MakeDir),
+        "Put" => Ok(BenchStep::Put),
+        "Run" => Ok(BenchStep::Run),
+        "Take" => Ok(BenchStep::Take),
         _ => Err(RowFault::BadCall),
     }
 }
 
 fn read_output_limit(row: &mut Row<'_>) -> Result<OutputLimit, RowFault> {
     match row.word()? {
-        b"FileBytes" => Ok(OutputLimit::FileBytes),
-        b"FilesBytes" => Ok(OutputLimit::FilesBytes),
-        b"TextBytes" => Ok(OutputLimit::TextBytes),
+        "FileBytes" => Ok(OutputLimit::FileBytes),
+        "FilesBytes" => Ok(OutputLimit::FilesBytes),
+        "TextBytes" => Ok(OutputLimit::TextBytes),
         _ => Err(RowFault::BadCall),
     }
 }
 
 fn read_result_fault(row: &mut Row<'_>) -> Result<ResultFault, RowFault> {
     match row.word()? {
-        b"NoResult" => Ok(ResultFault::NoResult),
-        b"PathTwice" => Ok(ResultFault::PathTwice),
-        b"OutputAbsent" => Ok(ResultFault::OutputAbsent),
-        b"NoDigest" => Ok(ResultFault::NoDigest),
-        b"TooLarge" => Ok(ResultFault::TooLarge),
+        "NoResult" => Ok(ResultFault::NoResult),
+        "PathTwice" => Ok(ResultFault::PathTwice),
+        "OutputAbsent" => Ok(ResultFault::OutputAbsent),
+        "NoDigest" => Ok(ResultFault::NoDigest),
+        "TooLarge" => Ok(ResultFault::TooLarge),
         _ => Err(RowFault::BadCall),
     }
 }
 
 fn read_decision(row: &mut Row<'_>) -> Result<Decision, RowFault> {
     match row.word()? {
-        b"by_local" => Ok(Decision::By(Attempt::Local)),
-        b"by_remote" => Ok(Decision::By(Attempt::Remote)),
-        b"cancelled" => Ok(Decision::Cancelled),
+        "by_local" => Ok(Decision::By(Attempt::Local)),
+        "by_remote" => Ok(Decision::By(Attempt::Remote)),
+        "cancelled" => Ok(Decision::Cancelled),
         _ => Err(RowFault::BadCall),
     }
 }

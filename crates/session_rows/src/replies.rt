@@ -47,18 +47,18 @@ fn write_parts(frame: &[u8], answer: &mut Answer) -> Result<(), RowFault> {
 /// to prove.
 fn read_reply(alloc: Global, row: &mut Row<'_>) -> Result<Reply, RowFault> {
     match row.word()? {
-        b"done" => read_done(alloc, row),
-        b"bad_request" => read_bad_request(row),
-        b"not_remotable" => read_not_remotable(alloc, row),
-        b"input_missing" => read_input_missing(alloc, row),
-        b"input_changed" => read_input_changed(alloc, row),
-        b"source_fault" => read_source_fault(alloc, row),
-        b"too_large" => read_too_large(alloc, row),
-        b"all_failed" => read_all_failed(alloc, row),
-        b"place_fault" => read_place_fault(row),
-        b"journal_full" => Ok(Reply::JournalFull),
-        b"no_memory" => Ok(Reply::NoMemory),
-        b"blocked" => read_blocked(alloc, row),
+        "done" => read_done(alloc, row),
+        "bad_request" => read_bad_request(row),
+        "not_remotable" => read_not_remotable(alloc, row),
+        "input_missing" => read_input_missing(alloc, row),
+        "input_changed" => read_input_changed(alloc, row),
+        "source_fault" => read_source_fault(alloc, row),
+        "too_large" => read_too_large(alloc, row),
+        "all_failed" => read_all_failed(alloc, row),
+        "place_fault" => read_place_fault(row),
+        "journal_full" => Ok(Reply::JournalFull),
+        "no_memory" => Ok(Reply::NoMemory),
+        "blocked" => read_blocked(alloc, row),
         _ => Err(RowFault::BadCall),
     }
 }
@@ -120,24 +120,24 @@ fn read_done(alloc: Global, row: &mut Row<'_>) -> Result<Reply, RowFault> {
 
 fn read_origin(row: &mut Row<'_>) -> Result<Origin, RowFault> {
     match row.word()? {
-        b"Local" => Ok(Origin::Local),
-        b"Remote" => Ok(Origin::Remote),
-        b"Cache" => Ok(Origin::Cache),
+        "Local" => Ok(Origin::Local),
+        "Remote" => Ok(Origin::Remote),
+        "Cache" => Ok(Origin::Cache),
         _ => Err(RowFault::BadCall),
     }
 }
 
 fn read_reason(row: &mut Row<'_>) -> Result<BadReason, RowFault> {
     match row.word()? {
-        b"CutShort" => Ok(BadReason::CutShort),
-        b"TooLong" => Ok(BadReason::TooLong),
-        b"BadKind" => Ok(BadReason::BadKind),
-        b"BadMessage" => Ok(BadReason::BadMessage),
-        b"UnknownVersion" => Ok(BadReason::UnknownVersion),
-        b"WrongRoot" => Ok(BadReason::WrongRoot),
-        b"BadField" => Ok(BadReason::BadField),
-        b"Trailing" => Ok(BadReason::Trailing),
-        b"NotBuilt" => Ok(BadReason::NotBuilt),
+        "CutShort" => Ok(BadReason::CutShort),
+        "TooLong" => Ok(BadReason::TooLong),
+        "BadKind" => Ok(BadReason::BadKind),
+        "BadMessage" => Ok(BadReason::BadMessage),
+        "UnknownVersion" => Ok(BadReason::UnknownVersion),
+        "WrongRoot" => Ok(BadReason::WrongRoot),
+        "BadField" => Ok(BadReason::BadField),
+        "Trailing" => Ok(BadReason::Trailing),
+        "NotBuilt" => Ok(BadReason::NotBuilt),
         _ => Err(RowFault::BadCall),
     }
 }
@@ -145,11 +145,11 @@ fn read_reason(row: &mut Row<'_>) -> Result<BadReason, RowFault> {
 /// `word TEXT` or `path PATH`.
 fn read_local_cause(alloc: Global, row: &mut Row<'_>) -> Result<LocalCause, RowFault> {
     match row.word()? {
-        b"word" => {
+        "word" => {
             let word = Text::from_string(read_string(alloc, row)?);
             Ok(LocalCause::Word { word })
         }
-        b"path" => {
+        "path" => {
             let path = read_path(alloc, row)?;
             Ok(LocalCause::Path { path })
         }
@@ -171,11 +171,11 @@ fn read_too_large(alloc: Global, row: &mut Row<'_>) -> Result<Reply, RowFault> {
 
 fn read_limit(row: &mut Row<'_>) -> Result<Limit, RowFault> {
     match row.word()? {
-        b"ScanFiles" => Ok(Limit::ScanFiles),
-        b"FileBytes" => Ok(Limit::FileBytes),
-        b"ScanBytes" => Ok(Limit::ScanBytes),
-        b"ListFiles" => Ok(Limit::ListFiles),
-        b"ListBytes" => Ok(Limit::ListBytes),
+        "ScanFiles" => Ok(Limit::ScanFiles),
+        "FileBytes" => Ok(Limit::FileBytes),
+        "ScanBytes" => Ok(Limit::ScanBytes),
+        "ListFiles" => Ok(Limit::ListFiles),
+        "ListBytes" => Ok(Limit::ListBytes),
         _ => Err(RowFault::BadCall),
     }
 }

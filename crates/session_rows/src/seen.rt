@@ -24,10 +24,10 @@ pub(crate) fn read_digest(alloc: Global, row: &mut Row<'_>) -> Result<Digest, Ro
 /// `dir` or `other`.
 fn read_look(row: &mut Row<'_>) -> Result<Look, RowFault> {
     match row.word()? {
-        b"absent" => Ok(Look::Absent),
-        b"dir" => Ok(Look::Dir),
-        b"other" => Ok(Look::Other),
-        b"file" => read_file(row),
+        "absent" => Ok(Look::Absent),
+        "dir" => Ok(Look::Dir),
+        "other" => Ok(Look::Other),
+        "file" => read_file(row),
         _ => Err(RowFault::BadCall),
     }
 }
@@ -48,8 +48,8 @@ fn read_file(row: &mut Row<'_>) -> Result<Look, RowFault> {
 fn read_seen(alloc: Global, row: &mut Row<'_>) -> Result<Seen, RowFault> {
     let look = read_look(row)?;
     match row.word()? {
-        b"no_digest" => Ok(Seen::from(look)),
-        b"digest" => {
+        "no_digest" => Ok(Seen::from(look)),
+        "digest" => {
             let digest = Some(read_digest(alloc, row)?);
             Ok(Seen { look, digest })
         }

@@ -55,8 +55,8 @@ impl Scene {
         };
         if !row.is_done() {
             match row.word()? {
-                b"reads" => proxy.reads.push(row.number()?)?,
-                b"writes" => proxy.writes.push(row.number()?)?,
+                "reads" => proxy.reads.push(row.number()?)?,
+                "writes" => proxy.writes.push(row.number()?)?,
                 _ => return Err(RowFault::BadCall),
             }
         }
@@ -67,8 +67,8 @@ impl Scene {
     /// `full out|err`: the next client's standard output or standard error takes nothing.
     pub(crate) fn full(&mut self, row: &mut Row<'_>, answer: &mut Answer) -> Result<(), RowFault> {
         match row.word()? {
-            b"out" => self.out_fails.push(1)?,
-            b"err" => self.err_fails.push(1)?,
+            "out" => self.out_fails.push(1)?,
+            "err" => self.err_fails.push(1)?,
             _ => return Err(RowFault::BadCall),
         }
         Ok(answer.word("met")?)

@@ -24,16 +24,16 @@ impl Calls for Wraps {
     fn call(&mut self, row: &mut Row<'_>, answer: &mut Answer) -> Result<(), RowFault> {
         let alloc = self.alloc;
         match row.word()? {
-            b"words" => flags::answer_words(alloc, row, answer),
-            b"environment" => flags::answer_environment(alloc, row, answer),
-            b"file" => flags::answer_file(alloc, row, answer),
-            b"flags" => flags::answer_flags(alloc, row, answer),
-            b"asked" => asks::answer_asked(alloc, row, answer),
-            b"payload" => asks::answer_payload(alloc, row, answer),
-            b"config" => self.scene.config(row, answer),
-            b"proxy" => self.scene.proxy(row, answer),
-            b"full" => self.scene.full(row, answer),
-            b"client" => self.scene.client(row, answer),
+            "words" => flags::answer_words(alloc, row, answer),
+            "environment" => flags::answer_environment(alloc, row, answer),
+            "file" => flags::answer_file(alloc, row, answer),
+            "flags" => flags::answer_flags(alloc, row, answer),
+            "asked" => asks::answer_asked(alloc, row, answer),
+            "payload" => asks::answer_payload(alloc, row, answer),
+            "config" => self.scene.config(row, answer),
+            "proxy" => self.scene.proxy(row, answer),
+            "full" => self.scene.full(row, answer),
+            "client" => self.scene.client(row, answer),
             _ => Err(RowFault::NoCall),
         }
     }
