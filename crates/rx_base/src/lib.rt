@@ -25,6 +25,3 @@ pub use path_questions::{is_above_any, is_among, is_at_or_below_any, is_below_an
 pub use paths::{MAX_PATH_LEN, RelPath};
 pub use sorted_paths::{first_above, first_at_or_above, first_below, sort_paths};
 pub use text_list::Text;
-
-#[cfg(test)]
-mod tests;

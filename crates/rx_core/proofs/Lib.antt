@@ -5,4 +5,3 @@ mod Outcomes
 mod Owners
 mod RunLemmas
 mod Staying
-mod StepByStep

@@ -1,6 +1,5 @@
 pub mod Actions
 pub mod Answering
-pub mod AtOnce
 pub mod Attempts
 pub mod Facts
 pub mod FarmHistories

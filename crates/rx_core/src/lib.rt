@@ -9,6 +9,3 @@ mod remote_history;
 pub use farm_history::FarmHistory;
 pub use laws::{every_run, every_step};
 pub use remote_history::RemoteHistory;
-
-#[cfg(test)]
-mod tests;

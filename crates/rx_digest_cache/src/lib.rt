@@ -9,6 +9,3 @@ mod kept;
 pub use cache::{DIGEST_CACHE_LIMIT, DigestCache};
 pub use cache_fault::CacheFault;
 pub use kept::{KeptDigests, NotKept, StampedDigest};
-
-#[cfg(test)]
-mod tests;

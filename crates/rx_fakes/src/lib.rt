@@ -32,6 +32,3 @@ pub use sink::{MemorySink, QuietSink};
 pub use source::{MemorySource, QuietSource};
 pub use sources::{Change, MemorySources, When};
 pub use tree_texts::{TreeFault, read_tree};
-
-#[cfg(test)]
-mod tests;

@@ -12,12 +12,8 @@ mod dial;
 mod farm;
 mod files;
 mod halting;
-#[cfg(test)]
-mod halting_tests;
 mod hands;
 mod link;
-#[cfg(test)]
-mod link_tests;
 mod listener;
 mod listing;
 mod looks;
@@ -27,8 +23,6 @@ mod runs;
 mod seeds;
 mod staged;
 mod tells;
-#[cfg(test)]
-mod tests;
 mod world;
 
 pub use bench::HostBench;

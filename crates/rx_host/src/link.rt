@@ -14,13 +14,13 @@ use std::time::Duration;
 
 /// How long a call waits for the farm's next bytes, or for the farm to take some. Then it is a fault
 /// of the link, so that a farm that died without a word doesn't hold up a build.
-pub(crate) const SILENCE_SECONDS: u64 = 600;
+const SILENCE_SECONDS: u64 = 600;
 
 /// One connection over TCP. What is sent leaves at once (no algorithm of Nagle, RFC 9293 3.7.4).
 #[derive(Drop)]
 pub struct HostLink {
     rt: HostRuntime,
-    pub(crate) stream: TcpStream,
+    stream: TcpStream,
     halting: Halting,
     pub(crate) ended: bool,
     pub(crate) faults: Faults,

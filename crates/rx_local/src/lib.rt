@@ -11,6 +11,3 @@ mod take;
 
 pub use local::{LocalJob, run_local};
 pub use slots::{Places, SlotPass, Slots, blank_for};
-
-#[cfg(test)]
-mod tests;

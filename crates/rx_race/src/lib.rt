@@ -26,6 +26,3 @@ pub use shared_race::SharedRace;
 pub use slips::{Seat, Slip};
 pub use standing::{Phase, Standing};
 pub use tickets::Ticket;
-
-#[cfg(test)]
-mod tests;

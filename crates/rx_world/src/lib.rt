@@ -41,6 +41,3 @@ pub use toy::{Contents, Toy, toy_run};
 pub use trees::Tree;
 pub use versions::{Dialect, SemVer};
 pub use world::World;
-
-#[cfg(test)]
-mod tests;
