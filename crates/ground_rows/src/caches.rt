@@ -54,7 +54,7 @@ fn write_found(
 
 impl Caches {
     /// A cache of one digest, which two threads ask at once for `a`, each over a tree of its own that has
-    /// `abc` there. They are asked here, since a row has no right to share the runtime among threads.
+    /// `abc` there. They are asked here, since a row's call isn't told that threads may share the runtime.
     pub(crate) fn asked_twice<R: Wait + Threads + Sync>(
         rt: &R,
         alloc: Global,

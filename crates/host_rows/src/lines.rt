@@ -1,4 +1,5 @@
-//! The lines of a table, and what has to be done in a thread or before a line is answered: a call has no right to either.
+//! The lines of a table, and what has to be done in a thread or before a line is answered, since a row's call isn't told
+//! that threads may have what it uses.
 
 use crate::machine::Machine;
 use rx_host::Hands;
