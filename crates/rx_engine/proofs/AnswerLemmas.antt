@@ -15,7 +15,6 @@ use Rattle.rx_session.specs.declared.replies.Reply.TheVariants as reply
 use Rattle.rx_session.specs.declared.requests.Request.{Request}
 use Rattle.rx_session.specs.Jobs.{command_of, declared_of}
 use Rattle.rx_session.specs.Replies.{frame_of}
-use Rattle.rx_world.specs.declared.attempts.Ended.{Ended}
 use Rattle.rx_exec_messages.specs.declared.callers.Caller as callers
 use Rattle.rx_world.specs.declared.benches.Bench as benches
 use Rattle.rx_world.specs.declared.benches.BenchMaker as makers
@@ -33,9 +32,10 @@ use Rattle.rx_engine.specs.declared.attempts.Attempted.{Attempted}
 use Rattle.rx_engine.specs.declared.attempts.Won.{Won}
 use Rattle.rx_engine.specs.declared.desk.Parts.{Parts}
 use Rattle.rx_engine.specs.declared.pending.Stage.TheVariants as stages
+use Rattle.rx_engine.specs.declared.transcripts.Tally.{Tally}
 use Rattle.rx_engine.specs.Answered.{AnswersFault, IsPlain, TellsPublication, reply_no_memory}
 use Rattle.rx_engine.specs.Answers.{Answers, Grounds, HasRun, HasWon, IsUnrun, MayHaveRun, asked_of, grounds, stretch_of}
-use Rattle.rx_engine.specs.Attempts.{HasAttempts, HasMade, IsIdle, winner}
+use Rattle.rx_engine.specs.Attempts.{HasAttempts, HasMade, IsIdle, no_tally, winner}
 use Rattle.rx_engine.specs.Gathers.{AnswersMade, HasGatheredFor, HasNotGathered}
 use Rattle.rx_engine.specs.Meanings.{Meanings, meanings}
 use Rattle.rx_engine.specs.Pending.{HasAnswered, HasTried}
@@ -71,8 +71,8 @@ same-back p q h = record {
 
 -- ---- the replies to attempts
 
-module _ {P W B : Type 0} (m : Meanings P W B) (g : Grounds P) (request : Request) (ends : List Ended) where
-  publication-answers : (won : Won) (a : Answered) (answer : Reply) → HasWon m g request ends won → TellsPublication won a answer → Answers m g request a.receipt ends answer
+module _ {P W B : Type 0} (m : Meanings P W B) (g : Grounds P) (request : Request) (tally : Tally) where
+  publication-answers : (won : Won) (a : Answered) (answer : Reply) → HasWon m g request tally won → TellsPublication won a answer → Answers m g request a.receipt tally answer
   publication-answers won a (reply.Done exit stdout stderr from number placed) h tells = (won, h, tells.0, tells.1)
   publication-answers won a (reply.PlaceFault number placed) h tells = (won, h, tells.0, tells.1)
   publication-answers won a reply.JournalFull h tells = (won, h, tells)
@@ -86,10 +86,10 @@ module _ {P W B : Type 0} (m : Meanings P W B) (g : Grounds P) (request : Reques
   publication-answers won a (reply.BadRequest bad) h tells = absurd tells
   publication-answers won a reply.NoMemory h tells = absurd tells
 
-  no-memory-answers : (a : Answered) → MayHaveRun m g request ends → IsPlain reply_no_memory a → Answers m g request a.receipt ends a.reply
+  no-memory-answers : (a : Answered) → MayHaveRun m g request tally → IsPlain reply_no_memory a → Answers m g request a.receipt tally a.reply
   no-memory-answers a run h = rw h.reply_is (run, h.receipt_is)
 
-  run-answers : (run : HasRun m g request ends) (answered : Option Answered) → IfSome answered (AnswersMade (winner run.gathered.plan run.attempts) ends) → AnswersAs m g request ends answered
+  run-answers : (run : HasRun m g request tally) (answered : Option Answered) → IfSome answered (AnswersMade (winner run.gathered.plan run.attempts) tally.ends) → AnswersAs m g request tally answered
   run-answers run None h = inr run
   run-answers run (Some a) (inl h) = (h.2.frame, publication-answers h.0 a a.reply (record { run = run; won_is = h.1 }) h.2.tells)
   run-answers run (Some a) (inr (inl h)) =
@@ -99,8 +99,8 @@ module _ {P W B : Type 0} (m : Meanings P W B) (g : Grounds P) (request : Reques
 
   -- ---- the replies to a refused gathering
 
-  refusal-answers : (why : GatherFault) (a : Answered) → IsUnrun m g ends → BlamesGather (asked_of request) why (stretch_of m g)
-      → AnswersFault why a → (a.frame.items ≡ frame_of a.reply) × Answers m g request a.receipt ends a.reply
+  refusal-answers : (why : GatherFault) (a : Answered) → IsUnrun m g tally → BlamesGather (asked_of request) why (stretch_of m g)
+      → AnswersFault why a → (a.frame.items ≡ frame_of a.reply) × Answers m g request a.receipt tally a.reply
   refusal-answers (fault.NotRemotable cause) a u blame h = (h.frame, rw h.reply_is (record { cause = blame; unrun = u; receipt_is = h.receipt_is }))
   refusal-answers (fault.InputMissing path) a u blame h = (h.frame, rw h.reply_is (record { cause = blame; unrun = u; receipt_is = h.receipt_is }))
   refusal-answers (fault.InputChanged input) a u blame h = (h.frame, rw h.reply_is (record { cause = blame; unrun = u; receipt_is = h.receipt_is }))
@@ -109,21 +109,21 @@ module _ {P W B : Type 0} (m : Meanings P W B) (g : Grounds P) (request : Reques
   refusal-answers (fault.Blocked path) a u blame h = (h.frame, rw h.reply_is (record { cause = blame; unrun = u; receipt_is = h.receipt_is }))
   refusal-answers fault.NoMemory a u blame h = absurd h
 
-  given-up-answers : (answered : Option Answered) → IsUnrun m g ends → IfSome answered (IsPlain reply_no_memory) → AnswersAs m g request ends answered
+  given-up-answers : (answered : Option Answered) → IsUnrun m g tally → IfSome answered (IsPlain reply_no_memory) → AnswersAs m g request tally answered
   given-up-answers None u h = inl u
   given-up-answers (Some a) u h = (h.frame, no-memory-answers a (inl u) h)
 
-  refused-answers : {E : Type 0} (why : GatherFault) (made : Result Answered E) (answered : Option Answered) → IsUnrun m g ends
+  refused-answers : {E : Type 0} (why : GatherFault) (made : Result Answered E) (answered : Option Answered) → IsUnrun m g tally
       → BlamesGather (asked_of request) why (stretch_of m g)
-      → IfOk made (AnswersFault why) → IsOrGivenUp made answered → AnswersAs m g request ends answered
+      → IfOk made (AnswersFault why) → IsOrGivenUp made answered → AnswersAs m g request tally answered
   refused-answers why (Ok a) answered u blame h o = rw o (refusal-answers why a u blame h)
   refused-answers why (Err e) answered u blame h o = given-up-answers answered u o
 
 -- the answer to attempts that were made
 pub tried-answers : {P W B : Type 0} (m : Meanings P W B) (g : Grounds P) (request : Request) (attempted : Attempted) (answered : Option Answered) → HasTried m g request attempted
-    → IfSome answered (AnswersMade attempted.won attempted.ends) → AnswersAs m g request attempted.ends answered
+    → IfSome answered (AnswersMade attempted.won attempted.tally.ends) → AnswersAs m g request attempted.tally answered
 tried-answers m g request attempted answered h a =
-    run-answers m g request attempted.ends h.run answered (subst (λ x. IfSome answered (AnswersMade x attempted.ends)) h.won_is a)
+    run-answers m g request attempted.tally h.run answered (subst (λ x. IfSome answered (AnswersMade x attempted.tally.ends)) h.won_is a)
 
 -- ---- the whole
 
@@ -153,7 +153,7 @@ module _ {W I O T L M B R C : Type 0} (w : world.Ghosts W) (i : inputs.Ghosts I)
             attempts = made.attempts;
             made = attempts-move w i o t l k b v z q r p r gathered request.accept_cached made.attempts (same-back p q same) (same-none r)
                 (subst (λ x. HasAttempts (meanings w i o t l k b v z) gathered x q r made.attempts) is made.each);
-            ends_are = made.ends_are;
+            tally_is = made.tally_is;
           };
           won_is = made.won_is;
         };
@@ -172,8 +172,8 @@ module _ {W I O T L M B R C : Type 0} (w : world.Ghosts W) (i : inputs.Ghosts I)
         view = h.view;
         looked = h.looked;
         stage_is = (
-          refused-answers (meanings w i o t l k b v z) (grounds p q h.answers h.lists h.view) request []
-              why made answered (record { idle = idle; ends_are = refl }) h.cause answers given,
+          refused-answers (meanings w i o t l k b v z) (grounds p q h.answers h.lists h.view) request no_tally
+              why made answered (record { idle = idle; tally_is = refl }) h.cause answers given,
           refused why made answered answers given,
         );
       }
@@ -185,6 +185,17 @@ module _ {W I O T L M B R C : Type 0} (w : world.Ghosts W) (i : inputs.Ghosts I)
     lists = [];
     view = [];
     looked = tells-in w t (λ (x : Parts I O T L M R C). x.tree) p p [] [] (tells-none w t p.tree);
+    cause = tt;
+  }
+
+  -- memory ran out right after the gathering
+  pub gathered-starved : (p : Parts I O T L M R C) (tree : T) (asked : Asked) (request : Request) (gathered : Gathered) → Gathers w t p.tree tree asked (Ok gathered)
+      → HasNotGathered (meanings w i o t l k b v z) request p (record p { tree = tree }) fault.NoMemory
+  gathered-starved p tree asked request gathered h = record {
+    answers = h.answers;
+    lists = h.lists;
+    view = h.view;
+    looked = tells-in w t (λ (x : Parts I O T L M R C). x.tree) p (record p { tree = tree }) h.answers h.lists h.tells;
     cause = tt;
   }
 

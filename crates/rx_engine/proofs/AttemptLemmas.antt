@@ -1,6 +1,6 @@
 -- From the ends of the attempts to the attempts of a plan.
 use Rattle.std.proofs.Common.{◌≡◌, ◌≤◌, Bool, List, [], ◌++◌, ap, arith, inl, inr, refl, subst, sym}
-use Rattle.std.specs.Prelude.{All, Err, IfOk, IfSome, None, Ok, Option, Result, Some, is_some}
+use Rattle.std.specs.Prelude.{All, Err, IfOk, IfSome, None, Ok, Option, Result, Some}
 use Rattle.rx_action.specs.OutputPaths.{AreBelow}
 use Rattle.rx_base.specs.Digests.{digest_of}
 use Rattle.rx_base.specs.declared.digests.Digest.{Digest}
@@ -23,14 +23,12 @@ use Rattle.rx_session.specs.declared.requests.Request.{Request}
 use Rattle.rx_tree.specs.declared.blobs.Blob.{Blob as Directory}
 use Rattle.rx_tree.specs.Blobs.{blob_of}
 use Rattle.rx_tree.proofs.FitLemmas.{can_be_built}
-use Rattle.rx_world.specs.declared.attempts.Attempt.{Attempt}
 use Rattle.rx_world.specs.declared.attempts.Cause.{Cause}
 use Rattle.rx_world.specs.declared.attempts.Cause.TheVariants as causes
 use Rattle.rx_world.specs.declared.attempts.End.{End}
 use Rattle.rx_world.specs.declared.attempts.End.TheVariants as ends
 use Rattle.rx_world.specs.declared.attempts.Origin.{Origin}
 use Rattle.rx_world.specs.declared.attempts.Plan.{Plan}
-use Rattle.rx_world.specs.declared.attempts.Plan.TheVariants as plans
 use Rattle.rx_world.specs.declared.benches.Bench as benches
 use Rattle.rx_world.specs.declared.benches.BenchMaker as makers
 use Rattle.rx_world.specs.declared.commands.Command.{Command}
@@ -50,14 +48,16 @@ use Rattle.rx_world.specs.Outcomes.{IsProper}
 use Rattle.rx_engine.specs.declared.desk.Parts.{Parts}
 use Rattle.rx_engine.specs.declared.held.Held.{Held}
 use Rattle.rx_engine.specs.Answers.{HasOutputsBelow, asked_of}
-use Rattle.rx_engine.specs.Attempts.{AreLaterThan, Attempts, HasAttempts, HasEndedHere, HasLocal, HasRemote, HasRunHere, HasTurns, Holds, IsIdle, IsIdleHere, end_of, has_remote, job_of, starts_here, whole_end}
+use Rattle.rx_engine.specs.declared.transcripts.Passes.{Passes}
+use Rattle.rx_engine.specs.Attempts.{AreLaterThan, Attempts, HasAttempts, HasEndedHere, HasLocal, HasRemote, HasRunHere, Holds, IsIdle, IsIdleHere, end_of, job_of, whole_end}
 use Rattle.rx_engine.specs.Meanings.{Meanings, meanings}
 use Rattle.rx_engine.specs.RacedAttempts.{HasRaced, HasRacedHere, HasRacedThere, RanHere, RanThere}
-use Rattle.rx_engine.specs.Racing.{HaveRaced, first_by}
+use Rattle.rx_engine.specs.Plans.{has_remote, is_due_here}
+use Rattle.rx_engine.specs.Racing.{HaveRaced}
 use Rattle.rx_engine.specs.RemoteAttempts.{EndsThere, FitsFarm, HasRunThere, IsIdleThere, IsTreeOf}
 use Rattle.rx_engine.proofs.Cases.{as-remote}
 use Rattle.rx_engine.proofs.Mirrors.{farm-in, source-in, there-mirrored}
-use Rattle.rx_engine.proofs.Moves.{IsSame, IsSameHere, IsSameThere, gives-in, local-move, remote-move}
+use Rattle.rx_engine.proofs.Moves.{IsSame, gives-in, local-move, remote-move}
 
 unchanged-none : (told : Option (List SourceEntry)) (files : List InputFile) → IfSome told (λ entries. All (IsAsListed entries) files → Unit {0})
 unchanged-none None files = tt
@@ -198,19 +198,6 @@ module _ {W I O T L M B R C : Type 0} (w : world.Ghosts W) (i : inputs.Ghosts I)
       (source-in v (λ (x : Parts I O T L M R C). x.tree_remote) p) (source-in v (λ (x : Parts I O T L M R C). x.tree_remote) q)
       gathered accepts told end h
 
-  -- the remote attempt where the plan has one, then the local one where it starts
-  pub turns-made : (p q r : Parts I O T L M R C) (gathered : Gathered) (accepts : Bool) (here : Option (End Outcome Cause)) (there : Option (End Outcome RemoteCause))
-      → IsSameHere p q → IsSameThere q r
-      → HasRemote (meanings w i o t l k b v z) gathered accepts None p q there → is_some there ≡ has_remote gathered.plan
-      → HasLocal (meanings w i o t l k b v z) gathered None q r here → is_some here ≡ starts_here gathered.plan there
-      → HasTurns (meanings w i o t l k b v z) gathered accepts p r here there
-  turns-made p q r gathered accepts here there same_here same_there h started_there g started_here = record {
-    here = local-move w i o t l k b v z q r p r gathered None here (record { tree_local = sym same_here.tree_local; benches = sym same_here.benches }) (record { tree_local = refl; benches = refl }) g;
-    there = remote-move w i o t l k b v z p q p r gathered accepts None there (record { tree_remote = refl; farm = refl }) same_there h;
-    started_here = started_here;
-    started_there = started_there;
-  }
-
   -- ---- a race
 
   -- the local attempt was made or refused
@@ -228,25 +215,23 @@ module _ {W I O T L M B R C : Type 0} (w : world.Ghosts W) (i : inputs.Ghosts I)
       (idle-there-none w (meanings w i o t l k b v z).farm (meanings w i o t l k b v z).tree_remote p p)
   raced-there p q gathered accepts told (Some end) h = there-in p q gathered accepts told end h
 
-  pub both-raced : (p q : Parts I O T L M R C) (gathered : Gathered) (accepts : Bool) (plan : Plan) (here : Option (End Outcome Cause)) (there : Option (End Outcome RemoteCause)) (near far : Ticket) (cancel : Slip) (first : Attempt)
-      → plan ≡ plans.Both
-      → HasRacedHere w k b l plan gathered p.benches q.benches p.tree_local q.tree_local here near
-      → HasRacedThere w z v plan gathered accepts p.farm q.farm p.tree_remote q.tree_remote there far
-      → AreTold plan (slips_of near.slip far.slip cancel) → cancel ≡ Unused → first ≡ first_by far.slip
-      → HasRaced (meanings w i o t l k b v z) gathered accepts p q here there first
-  both-raced p q gathered accepts plan here there near far cancel first e h g told unused is = record {
+  pub all-raced : (p q : Parts I O T L M R C) (gathered : Gathered) (accepts : Bool) (plan : Plan) (here : Option (End Outcome Cause)) (there : Option (End Outcome RemoteCause)) (near far : Ticket) (cancel : Slip) (passes : Passes)
+      → gathered.plan ≡ plan
+      → HasRacedHere w k b l plan (is_due_here plan far.slip) gathered p.benches q.benches p.tree_local q.tree_local here near
+      → HasRacedThere w z v plan (has_remote plan) gathered accepts p.farm q.farm p.tree_remote q.tree_remote there far
+      → AreTold plan (slips_of near.slip far.slip cancel) → cancel ≡ Unused → passes ≡ record { local = near.slip; remote = far.slip; cancel = cancel }
+      → HasRaced (meanings w i o t l k b v z) gathered accepts p q here there passes
+  all-raced p q gathered accepts plan here there near far cancel passes e h g told unused is = record {
     told_local = h.told;
     told_remote = g.told;
     here = raced-here p q gathered h.told here h.ran;
     there = raced-there p q gathered accepts g.told there g.ran;
-    raced = subst (λ x. HaveRaced x h.told here g.told there first) e (record {
-      slips = slips_of near.slip far.slip cancel;
+    raced = subst (λ x. HaveRaced x h.told here g.told there passes) (sym e) (subst (λ x. HaveRaced plan h.told here g.told there x) (sym is) (record {
       told = told;
       fits_local = h.fits;
       fits_remote = g.fits;
       uncancelled = unused;
-      first_is = is;
-    });
+    }));
   }
 
 -- ---- counts

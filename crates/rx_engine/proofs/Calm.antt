@@ -19,7 +19,6 @@ use Rattle.rx_world.specs.declared.attempts.Cause.{Cause}
 use Rattle.rx_world.specs.declared.attempts.Cause.TheVariants as causes
 use Rattle.rx_world.specs.declared.attempts.End.TheVariants as ends
 use Rattle.rx_world.specs.declared.commands.Strategy.TheVariants as strategies
-use Rattle.rx_world.specs.declared.attempts.Ended.{Ended}
 use Rattle.rx_world.specs.declared.decisions.Decision.{Decision}
 use Rattle.rx_world.specs.declared.input_files.InputFile.{InputFile}
 use Rattle.rx_world.specs.declared.looks.Look.{Look}
@@ -33,6 +32,7 @@ use Rattle.rx_world.specs.Inputs.{look_of}
 use Rattle.rx_world.specs.Outcomes.{IsClean}
 use Rattle.rx_world.specs.Sources.{entry_at, given_bytes, is_file}
 use Rattle.rx_world.specs.Trees.{tree_of}
+use Rattle.rx_engine.specs.declared.transcripts.Tally.{Tally}
 use Rattle.rx_engine.specs.declared.transcripts.Transcript.{Transcript}
 use Rattle.rx_engine.specs.Answers.{Grounds, HasGathered, IsRefused, asked_of}
 use Rattle.rx_engine.specs.Attempts.{HasEndedHere}
@@ -123,16 +123,16 @@ module _ {P W B : Type 0} (m : Meanings P W B) (entries : List SourceEntry) (g :
   view-right notes = let s = shows m entries g c.by_list in right-noted (scene_of entries) [] g.view g.answers notes s.seen s.answered
 
   -- the gathering refuses nothing, unless memory runs out
-  pub not-refused-by : (receipt : Option Receipt) (ends : List Ended) (why : GatherFault) → IsRefused m g asked receipt ends why → (why ≡ fault.NoMemory → ⊥) → ⊥
-  not-refused-by receipt ends (fault.InputMissing path) f n = none-some (sym c.gathers.there ∙ f.cause.2.1 (scene_of entries) (view-right f.cause.1))
-  not-refused-by receipt ends (fault.SourceFault path) f n = c.tree f.cause
-  not-refused-by receipt ends (fault.TooLarge limit count path) f n =
+  pub not-refused-by : (receipt : Option Receipt) (tally : Tally) (why : GatherFault) → IsRefused m g asked receipt tally why → (why ≡ fault.NoMemory → ⊥) → ⊥
+  not-refused-by receipt tally (fault.InputMissing path) f n = none-some (sym c.gathers.there ∙ f.cause.2.1 (scene_of entries) (view-right f.cause.1))
+  not-refused-by receipt tally (fault.SourceFault path) f n = c.tree f.cause
+  not-refused-by receipt tally (fault.TooLarge limit count path) f n =
       elim (f.cause.2 (scene_of entries) (shows m entries g c.by_list)) [
         | inl scan ↦ c.gathers.scan limit count path scan.1
         | inr list ↦ c.gathers.list limit count path list.1
       ]
-  not-refused-by receipt ends (fault.InputChanged input) f n = not-changed entries g.answers input c.by_list.told c.apart f.cause
-  not-refused-by receipt ends (fault.NotRemotable why) f n = c.gathers.planned why (f.cause.3 (scene_of entries) (shows m entries g c.by_list)) f.cause.0
+  not-refused-by receipt tally (fault.InputChanged input) f n = not-changed entries g.answers input c.by_list.told c.apart f.cause
+  not-refused-by receipt tally (fault.NotRemotable why) f n = c.gathers.planned why (f.cause.3 (scene_of entries) (shows m entries g c.by_list)) f.cause.0
   not-refused-by receipt ends (fault.Blocked path) f n =
       let b = f.cause.2 (scene_of entries) (shows m entries g c.by_list) in
       none-some (sym (c.gathers.free b.cause b.files b.kept b.sorted b.each) ∙ b.blocks)

@@ -1,12 +1,11 @@
 -- From what was pending to the session.
-use Rattle.std.proofs.Common.{◌≡◌, ◌≤◌, ◌∙◌, ℕ, List, [], refl, subst, sym}
+use Rattle.std.proofs.Common.{◌≡◌, ◌≤◌, ◌∙◌, ℕ, List, [], ap, refl, subst, sym}
 use Rattle.std.specs.Global.{Vec}
 use Rattle.std.specs.Prelude.{IfSome, None, Option, Some}
 use Rattle.std.specs.Io.KnownBytes.{Appends}
 use Rattle.rx_board.specs.Board.{State}
 use Rattle.rx_session.specs.declared.requests.Request.{Request}
 use Rattle.rx_session.specs.Frames.{shutdown, shutdown_done}
-use Rattle.rx_world.specs.declared.attempts.Ended.{Ended}
 use Rattle.rx_exec_messages.specs.declared.callers.Caller as callers
 use Rattle.rx_world.specs.declared.benches.Bench as benches
 use Rattle.rx_world.specs.declared.benches.BenchMaker as makers
@@ -24,8 +23,10 @@ use Rattle.rx_engine.specs.declared.desk.Parts.{Parts}
 use Rattle.rx_engine.specs.declared.pending.Pending.{Pending}
 use Rattle.rx_engine.specs.declared.pending.Stage.TheVariants as stages
 use Rattle.rx_engine.specs.declared.transcripts.Ending.TheVariants.{SinkLost}
+use Rattle.rx_engine.specs.declared.transcripts.Tally.{Tally}
 use Rattle.rx_engine.specs.declared.transcripts.Transcript.{Transcript}
 use Rattle.rx_engine.specs.Answers.{Grounds, grounds}
+use Rattle.rx_engine.specs.Attempts.{no_tally}
 use Rattle.rx_engine.specs.Gathers.{AnswersMade}
 use Rattle.rx_engine.specs.Journal.{JournalsBoard, files_of}
 use Rattle.rx_engine.specs.Meanings.{Meanings, meanings}
@@ -47,21 +48,21 @@ appends-same old mid e = subst (λ x. Appends old x []) (sym e) (appends-none ol
 module _ {W I O T L M B R C : Type 0} (w : world.Ghosts W) (i : inputs.Ghosts I) (o : sinks.Ghosts O) (t : sources.Ghosts T W) (l : sources.Ghosts L W) (k : makers.Ghosts M W B) (b : benches.Ghosts B W)
     (v : sources.Ghosts R W) (z : callers.Ghosts C W) where
   -- an answer was ready, and it was written
-  written-session : (root : List ℕ) (p q : Parts I O T L M R C) (sink : O) (number : ℕ) (pending : Pending) (ends : List Ended) (answered : Option Answered) (kept : Transcript)
+  written-session : (root : List ℕ) (p q : Parts I O T L M R C) (sink : O) (number : ℕ) (pending : Pending) (tally : Tally) (answered : Option Answered) (kept : Transcript)
       → (h : IsPending (meanings w i o t l k b v z) root p q pending)
-      → IsReadyAs (meanings w i o t l k b v z) root (grounds p q h.answers h.lists h.view) pending.read pending.request ends answered
-      → FinishesAs number pending.read pending.request ends answered kept
+      → IsReadyAs (meanings w i o t l k b v z) root (grounds p q h.answers h.lists h.view) pending.read pending.request tally answered
+      → FinishesAs number pending.read pending.request tally answered kept
       → Appends (o.taken q.output) (o.taken sink) kept.written
       → (kept.ending ≡ SinkLost → Rose (o.faults q.output) (o.faults sink)) → o.faults q.output ≤ o.faults sink
       → IsSession (meanings w i o t l k b v z) root p (record q { output = sink }) kept
-  written-session root p q sink number pending ends answered kept h ready finished written lost later =
+  written-session root p q sink number pending tally answered kept h ready finished written lost later =
       let last : Parts I O T L M R C = record q { output = sink } in
       let same : AreSame p q p last = record { tree_before = refl; tree_after = refl; before = same-none p; after = record { here = record { tree_local = refl; benches = refl }; there = record { tree_remote = refl; farm = refl } }; input_after = refl } in
-      session-finished (meanings w i o t l k b v z) root p last number pending.read pending.request ends answered kept h.answers h.lists h.view
+      session-finished (meanings w i o t l k b v z) root p last number pending.read pending.request tally answered kept h.answers h.lists h.view
       h.read
       (subst (λ x. Appends x (o.taken sink) kept.written) h.unwritten written)
       (tells-move w i o t l k b v z p q p last h.answers h.lists refl refl h.looked)
-      (ready-move w i o t l k b v z p q p last same h.answers h.lists h.view root pending.read pending.request ends answered ready)
+      (ready-move w i o t l k b v z p q p last same h.answers h.lists h.view root pending.read pending.request tally answered ready)
       finished
       (λ e. subst (λ x. Rose x (o.faults sink)) h.uncounted (lost e))
       (record {
@@ -84,7 +85,7 @@ module _ {W I O T L M B R C : Type 0} (w : world.Ghosts W) (i : inputs.Ghosts I)
         read = rw lost.read_is h.read;
         written = rw lost.written_is (appends-same _ _ h.unwritten);
         looked = h.looked;
-        course = rw (lost.ending_is, lost.ends_are) (lost.reply_is, lost.request_is, lost.written_is, lost.receipt_is, at.1);
+        course = rw (lost.ending_is, lost.tally_is) (lost.reply_is, lost.request_is, lost.written_is, lost.receipt_is, at.1);
         source = λ e. at.2;
         sink = λ e. absurd (let x = lost.ending_is in cc);
         later = h.later;
@@ -93,7 +94,7 @@ module _ {W I O T L M B R C : Type 0} (w : world.Ghosts W) (i : inputs.Ghosts I)
   -- the end of the run was asked for
   ended-session : (root : List ℕ) (p q : Parts I O T L M R C) (sink : O) (number : ℕ) (pending : Pending) (frame : List ℕ) (kept : Transcript)
       → (h : IsPending (meanings w i o t l k b v z) root p q pending)
-      → (pending.read ≡ shutdown) × (pending.request ≡ None) × IsUntouched (meanings w i o t l k b v z) (grounds p q h.answers h.lists h.view) [] × (frame ≡ shutdown_done)
+      → (pending.read ≡ shutdown) × (pending.request ≡ None) × IsUntouched (meanings w i o t l k b v z) (grounds p q h.answers h.lists h.view) no_tally × (frame ≡ shutdown_done)
       → WroteEnd number pending.read frame kept
       → Appends (o.taken q.output) (o.taken sink) kept.written
       → (kept.ending ≡ SinkLost → Rose (o.faults q.output) (o.faults sink)) → o.faults q.output ≤ o.faults sink
@@ -109,7 +110,7 @@ module _ {W I O T L M B R C : Type 0} (w : world.Ghosts W) (i : inputs.Ghosts I)
         written = subst (λ x. Appends x (o.taken sink) kept.written) h.unwritten written;
         looked = tells-move w i o t l k b v z p q p last h.answers h.lists refl refl h.looked;
         course = course-ended (meanings w i o t l k b v z) root (grounds p last h.answers h.lists h.view) number pending.read frame kept kept.ending refl stage.0 stage.3
-            (untouched-move w i o t l k b v z p q p last same h.answers h.lists h.view [] stage.2) wrote wrote.writing;
+            (untouched-move w i o t l k b v z p q p last same h.answers h.lists h.view no_tally stage.2) wrote wrote.writing;
         source = λ e. absurd (rw e at wrote.writing);
         sink = λ e. subst (λ x. Rose x (o.faults sink)) h.uncounted (lost e);
         later = record {
@@ -124,12 +125,13 @@ module _ {W I O T L M B R C : Type 0} (w : world.Ghosts W) (i : inputs.Ghosts I)
 
 module _ {Q : Type 0} (pl : places.Ghosts Q) where
   -- what was ready is what the transcript says of the journal
-  written-journal : (old new : State Q) (number : ℕ) (read : List ℕ) (request : Option Request) (ends : List Ended) (answered : Option Answered) (kept : Transcript)
-      → EntersAs pl old new number ends answered → FinishesAs number read request ends answered kept → JournalsBoard pl old new kept
-  written-journal old new number read request ends None kept entered finished =
+  written-journal : (old new : State Q) (number : ℕ) (read : List ℕ) (request : Option Request) (tally : Tally) (answered : Option Answered) (kept : Transcript)
+      → EntersAs pl old new number tally.ends answered → FinishesAs number read request tally answered kept → JournalsBoard pl old new kept
+  written-journal old new number read request tally None kept entered finished =
       rw (finished.number_is, finished.receipt_is, finished.reply_is) (enters-nothing old.limit old.journal new.journal _ _ number None _ None entered refl (λ e. cc))
-  written-journal old new number read request ends (Some a) kept entered finished =
-      rw (finished.number_is, finished.receipt_is, finished.reply_is, finished.ends_are) entered
+  written-journal old new number read request tally (Some a) kept entered finished =
+      let ends_are : kept.ends ≡ tally.ends = ap (λ (x : Tally). x.ends) finished.tally_is in
+      rw (finished.number_is, finished.receipt_is, finished.reply_is, ends_are) entered
 
   -- a session that lost its input entered nothing
   lost-journal : (board : State Q) (number : ℕ) (read : List ℕ) (kept : Transcript) → IsLost number read kept → JournalsBoard pl board board kept
@@ -143,11 +145,11 @@ module _ {Q : Type 0} (pl : places.Ghosts Q) where
 
 -- the outcome that won is the first among the ends
 first-won : {P W B : Type 0} (m : Meanings P W B) (g : Grounds P) (request : Request) (attempted : Attempted) → HasTried m g request attempted
-    → (won : Option Won) → attempted.won ≡ won → IfSome won (λ x. files_of attempted.ends ≡ listing x.outcome.files)
+    → (won : Option Won) → attempted.won ≡ won → IfSome won (λ x. files_of attempted.tally.ends ≡ listing x.outcome.files)
 first-won m g request attempted h None e = tt
 first-won m g request attempted h (Some won) e =
     let run = h.run in
-    won-files m run.gathered request.accept_cached g.before g.after run.attempts run.made won attempted.ends (sym h.won_is ∙ e) run.ends_are
+    won-files m run.gathered request.accept_cached g.before g.after run.attempts run.made won attempted.tally (sym h.won_is ∙ e) run.tally_is
 
 -- ---- the whole
 
@@ -174,25 +176,25 @@ module _ {W I O T L M B R C Q : Type 0} (w : world.Ghosts W) (i : inputs.Ghosts 
   }
 
   -- no attempt was made
-  pub concluded-refused : (sink : O) (board : State Q) (ends : List Ended) (answered : Option Answered) → pending.stage ≡ stages.Refused answered → ends ≡ []
-      → FinishesAs number pending.read pending.request ends answered kept → Appends (o.taken q.output) (o.taken sink) kept.written
+  pub concluded-refused : (sink : O) (board : State Q) (tally : Tally) (answered : Option Answered) → pending.stage ≡ stages.Refused answered → tally ≡ no_tally
+      → FinishesAs number pending.read pending.request tally answered kept → Appends (o.taken q.output) (o.taken sink) kept.written
       → (kept.ending ≡ SinkLost → Rose (o.faults q.output) (o.faults sink)) → o.faults q.output ≤ o.faults sink
       → IsConcluded (meanings w i o t l k b v z) pl pending q (record q { output = sink }) board board kept
-  concluded-refused sink board ends answered stage none finished written lost later =
+  concluded-refused sink board tally answered stage none finished written lost later =
       let at = λ (root : List ℕ) (p : Parts I O T L M R C) (h : IsPending (meanings w i o t l k b v z) root p q pending).
       subst (λ x. IsStage (meanings w i o t l k b v z) root (grounds p q h.answers h.lists h.view) pending.read pending.request x) stage h.stage in
       record {
-        own = λ root p h. written-session w i o t l k b v z root p q sink number pending ends answered kept h
+        own = λ root p h. written-session w i o t l k b v z root p q sink number pending tally answered kept h
             (subst (λ x. IsReadyAs (meanings w i o t l k b v z) root (grounds p q h.answers h.lists h.view) pending.read pending.request x answered) (sym none) (at root p h).0)
             finished written lost later;
-        journal = λ root p h. written-journal pl board board number pending.read pending.request ends answered kept
-            (unpublished-enters pl board board number ends answered refl (at root p h).1) finished;
+        journal = λ root p h. written-journal pl board board number pending.read pending.request tally answered kept
+            (unpublished-enters pl board board number tally.ends answered refl (at root p h).1) finished;
       }
 
   -- the attempts were made
   pub concluded-attempted : (sink : O) (old new : State Q) (attempted : Attempted) (answered : Option Answered) → pending.stage ≡ stages.Attempted attempted
-      → IfSome answered (AnswersMade attempted.won attempted.ends) → (IsFirstWon attempted → EntersAs pl old new number attempted.ends answered)
-      → FinishesAs number pending.read pending.request attempted.ends answered kept → Appends (o.taken q.output) (o.taken sink) kept.written
+      → IfSome answered (AnswersMade attempted.won attempted.tally.ends) → (IsFirstWon attempted → EntersAs pl old new number attempted.tally.ends answered)
+      → FinishesAs number pending.read pending.request attempted.tally answered kept → Appends (o.taken q.output) (o.taken sink) kept.written
       → (kept.ending ≡ SinkLost → Rose (o.faults q.output) (o.faults sink)) → o.faults q.output ≤ o.faults sink
       → IsConcluded (meanings w i o t l k b v z) pl pending q (record q { output = sink }) old new kept
   concluded-attempted sink old new attempted answered stage made entered finished written lost later =
@@ -202,14 +204,14 @@ module _ {W I O T L M B R C Q : Type 0} (w : world.Ghosts W) (i : inputs.Ghosts 
         own = λ root p h.
             let g = grounds p q h.answers h.lists h.view in
             let tried = at root p h in
-            written-session w i o t l k b v z root p q sink number pending attempted.ends answered kept h
-            (subst (λ x. IsReadyAs (meanings w i o t l k b v z) root g pending.read x attempted.ends answered) (sym tried.1.request_is)
-            (ready-asked (meanings w i o t l k b v z) root g pending.read tried.0 attempted.ends answered
+            written-session w i o t l k b v z root p q sink number pending attempted.tally answered kept h
+            (subst (λ x. IsReadyAs (meanings w i o t l k b v z) root g pending.read x attempted.tally answered) (sym tried.1.request_is)
+            (ready-asked (meanings w i o t l k b v z) root g pending.read tried.0 attempted.tally answered
             (record { request_is = refl; decoded = tried.1.decoded; ended = tried.1.ended })
             (tried-answers (meanings w i o t l k b v z) g tried.0 attempted answered tried.2 made)))
             finished written lost later;
         journal = λ root p h.
             let tried = at root p h in
-            written-journal pl old new number pending.read pending.request attempted.ends answered kept
+            written-journal pl old new number pending.read pending.request attempted.tally answered kept
             (entered (first-won (meanings w i o t l k b v z) (grounds p q h.answers h.lists h.view) tried.0 attempted tried.2 attempted.won refl)) finished;
       }

@@ -1,9 +1,8 @@
 -- What each attempt of a race hands back.
-use Rattle.std.proofs.Common.{◌≡◌, ◌∙◌, Bool, ap, refl, subst, sym}
+use Rattle.std.proofs.Common.{◌≡◌, ◌∙◌, Bool, true, ap, refl, subst, sym}
 use Rattle.std.specs.Prelude.{None, Option, Some}
 use Rattle.rx_exec_messages.specs.declared.callers.Caller as callers
 use Rattle.rx_race.specs.declared.slips.Seat.TheVariants.{Of}
-use Rattle.rx_race.specs.declared.slips.Slip.TheVariants.{Refused}
 use Rattle.rx_race.specs.Looking.{Looked}
 use Rattle.rx_race.specs.Slips.{Ticket}
 use Rattle.rx_scan.specs.declared.gathering.Gathered.{Gathered}
@@ -20,21 +19,21 @@ use Rattle.rx_world.specs.declared.sources.Sources as sources
 use Rattle.rx_world.specs.declared.world.World as world
 use Rattle.rx_engine.specs.Attempts.{HasRunHere}
 use Rattle.rx_engine.specs.RacedAttempts.{HasRacedHere, HasRacedThere, RanHere, RanThere}
-use Rattle.rx_engine.specs.Racing.{FitsEnd}
+use Rattle.rx_engine.specs.Racing.{FitsEnd, unstarted}
 use Rattle.rx_engine.specs.RemoteAttempts.{EndsThere}
 
 -- an end that was offered fits the pass of its attempt
 fits : {C : Type 0} (plan : Plan) (x : Attempt) (looked : Looked) (end : End Outcome C) (ended : Option (End Outcome C)) (ticket : Ticket) → looked.attempt ≡ x → ended ≡ Some end
-    → FitsEnd plan looked.attempt looked.seen (Some end) ticket.slip → FitsEnd plan x looked.seen ended ticket.slip
+    → FitsEnd plan looked.attempt true looked.seen (Some end) ticket.slip → FitsEnd plan x true looked.seen ended ticket.slip
 fits plan x looked end ended ticket e is h =
-    subst (λ y. FitsEnd plan x looked.seen y ticket.slip) (sym is) (subst (λ y. FitsEnd plan y looked.seen (Some end) ticket.slip) e h)
+    subst (λ y. FitsEnd plan x true looked.seen y ticket.slip) (sym is) (subst (λ y. FitsEnd plan y true looked.seen (Some end) ticket.slip) e h)
 
 module _ {M B T W : Type 0} (w : world.Ghosts W) (m : makers.Ghosts M W B) (b : benches.Ghosts B W) (s : sources.Ghosts T W) (plan : Plan) (gathered : Gathered) where
   -- the local attempt was made, and offered its end
   pub here-offered : (benches_old benches_new : M) (old new : T) (looked : Looked) (end : End Outcome Cause) (ended : Option (End Outcome Cause)) (ticket : Ticket)
       → looked.attempt ≡ Local → HasRunHere w m b s gathered looked.seen benches_old benches_new old new end
-      → ended ≡ Some end → ticket.seat ≡ Of looked.attempt → FitsEnd plan looked.attempt looked.seen (Some end) ticket.slip
-      → HasRacedHere w m b s plan gathered benches_old benches_new old new ended ticket
+      → ended ≡ Some end → ticket.seat ≡ Of looked.attempt → FitsEnd plan looked.attempt true looked.seen (Some end) ticket.slip
+      → HasRacedHere w m b s plan true gathered benches_old benches_new old new ended ticket
   here-offered benches_old benches_new old new looked end ended ticket e ran is seat fit = record {
     told = looked.seen;
     seat = seat ∙ ap Of e;
@@ -42,13 +41,13 @@ module _ {M B T W : Type 0} (w : world.Ghosts W) (m : makers.Ghosts M W B) (b : 
     ran = subst (RanHere w m b s gathered looked.seen benches_old benches_new old new) (sym is) ran;
   }
 
-  -- or its start was refused
-  pub here-refused : (made : M) (tree : T) (ticket : Ticket) → ticket ≡ record { seat = Of Local; slip = Refused }
-      → HasRacedHere w m b s plan gathered made made tree tree None ticket
-  here-refused made tree ticket e = record {
+  -- or it didn't start
+  pub here-unstarted : (due : Bool) (made : M) (tree : T) (ticket : Ticket) → ticket ≡ record { seat = Of Local; slip = unstarted due }
+      → HasRacedHere w m b s plan due gathered made made tree tree None ticket
+  here-unstarted due made tree ticket e = record {
     told = None;
     seat = ap (λ (x : Ticket). x.seat) e;
-    fits = ap (λ (x : Ticket). x.slip) e;
+    fits = (ap (λ (x : Ticket). x.slip) e, refl);
     ran = (refl, refl);
   }
 
@@ -56,8 +55,8 @@ module _ {C T W : Type 0} (w : world.Ghosts W) (c : callers.Ghosts C W) (s : sou
   -- the remote attempt was made, and offered its end
   pub there-offered : (farm_old farm_new : C) (old new : T) (looked : Looked) (end : End Outcome RemoteCause) (ended : Option (End Outcome RemoteCause)) (ticket : Ticket)
       → looked.attempt ≡ Remote → EndsThere w c s gathered accepts looked.seen farm_old farm_new old new end
-      → ended ≡ Some end → ticket.seat ≡ Of looked.attempt → FitsEnd plan looked.attempt looked.seen (Some end) ticket.slip
-      → HasRacedThere w c s plan gathered accepts farm_old farm_new old new ended ticket
+      → ended ≡ Some end → ticket.seat ≡ Of looked.attempt → FitsEnd plan looked.attempt true looked.seen (Some end) ticket.slip
+      → HasRacedThere w c s plan true gathered accepts farm_old farm_new old new ended ticket
   there-offered farm_old farm_new old new looked end ended ticket e ran is seat fit = record {
     told = looked.seen;
     seat = seat ∙ ap Of e;
@@ -65,12 +64,12 @@ module _ {C T W : Type 0} (w : world.Ghosts W) (c : callers.Ghosts C W) (s : sou
     ran = subst (RanThere w c s gathered accepts looked.seen farm_old farm_new old new) (sym is) ran;
   }
 
-  -- or its start was refused
-  pub there-refused : (farm : C) (tree : T) (ticket : Ticket) → ticket ≡ record { seat = Of Remote; slip = Refused }
-      → HasRacedThere w c s plan gathered accepts farm farm tree tree None ticket
-  there-refused farm tree ticket e = record {
+  -- or it didn't start
+  pub there-unstarted : (due : Bool) (farm : C) (tree : T) (ticket : Ticket) → ticket ≡ record { seat = Of Remote; slip = unstarted due }
+      → HasRacedThere w c s plan due gathered accepts farm farm tree tree None ticket
+  there-unstarted due farm tree ticket e = record {
     told = None;
     seat = ap (λ (x : Ticket). x.seat) e;
-    fits = ap (λ (x : Ticket). x.slip) e;
+    fits = (ap (λ (x : Ticket). x.slip) e, refl);
     ran = (refl, refl);
   }

@@ -23,7 +23,6 @@ use Rattle.rx_world.specs.declared.attempts.Attempt.TheVariants as whose
 use Rattle.rx_world.specs.declared.attempts.Cause.{Cause}
 use Rattle.rx_world.specs.declared.attempts.End.{End}
 use Rattle.rx_world.specs.declared.attempts.End.TheVariants as ends
-use Rattle.rx_world.specs.declared.attempts.Ended.{Ended}
 use Rattle.rx_world.specs.declared.attempts.Origin.{Origin}
 use Rattle.rx_world.specs.declared.decisions.Decision.{Decision}
 use Rattle.rx_world.specs.declared.looks.Look.{Look}
@@ -40,14 +39,16 @@ use Rattle.rx_world.specs.Trees.{tree_of}
 use Rattle.rx_engine.specs.declared.attempts.Won.{Won}
 use Rattle.rx_engine.specs.declared.transcripts.Ending.{Ending}
 use Rattle.rx_engine.specs.declared.transcripts.Ending.TheVariants.{NoMemory, Replied, ShutDown, SinkLost, SourceLost}
+use Rattle.rx_engine.specs.declared.transcripts.Tally.{Tally}
 use Rattle.rx_engine.specs.declared.transcripts.Transcript.{Transcript}
 use Rattle.rx_engine.specs.Answers.{Grounds, HasGathered, HasWon, asked_of, done_reply, grounds}
-use Rattle.rx_engine.specs.Attempts.{Attempts, HasAttempts, HasEndedHere, HasLocal, HasRemote, first_done, first_won, has_remote, outcome_of, winner, won_by, won_remote}
+use Rattle.rx_engine.specs.Attempts.{Attempts, HasAttempts, HasEndedHere, HasLocal, HasRemote, first_done, first_of, first_won, outcome_of, winner, won_by, won_remote}
 use Rattle.rx_engine.specs.Honest.{IsCleanDone, IsCleanFrom, IsCleanIfDone, IsHonest, IsSteady, IsTrusted, IsTrustedFor, listed_tree, whole_entry}
 use Rattle.rx_engine.specs.Journal.{IsEntry, IsJournalled, IsPlaced, files_of}
 use Rattle.rx_engine.specs.Meanings.{Meanings}
+use Rattle.rx_engine.specs.Plans.{has_remote}
 use Rattle.rx_engine.specs.RemoteAttempts.{EndsThere, HasRunThere}
-use Rattle.rx_engine.specs.Session.{IsCourse, IsSession, Replies, RepliesTo}
+use Rattle.rx_engine.specs.Session.{IsCourse, IsSession, Replies, RepliesTo, tally_in}
 use Rattle.rx_engine.proofs.Cases.{as-remote, none-some, some-inj}
 use Rattle.rx_engine.proofs.MadeLemmas.{if-some, won-files, won-first}
 use Rattle.rx_engine.proofs.RaceLemmas.{planned-there}
@@ -211,14 +212,14 @@ module _ {P W B : Type 0} (m : Meanings P W B) (entries : List SourceEntry) (g :
   won-clean : (attempts : Attempts) (won : Won) → HasAttempts m gathered asked.accept_cached g.before g.after attempts → winner gathered.plan attempts ≡ Some won
       → IsClean m.world.tool gathered.command (listed_tree entries gathered) won.outcome
   won-clean attempts won made w =
-      elim (either-won attempts.first (outcome_of attempts.local) (won_remote gathered.plan attempts.remote) won w) [
+      elim (either-won (first_of attempts) (outcome_of attempts.local) (won_remote gathered.plan attempts.remote) won w) [
         | inl here ↦ won-here attempts.told_local attempts.local won made.local here
         | inr there ↦ won-there attempts.told_remote attempts.remote won made.remote (planned-there m gathered asked.accept_cached g.before g.after attempts made) there
       ]
 
-clean-from : {P W B : Type 0} (m : Meanings P W B) (entries : List SourceEntry) (g : Grounds P) (asked : Request) (kept : List Ended) (won : Won)
-    → IsByList m entries g → IsTrustedFor m g.before entries (asked_of asked) → HasWon m g asked kept won → IsCleanFrom m.world.tool entries (asked_of asked) won.outcome
-clean-from m entries g asked kept won b farm h =
+clean-from : {P W B : Type 0} (m : Meanings P W B) (entries : List SourceEntry) (g : Grounds P) (asked : Request) (tally : Tally) (won : Won)
+    → IsByList m entries g → IsTrustedFor m g.before entries (asked_of asked) → HasWon m g asked tally won → IsCleanFrom m.world.tool entries (asked_of asked) won.outcome
+clean-from m entries g asked tally won b farm h =
     let run = h.run in
     record {
       gathered = run.gathered;
@@ -243,23 +244,23 @@ whole limit old new pb pn t won number j receipt answer files =
 module _ {P W B : Type 0} (m : Meanings P W B) (root : List ℕ) (before after : P) (limit : ℕ) (old new : List Entry) (pb pn : ℕ) (t : Transcript) (bytes : List ℕ) (asked : Request) (entries : List SourceEntry)
     (s : IsSession m root before after t) (j : IsJournalled limit old new pb pn t) (h : IsHonest m root before bytes asked entries)
     (exit : ℤ) (stdout stderr : List ℕ) (from : Origin) (number placed : ℕ) (is_done : t.reply ≡ Some (reply.Done exit stdout stderr from number placed)) where
-  done-at : (answer : Reply) → t.reply ≡ Some answer → Replies m root (grounds_of m root before after t s) t.read t.request t.receipt t.ends answer
+  done-at : (answer : Reply) → t.reply ≡ Some answer → Replies m root (grounds_of m root before after t s) t.read t.request t.receipt (tally_in t) answer
       → IsCleanDone m.world.tool entries (asked_of asked) old new t number
   done-at answer e replies =
       let g : Grounds P = grounds_of m root before after t s in
-      let done : RepliesTo m root g t.read t.request t.receipt t.ends (reply.Done exit stdout stderr from number placed) =
-      subst (λ a. Replies m root g t.read t.request t.receipt t.ends a) (some-inj (sym e ∙ is_done)) replies in
+      let done : RepliesTo m root g t.read t.request t.receipt (tally_in t) (reply.Done exit stdout stderr from number placed) =
+      subst (λ a. Replies m root g t.read t.request t.receipt (tally_in t) a) (some-inj (sym e ∙ is_done)) replies in
       let same : done.0 ≡ asked = same-request root (m.input.left before) (m.input.left after) bytes t.read done.0 asked h.steady.told s.read done.1.ended done.1.decoded h.steady.valid in
       let won : Won = done.2.0 in
-      let has : HasWon m g asked t.ends won = subst (λ x. HasWon m g x t.ends won) same done.2.1 in
+      let has : HasWon m g asked (tally_in t) won = subst (λ x. HasWon m g x (tally_in t) won) same done.2.1 in
       let run = has.run in
       let reply_is : t.reply ≡ Some (done_reply won number) = is_done ∙ ap (λ a. Some a) done.2.2 in
       record {
         won = won;
-        clean = clean-from m entries g asked t.ends won (by-list m root before after t bytes asked entries s h.steady) h.farm has;
+        clean = clean-from m entries g asked (tally_in t) won (by-list m root before after t bytes asked entries s h.steady) h.farm has;
         reply_is = reply_is;
-        end_is = ap first_done run.ends_are ∙ won-first m run.gathered asked.accept_cached before after run.attempts run.made won has.won_is;
-        entry = whole limit old new pb pn t won number j done.2.3 reply_is (won-files m run.gathered asked.accept_cached before after run.attempts run.made won t.ends has.won_is run.ends_are);
+        end_is = ap (λ (x : Tally). first_done x.ends) run.tally_is ∙ won-first m run.gathered asked.accept_cached before after run.attempts run.made won has.won_is;
+        entry = whole limit old new pb pn t won number j done.2.3 reply_is (won-files m run.gathered asked.accept_cached before after run.attempts run.made won (tally_in t) has.won_is run.tally_is);
       }
 
   done-by : (ending : Ending) → IsCourse m root (grounds_of m root before after t s) t ending → IsCleanDone m.world.tool entries (asked_of asked) old new t number

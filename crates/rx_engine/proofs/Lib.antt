@@ -22,4 +22,5 @@ mod Quiet
 mod RaceLemmas
 mod ReplyMoves
 mod RunLemmas
+mod TurnLemmas
 mod Unpublished

@@ -36,9 +36,11 @@ use Rattle.rx_world.specs.declared.sources.SourceEntry.{SourceEntry}
 use Rattle.rx_world.specs.Causes.{Rose}
 use Rattle.rx_world.specs.Inputs.{IsAsListed}
 use Rattle.rx_engine.specs.declared.attempts.Won.{Won}
+use Rattle.rx_engine.specs.declared.transcripts.Tally.{Tally}
 use Rattle.rx_engine.specs.Answers.{Grounds, HasGathered, HasLost, asked_of}
-use Rattle.rx_engine.specs.Attempts.{AreTellable, HasLocal, HasRemote, IsTellable, failure_of, first_won, has_both, has_local, has_remote, in_order, kept_of, listed_local, listed_remote, outcome_of, won_by, won_remote}
+use Rattle.rx_engine.specs.Attempts.{AreTellable, HasLocal, HasRemote, IsTellable, failure_of, first_of, first_won, in_order, kept_of, listed_local, listed_remote, outcome_of, won_by, won_remote}
 use Rattle.rx_engine.specs.Meanings.{Meanings}
+use Rattle.rx_engine.specs.Plans.{has_both, has_local, has_remote}
 use Rattle.rx_engine.specs.Quiet.{IsFarmCause, IsQuietThere, MayFail}
 use Rattle.rx_engine.specs.RemoteAttempts.{EndsThere}
 use Rattle.rx_engine.proofs.Cases.{false-true, none-some, some-inj}
@@ -107,24 +109,29 @@ module _ {P W B : Type 0} (m : Meanings P W B) (entries : List SourceEntry) (g :
   not-lost-here gathered told (Some (ends.Failed why)) rest inputs h started unstopped none tellable =
       not-failed-for m entries g asked c gathered told why inputs h (unstopped why refl) (All-head IsTellable (ended.Local (ends.Failed why)) rest tellable)
 
+  -- of two attempts, one that isn't the remote one is the local one
+  is-local : (first : Attempt) → (first ≡ whose.Remote → ⊥) → first ≡ whose.Local
+  is-local whose.Local n = refl
+  is-local whose.Remote n = absurd (n refl)
+
   -- the local end stands first where the remote one doesn't come first
   local-first : (first : Attempt) (here there : List Ended) → (first ≡ whose.Remote → ⊥) → AreTellable (in_order first here there) → AreTellable (here ++ there)
   local-first whose.Local here there n tellable = tellable
   local-first whose.Remote here there n tellable = absurd (n refl)
 
   -- with a local attempt there is an outcome, whatever the farm does
-  not-lost : (kept : List Ended) → (h : HasLost m g asked kept) → has_local h.run.gathered.plan ≡ true → ⊥
-  not-lost kept h has =
+  not-lost : (tally : Tally) → (h : HasLost m g asked tally) → has_local h.run.gathered.plan ≡ true → ⊥
+  not-lost tally h has =
       let run = h.run in
       let attempts = run.attempts in
-      let none = both-none attempts.first (outcome_of attempts.local) (won_remote run.gathered.plan attempts.remote) h.none_won in
+      let none = both-none (first_of attempts) (outcome_of attempts.local) (won_remote run.gathered.plan attempts.remote) h.none_won in
       not-lost-here run.gathered attempts.told_local attempts.local (listed_remote (kept_of attempts.remote)) run.inputs run.made.local
       (started-here m run.gathered asked.accept_cached g.before g.after attempts run.made has none.1)
       (unstopped-here m run.gathered asked.accept_cached g.before g.after attempts run.made has none.1)
       none.0
-      (local-first attempts.first (listed_local (kept_of attempts.local)) (listed_remote (kept_of attempts.remote))
+      (local-first (first_of attempts) (listed_local (kept_of attempts.local)) (listed_remote (kept_of attempts.remote))
       (λ f. first-won m run.gathered asked.accept_cached g.before g.after attempts run.made f none.1)
-      (rw run.ends_are at h.tellable))
+      (rw run.tally_is at h.tellable))
 
   -- ---- the remote attempt alone
 
@@ -163,29 +170,30 @@ module _ {P W B : Type 0} (m : Meanings P W B) (entries : List SourceEntry) (g :
     refl,
   )
 
-  fails-there : (kept : List Ended) → (h : HasLost m g asked kept) → IsQuietThere m g.before g.after entries (asked_of asked) → h.run.gathered.plan ≡ plans.RemoteOnly
-      → MayFail strategies.Remote (flat_map failure_of kept)
-  fails-there kept h q plan =
+  fails-there : (tally : Tally) → (h : HasLost m g asked tally) → IsQuietThere m g.before g.after entries (asked_of asked) → h.run.gathered.plan ≡ plans.RemoteOnly
+      → MayFail strategies.Remote (flat_map failure_of tally.ends)
+  fails-there tally h q plan =
       let run = h.run in
       let attempts = run.attempts in
-      let none = both-none attempts.first (outcome_of attempts.local) (won_remote run.gathered.plan attempts.remote) h.none_won in
+      let none = both-none (first_of attempts) (outcome_of attempts.local) (won_remote run.gathered.plan attempts.remote) h.none_won in
       let turn = run.made.in_turn (ap has_both plan) in
       let here : List Ended = listed_local (kept_of attempts.local) in
       let there : List Ended = listed_remote (kept_of attempts.remote) in
-      let ordered : kept ≡ here ++ there = run.ends_are ∙ ap (λ x. in_order x here there) turn.first_is in
+      let first : first_of attempts ≡ whose.Local = is-local (first_of attempts) (λ f. first-won m run.gathered asked.accept_cached g.before g.after attempts run.made f none.1) in
+      let ordered : tally.ends ≡ here ++ there = ap (λ (x : Tally). x.ends) run.tally_is ∙ ap (λ x. in_order x here there) first in
       subst (λ x. MayFail strategies.Remote (flat_map failure_of x)) (sym ordered)
       (fails-alone run.gathered attempts.local attempts.remote run.inputs q plan
       (subst (λ x. HasRemote m run.gathered asked.accept_cached x g.before g.after attempts.remote) turn.told_remote_is run.made.remote)
       (rw plan at turn.started_here) (rw plan at turn.started_there) (rw plan at none.1) (subst AreTellable ordered h.tellable))
 
   -- what a quiet session tells of its failures, by its strategy
-  fails-by : (strategy : Strategy) (kept : List Ended) → asked.strategy ≡ strategy → (h : HasLost m g asked kept) → IsPlanOf strategy h.run.gathered.plan → MayFail strategy (flat_map failure_of kept)
-  fails-by strategies.Remote kept e h plan = fails-there kept h (c.there e) plan
-  fails-by strategies.Local kept e h plan = not-lost kept h plan
-  fails-by strategies.RemoteLocalFallback kept e h plan = not-lost kept h plan
-  fails-by strategies.Racing kept e h plan = not-lost kept h plan
+  fails-by : (strategy : Strategy) (tally : Tally) → asked.strategy ≡ strategy → (h : HasLost m g asked tally) → IsPlanOf strategy h.run.gathered.plan → MayFail strategy (flat_map failure_of tally.ends)
+  fails-by strategies.Remote tally e h plan = fails-there tally h (c.there e) plan
+  fails-by strategies.Local tally e h plan = not-lost tally h plan
+  fails-by strategies.RemoteLocalFallback tally e h plan = not-lost tally h plan
+  fails-by strategies.Racing tally e h plan = not-lost tally h plan
 
-  pub fails : (kept : List Ended) → HasLost m g asked kept → MayFail asked.strategy (flat_map failure_of kept)
-  fails kept h =
+  pub fails : (tally : Tally) → HasLost m g asked tally → MayFail asked.strategy (flat_map failure_of tally.ends)
+  fails tally h =
       let planned = h.run.inputs.orderly.planned in
-      fails-by asked.strategy kept refl h (plan-by asked.strategy planned.0 h.run.gathered.plan planned.2)
+      fails-by asked.strategy tally refl h (plan-by asked.strategy planned.0 h.run.gathered.plan planned.2)

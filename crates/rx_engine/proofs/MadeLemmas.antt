@@ -1,5 +1,5 @@
 -- What is kept and published of the attempts of a plan.
-use Rattle.std.proofs.Common.{◌≡◌, ◌||◌, ◌∙◌, Bool, true, false, List, ◌++◌, ap, refl, subst, sym}
+use Rattle.std.proofs.Common.{◌≡◌, ◌||◌, Bool, true, false, List, ◌++◌, ap, refl, sym}
 use Rattle.std.specs.Prelude.{None, Option, Some, if◌then◌else◌}
 use Rattle.rx_race.specs.Publishing.{is_remote_only, is_zero}
 use Rattle.rx_scan.specs.declared.gathering.Gathered.{Gathered}
@@ -10,56 +10,45 @@ use Rattle.rx_world.specs.declared.attempts.End.{End}
 use Rattle.rx_world.specs.declared.attempts.End.TheVariants as ends
 use Rattle.rx_world.specs.declared.attempts.Ended.{Ended}
 use Rattle.rx_world.specs.declared.attempts.Plan.{Plan}
-use Rattle.rx_world.specs.declared.attempts.Plan.TheVariants as plans
 use Rattle.rx_world.specs.declared.outcomes.Outcome.{Outcome}
 use Rattle.rx_world.specs.declared.remote_causes.RemoteCause.{RemoteCause}
 use Rattle.rx_world.specs.Outcomes.{kept, listing}
 use Rattle.rx_engine.specs.declared.attempts.Attempted.{Attempted}
 use Rattle.rx_engine.specs.declared.attempts.Won.{Won}
-use Rattle.rx_engine.specs.Attempts.{Attempts, HasAttempts, HasMade, HasTurns, IsMadeOf, first_done, first_won, has_both, in_order, kept_ends, kept_of, listed_local, listed_remote, outcome_of, winner, won_by, won_remote}
+use Rattle.rx_engine.specs.declared.transcripts.Passes.{Passes}
+use Rattle.rx_engine.specs.declared.transcripts.Tally.{Tally}
+use Rattle.rx_engine.specs.Attempts.{Attempts, HasAttempts, HasMade, IsMadeOf, first_done, first_of, first_won, in_order, kept_ends, kept_of, listed_local, listed_remote, outcome_of, tally_of, winner, won_by, won_remote}
 use Rattle.rx_engine.specs.Journal.{files_of}
 use Rattle.rx_engine.specs.Meanings.{Meanings}
 use Rattle.rx_engine.specs.RacedAttempts.{HasRaced}
-use Rattle.rx_engine.specs.Racing.{HaveRaced}
-use Rattle.rx_engine.proofs.Cases.{false-true, none-some, some-inj}
+use Rattle.rx_engine.proofs.Cases.{none-some, some-inj}
 use Rattle.rx_engine.proofs.RaceLemmas.{first-won}
+use Rattle.rx_engine.proofs.TurnLemmas.{in-turn}
 
 -- ---- what was made
 
-is-both : (plan : Plan) → has_both plan ≡ true → plan ≡ plans.Both
-is-both plans.LocalOnly e = absurd (false-true e)
-is-both plans.RemoteOnly e = absurd (false-true e)
-is-both plans.Fallback e = absurd (false-true e)
-is-both plans.Both e = refl
+-- the tally has these ends and passes
+tally-is : (tally : Tally) (kept : List Ended) (passes : Passes) → tally.ends ≡ kept → tally.passes ≡ passes → tally ≡ record { ends = kept; passes = passes }
+tally-is tally kept passes e p = rw (sym e, sym p) refl
 
-module _ {P W B : Type 0} (m : Meanings P W B) (gathered : Gathered) (accepts : Bool) (before after : P) (here : Option (End Outcome Cause)) (there : Option (End Outcome RemoteCause)) (made : Attempted) where
-  pub made-in-turn : has_both gathered.plan ≡ false → HasTurns m gathered accepts before after here there → IsMadeOf gathered.plan whose.Local here there made
-      → HasMade m gathered accepts before after made
-  made-in-turn e h is = record {
-    attempts = record { local = here; remote = there; told_local = None; told_remote = None; first = whose.Local };
-    each = record {
-      local = h.here;
-      remote = h.there;
-      in_turn = λ f. record { started_here = h.started_here; started_there = h.started_there; told_local_is = refl; told_remote_is = refl; first_is = refl };
-      raced = λ f. absurd (false-true (sym e ∙ f));
-    };
-    ends_are = is.ends_are;
-    won_is = is.won_is;
-  }
+tally-made : (attempts : Attempts) (tally : Tally) → tally.ends ≡ kept_ends attempts → tally.passes ≡ attempts.passes → tally ≡ tally_of attempts
+tally-made attempts tally e p = tally-is tally (kept_ends attempts) attempts.passes e p
 
-  pub made-raced : (first : Attempt) → has_both gathered.plan ≡ true → HasRaced m gathered accepts before after here there first → IsMadeOf gathered.plan first here there made
-      → HasMade m gathered accepts before after made
-  made-raced first e h is = record {
-    attempts = record { local = here; remote = there; told_local = h.told_local; told_remote = h.told_remote; first = first };
-    each = record {
-      local = h.here;
-      remote = h.there;
-      in_turn = λ f. absurd (false-true (sym f ∙ e));
-      raced = λ f. subst (λ x. HaveRaced x h.told_local here h.told_remote there first) (sym (is-both gathered.plan e)) h.raced;
-    };
-    ends_are = is.ends_are;
-    won_is = is.won_is;
-  }
+module _ {P W B : Type 0} (m : Meanings P W B) (gathered : Gathered) (accepts : Bool) (before after : P) (here : Option (End Outcome Cause)) (there : Option (End Outcome RemoteCause)) (made : Attempted) (passes : Passes) where
+  pub made-raced : HasRaced m gathered accepts before after here there passes → IsMadeOf gathered.plan passes here there made → HasMade m gathered accepts before after made
+  made-raced h is =
+      let attempts : Attempts = record { local = here; remote = there; told_local = h.told_local; told_remote = h.told_remote; passes = passes } in
+      record {
+        attempts = attempts;
+        each = record {
+          local = h.here;
+          remote = h.there;
+          raced = h.raced;
+          in_turn = λ f. in-turn gathered.plan here there h.told_local h.told_remote passes h.raced f;
+        };
+        tally_is = tally-made attempts made.tally is.ends_are is.passes_are;
+        won_is = is.won_is;
+      }
 
 -- ---- the outcome that is published
 
@@ -100,8 +89,8 @@ first-by plan whose.Remote local remote won n h = first-remote plan local remote
 module _ {P W B : Type 0} (m : Meanings P W B) (gathered : Gathered) (accepts : Bool) (before after : P) (attempts : Attempts) (made : HasAttempts m gathered accepts before after attempts) where
   -- the first outcome among the ends is the one that is published
   pub won-first : (won : Won) → winner gathered.plan attempts ≡ Some won → first_done (kept_ends attempts) ≡ Some (kept won.outcome)
-  won-first won h = first-by gathered.plan attempts.first attempts.local attempts.remote won (first-won m gathered accepts before after attempts made) h
+  won-first won h = first-by gathered.plan (first_of attempts) attempts.local attempts.remote won (first-won m gathered accepts before after attempts made) h
 
   -- and its files are those of the entry
-  pub won-files : (won : Won) (ended : List Ended) → winner gathered.plan attempts ≡ Some won → ended ≡ kept_ends attempts → files_of ended ≡ listing won.outcome.files
-  won-files won ended h e = rw (e, won-first won h) refl
+  pub won-files : (won : Won) (tally : Tally) → winner gathered.plan attempts ≡ Some won → tally ≡ tally_of attempts → files_of tally.ends ≡ listing won.outcome.files
+  won-files won tally h e = rw (e, won-first won h) refl

@@ -16,7 +16,6 @@ use Rattle.rx_session.specs.declared.frames.Incoming.TheVariants as incomings
 use Rattle.rx_session.specs.Frames.{EndsRead, IsRequest, incoming_of, reach_of}
 use Rattle.rx_session.proofs.DecodedLemmas.{outputs-below}
 use Rattle.rx_session.proofs.ShutdownLemmas.{shutdown_read}
-use Rattle.rx_world.specs.declared.attempts.Ended.{Ended}
 use Rattle.rx_exec_messages.specs.declared.callers.Caller as callers
 use Rattle.rx_world.specs.declared.benches.Bench as benches
 use Rattle.rx_world.specs.declared.benches.BenchMaker as makers
@@ -29,9 +28,10 @@ use Rattle.rx_engine.specs.declared.answered.Answered.{Answered}
 use Rattle.rx_engine.specs.declared.desk.Parts.{Parts}
 use Rattle.rx_engine.specs.declared.pending.Stage.{Stage}
 use Rattle.rx_engine.specs.declared.pending.Stage.TheVariants as stages
+use Rattle.rx_engine.specs.declared.transcripts.Tally.{Tally}
 use Rattle.rx_engine.specs.Answered.{IsPlain, bad_request, reply_no_memory}
 use Rattle.rx_engine.specs.Answers.{Answers, Grounds, IsUnrun, grounds}
-use Rattle.rx_engine.specs.Attempts.{AreLaterThan}
+use Rattle.rx_engine.specs.Attempts.{AreLaterThan, no_tally}
 use Rattle.rx_engine.specs.Meanings.{Meanings, meanings}
 use Rattle.rx_engine.specs.Pending.{HasAnswered, HasOutputsIfAsked, IsEndOfRun, IsPending, IsRefusalOf, IsStage, IsStageOf}
 use Rattle.rx_engine.specs.Ready.{AnswersAs, IsReadyAs}
@@ -43,53 +43,53 @@ use Rattle.rx_engine.proofs.ReplyMoves.{AreSame, stage-move}
 use Rattle.rx_engine.proofs.Unpublished.{bad, given-up as given-up-unpublished}
 
 module _ {P W B : Type 0} (m : Meanings P W B) (root : List ℕ) (g : Grounds P) (read : List ℕ) where
-  replies-asked : (asked : Request) (receipt : Option Receipt) (ends : List Ended) (answer : Reply)
-      → IsAsked m root g read (Some asked) asked → Answers m g asked receipt ends answer → Replies m root g read (Some asked) receipt ends answer
-  replies-asked asked receipt ends (reply.Done exit stdout stderr from number placed) i a = (asked, i, a)
-  replies-asked asked receipt ends (reply.PlaceFault number placed) i a = (asked, i, a)
-  replies-asked asked receipt ends (reply.NotRemotable why) i a = (asked, i, a)
-  replies-asked asked receipt ends (reply.InputMissing path) i a = (asked, i, a)
-  replies-asked asked receipt ends (reply.InputChanged input) i a = (asked, i, a)
-  replies-asked asked receipt ends (reply.SourceFault path) i a = (asked, i, a)
-  replies-asked asked receipt ends (reply.TooLarge limit n path) i a = (asked, i, a)
-  replies-asked asked receipt ends (reply.AllFailed failures) i a = (asked, i, a)
-  replies-asked asked receipt ends reply.JournalFull i a = (asked, i, a)
-  replies-asked asked receipt ends (reply.Blocked path) i a = (asked, i, a)
-  replies-asked asked receipt ends (reply.BadRequest bad) i a = absurd a
-  replies-asked asked receipt ends reply.NoMemory i a = (i.decoded, a.0, a.1)
+  replies-asked : (asked : Request) (receipt : Option Receipt) (tally : Tally) (answer : Reply)
+      → IsAsked m root g read (Some asked) asked → Answers m g asked receipt tally answer → Replies m root g read (Some asked) receipt tally answer
+  replies-asked asked receipt tally (reply.Done exit stdout stderr from number placed) i a = (asked, i, a)
+  replies-asked asked receipt tally (reply.PlaceFault number placed) i a = (asked, i, a)
+  replies-asked asked receipt tally (reply.NotRemotable why) i a = (asked, i, a)
+  replies-asked asked receipt tally (reply.InputMissing path) i a = (asked, i, a)
+  replies-asked asked receipt tally (reply.InputChanged input) i a = (asked, i, a)
+  replies-asked asked receipt tally (reply.SourceFault path) i a = (asked, i, a)
+  replies-asked asked receipt tally (reply.TooLarge limit n path) i a = (asked, i, a)
+  replies-asked asked receipt tally (reply.AllFailed failures) i a = (asked, i, a)
+  replies-asked asked receipt tally reply.JournalFull i a = (asked, i, a)
+  replies-asked asked receipt tally (reply.Blocked path) i a = (asked, i, a)
+  replies-asked asked receipt tally (reply.BadRequest bad) i a = absurd a
+  replies-asked asked receipt tally reply.NoMemory i a = (i.decoded, a.0, a.1)
 
-  pub ready-asked : (asked : Request) (ends : List Ended) (answered : Option Answered) → IsAsked m root g read (Some asked) asked → AnswersAs m g asked ends answered
-      → IsReadyAs m root g read (Some asked) ends answered
-  ready-asked asked ends None i h = (i.decoded, h)
-  ready-asked asked ends (Some a) i h = (h.0, replies-asked asked a.receipt ends a.reply i h.1)
+  pub ready-asked : (asked : Request) (tally : Tally) (answered : Option Answered) → IsAsked m root g read (Some asked) asked → AnswersAs m g asked tally answered
+      → IsReadyAs m root g read (Some asked) tally answered
+  ready-asked asked tally None i h = (i.decoded, h)
+  ready-asked asked tally (Some a) i h = (h.0, replies-asked asked a.receipt tally a.reply i h.1)
 
   -- where memory ran out there is nothing to be ready, or the reply that says so
-  given-up : (ends : List Ended) (answered : Option Answered) → IsUnrun m g ends → IfSome answered (IsPlain reply_no_memory) → IsReadyAs m root g read None ends answered
-  given-up ends None u h = (tt, u)
-  given-up ends (Some a) u h = (h.frame, rw h.reply_is (tt, u, h.receipt_is))
+  given-up : (tally : Tally) (answered : Option Answered) → IsUnrun m g tally → IfSome answered (IsPlain reply_no_memory) → IsReadyAs m root g read None tally answered
+  given-up tally None u h = (tt, u)
+  given-up tally (Some a) u h = (h.frame, rw h.reply_is (tt, u, h.receipt_is))
 
-  ready-bad : (bad : Bad) (ends : List Ended) (answered : Option Answered)
-      → incoming_of root read ≡ Err bad → IsUntouched m g ends → (bad.reason ≡ CutShort → IsAtEnd (m.input.left g.after))
+  ready-bad : (bad : Bad) (tally : Tally) (answered : Option Answered)
+      → incoming_of root read ≡ Err bad → IsUntouched m g tally → (bad.reason ≡ CutShort → IsAtEnd (m.input.left g.after))
       → IfSome answered (λ a. IsPlain (bad_request bad) a ⊎ IsPlain reply_no_memory a)
-      → IsReadyAs m root g read None ends answered
-  ready-bad bad ends None d u cut h = (tt, u.unrun)
-  ready-bad bad ends (Some a) d u cut (inl h) = (h.frame, rw h.reply_is (d, refl, u, h.receipt_is, cut))
-  ready-bad bad ends (Some a) d u cut (inr h) = given-up ends (Some a) u.unrun h
+      → IsReadyAs m root g read None tally answered
+  ready-bad bad tally None d u cut h = (tt, u.unrun)
+  ready-bad bad tally (Some a) d u cut (inl h) = (h.frame, rw h.reply_is (d, refl, u, h.receipt_is, cut))
+  ready-bad bad tally (Some a) d u cut (inr h) = given-up tally (Some a) u.unrun h
 
   -- what was made of a request
   pub stage-asked : (asked : Request) (stage : Stage) → IsAsked m root g read (Some asked) asked → IsStageOf m g asked stage → IsStage m root g read (Some asked) stage
   stage-asked asked stages.Lost i h = absurd h
   stage-asked asked (stages.ShutDown frame) i h = absurd h
-  stage-asked asked (stages.Refused answered) i h = (ready-asked asked [] answered i h.0, h.1)
+  stage-asked asked (stages.Refused answered) i h = (ready-asked asked no_tally answered i h.0, h.1)
   stage-asked asked (stages.Attempted attempted) i h = (asked, i, h)
 
   -- what was made of bytes that are no request
-  pub stage-refused : (fault : SessionFault) (stage : Stage) → IsUntouched m g [] → Decodes (λ x. x) (Err fault) (incoming_of root read) → EndsRead (m.input.left g.after) (Err fault)
+  pub stage-refused : (fault : SessionFault) (stage : Stage) → IsUntouched m g no_tally → Decodes (λ x. x) (Err fault) (incoming_of root read) → EndsRead (m.input.left g.after) (Err fault)
       → (fault ≡ faults.ReadFault → Rose (m.input.faults g.before) (m.input.faults g.after)) → IsRefusalOf fault stage → IsStage m root g read None stage
-  stage-refused (faults.Bad why) (stages.Refused answered) u d end rose h = (ready-bad why [] answered d u end h, bad answered why h)
+  stage-refused (faults.Bad why) (stages.Refused answered) u d end rose h = (ready-bad why no_tally answered d u end h, bad answered why h)
   stage-refused (faults.Bad why) stages.Lost u d end rose h = absurd h
   stage-refused (faults.Bad why) (stages.Attempted attempted) u d end rose h = absurd h
-  stage-refused faults.NoMemory (stages.Refused answered) u d end rose h = (given-up [] answered u.unrun h, given-up-unpublished answered h)
+  stage-refused faults.NoMemory (stages.Refused answered) u d end rose h = (given-up no_tally answered u.unrun h, given-up-unpublished answered h)
   stage-refused faults.NoMemory stages.Lost u d end rose h = absurd h
   stage-refused faults.NoMemory (stages.Attempted attempted) u d end rose h = absurd h
   stage-refused faults.ReadFault stages.Lost u d end rose h = (refl, u, rose refl)
@@ -98,7 +98,7 @@ module _ {P W B : Type 0} (m : Meanings P W B) (root : List ℕ) (g : Grounds P)
   stage-refused fault (stages.ShutDown frame) u d end rose h = absurd h
 
   -- what was made of a Shutdown
-  pub stage-ended : (stage : Stage) → IsUntouched m g [] → incoming_of root read ≡ Ok incomings.Shutdown → length read ≤ reach_of read → IsEndOfRun stage → IsStage m root g read None stage
+  pub stage-ended : (stage : Stage) → IsUntouched m g no_tally → incoming_of root read ≡ Ok incomings.Shutdown → length read ≤ reach_of read → IsEndOfRun stage → IsStage m root g read None stage
   stage-ended (stages.ShutDown frame) u d reach h = (shutdown_read root read d reach, refl, u, h)
   stage-ended (stages.Refused answered) u d reach h = rw h ((tt, u.unrun), tt)
   stage-ended stages.Lost u d reach h = absurd h
@@ -143,7 +143,7 @@ module _ {W I O T L M B R C : Type 0} (w : world.Ghosts W) (i : inputs.Ghosts I)
   -- the bytes are no request, and this was made of them where nothing was touched
   unasked : (root : List ℕ) (p : Parts I O T L M R C) (source : I) (read : List ℕ) (stage : Stage)
       → Consumes (i.left p.input) (i.left source) read → i.faults p.input ≤ i.faults source
-      → (IsUntouched (meanings w i o t l k b v z) (grounds p (record p { input = source }) [] [] []) []
+      → (IsUntouched (meanings w i o t l k b v z) (grounds p (record p { input = source }) [] [] []) no_tally
       → IsStage (meanings w i o t l k b v z) root (grounds p (record p { input = source }) [] [] []) read None stage)
       → IsPending (meanings w i o t l k b v z) root p (record p { input = source }) (record { read = read; request = None; stage = stage })
   unasked root p source read stage consumed risen made =
@@ -157,7 +157,7 @@ module _ {W I O T L M B R C : Type 0} (w : world.Ghosts W) (i : inputs.Ghosts I)
         stage = made (record {
           answers_are = refl;
           lists_are = refl;
-          unrun = record { idle = idle-move w i o t l k b v z p p p last (same-none p) (record { here = record { tree_local = refl; benches = refl }; there = record { tree_remote = refl; farm = refl } }) (idle-none w i o t l k b v z p); ends_are = refl };
+          unrun = record { idle = idle-move w i o t l k b v z p p p last (same-none p) (record { here = record { tree_local = refl; benches = refl }; there = record { tree_remote = refl; farm = refl } }) (idle-none w i o t l k b v z p); tally_is = refl };
         });
         unwritten = refl;
         uncounted = refl;

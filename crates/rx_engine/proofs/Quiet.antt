@@ -1,6 +1,6 @@
 -- A session in which nothing fails, in an honest world.
 use Rattle.std.proofs.Common.{◌≡◌, ℕ, List, [], ◌++◌, inl, inr, refl, ap, sym, subst, ◌∙◌, append-nil, length}
-use Rattle.std.specs.Prelude.{Err, MatchOption, None, Ok, Option, Result, Some}
+use Rattle.std.specs.Prelude.{Err, MatchOption, None, Option, Some}
 use Rattle.std.specs.Io.KnownBytes.{Consumes, IsAtEnd}
 use Rattle.rx_board.specs.declared.journal.Entry.{Entry}
 use Rattle.rx_scan.specs.declared.gather_fault.GatherFault.TheVariants as fault
@@ -9,8 +9,6 @@ use Rattle.rx_session.specs.declared.bad.BadReason.TheVariants.{CutShort}
 use Rattle.rx_session.specs.declared.replies.Reply.{Reply}
 use Rattle.rx_session.specs.declared.replies.Reply.TheVariants as reply
 use Rattle.rx_session.specs.declared.requests.Request.{Request}
-use Rattle.rx_session.specs.declared.frames.Incoming.{Incoming}
-use Rattle.rx_session.specs.declared.frames.Incoming.TheVariants as incomings
 use Rattle.rx_session.specs.Frames.{IsRequest, incoming_of, shutdown}
 use Rattle.rx_world.specs.declared.sources.SourceEntry.{SourceEntry}
 use Rattle.rx_engine.specs.declared.transcripts.Ending.{Ending}
@@ -20,7 +18,7 @@ use Rattle.rx_engine.specs.Answers.{Answers, Grounds}
 use Rattle.rx_engine.specs.Journal.{IsEntry, IsJournalled, IsPlaced, files_of}
 use Rattle.rx_engine.specs.Meanings.{Meanings}
 use Rattle.rx_engine.specs.Quiet.{HasRoom, IsDoneOr, IsDoneReply, IsQuiet, MayFail}
-use Rattle.rx_engine.specs.Session.{IsCourse, IsSession, Replies, RepliesTo, WasAskedToEnd}
+use Rattle.rx_engine.specs.Session.{IsCourse, IsSession, Replies, RepliesTo, WasAskedToEnd, tally_in}
 use Rattle.rx_engine.proofs.Cases.{none-some, some-inj}
 use Rattle.rx_engine.proofs.Early.{early, err-in, no-request}
 use Rattle.rx_engine.proofs.HonestRuns.{grounds_of, same-request}
@@ -53,7 +51,7 @@ not-ended root (Some xs) (Some ys) bytes read asked e h r v =
 module _ {P W B : Type 0} (m : Meanings P W B) (entries : List SourceEntry) (g : Grounds P) (asked : Request) (c : IsCalm m entries g asked) where
   -- what a quiet session answers to its request
   done-to : (limit : ℕ) (old new : List Entry) (pb pn : ℕ) (t : Transcript) (answer : Reply) → IsJournalled limit old new pb pn t → HasRoom limit old pb pn → t.reply ≡ Some answer
-      → Answers m g asked t.receipt t.ends answer → IsDoneReply asked.strategy (Some answer)
+      → Answers m g asked t.receipt (tally_in t) answer → IsDoneReply asked.strategy (Some answer)
   done-to limit old new pb pn t (reply.Done exit stdout stderr from number placed) j h e a = tt
   done-to limit old new pb pn t reply.NoMemory j h e a = tt
   done-to limit old new pb pn t (reply.PlaceFault number placed) j h e a =
@@ -63,25 +61,25 @@ module _ {P W B : Type 0} (m : Meanings P W B) (entries : List SourceEntry) (g :
       subst (λ o. IsPlaced pb pn (length (files_of t.ends)) entry.placed o) e entry.placed_is in
       h.place short.2
   done-to limit old new pb pn t reply.JournalFull j h e a = h.room (j.full e)
-  done-to limit old new pb pn t (reply.AllFailed failures) j h e a = subst (MayFail asked.strategy) (sym a.1) (fails m entries g asked c t.ends a.0)
-  done-to limit old new pb pn t (reply.NotRemotable why) j h e a = not-refused-by m entries g asked c t.receipt t.ends (fault.NotRemotable why) a (λ n. cc)
-  done-to limit old new pb pn t (reply.InputMissing path) j h e a = not-refused-by m entries g asked c t.receipt t.ends (fault.InputMissing path) a (λ n. cc)
-  done-to limit old new pb pn t (reply.InputChanged input) j h e a = not-refused-by m entries g asked c t.receipt t.ends (fault.InputChanged input) a (λ n. cc)
-  done-to limit old new pb pn t (reply.SourceFault path) j h e a = not-refused-by m entries g asked c t.receipt t.ends (fault.SourceFault path) a (λ n. cc)
-  done-to limit old new pb pn t (reply.TooLarge limit_passed count path) j h e a = not-refused-by m entries g asked c t.receipt t.ends (fault.TooLarge limit_passed count path) a (λ n. cc)
-  done-to limit old new pb pn t (reply.Blocked path) j h e a = not-refused-by m entries g asked c t.receipt t.ends (fault.Blocked path) a (λ n. cc)
+  done-to limit old new pb pn t (reply.AllFailed failures) j h e a = subst (MayFail asked.strategy) (sym a.1) (fails m entries g asked c (tally_in t) a.0)
+  done-to limit old new pb pn t (reply.NotRemotable why) j h e a = not-refused-by m entries g asked c t.receipt (tally_in t) (fault.NotRemotable why) a (λ n. cc)
+  done-to limit old new pb pn t (reply.InputMissing path) j h e a = not-refused-by m entries g asked c t.receipt (tally_in t) (fault.InputMissing path) a (λ n. cc)
+  done-to limit old new pb pn t (reply.InputChanged input) j h e a = not-refused-by m entries g asked c t.receipt (tally_in t) (fault.InputChanged input) a (λ n. cc)
+  done-to limit old new pb pn t (reply.SourceFault path) j h e a = not-refused-by m entries g asked c t.receipt (tally_in t) (fault.SourceFault path) a (λ n. cc)
+  done-to limit old new pb pn t (reply.TooLarge limit_passed count path) j h e a = not-refused-by m entries g asked c t.receipt (tally_in t) (fault.TooLarge limit_passed count path) a (λ n. cc)
+  done-to limit old new pb pn t (reply.Blocked path) j h e a = not-refused-by m entries g asked c t.receipt (tally_in t) (fault.Blocked path) a (λ n. cc)
   done-to limit old new pb pn t (reply.BadRequest bad) j h e a = absurd a
 
 module _ {P W B : Type 0} (m : Meanings P W B) (root : List ℕ) (before after : P) (limit : ℕ) (old new : List Entry) (pb pn : ℕ) (t : Transcript) (bytes : List ℕ) (asked : Request)
     (s : IsSession m root before after t) (q : IsQuiet m root before after bytes asked) (j : IsJournalled limit old new pb pn t) (r : HasRoom limit old pb pn) where
-  to-asked : (answer : Reply) → t.reply ≡ Some answer → RepliesTo m root (grounds_of m root before after t s) t.read t.request t.receipt t.ends answer → IsDoneReply asked.strategy (Some answer)
+  to-asked : (answer : Reply) → t.reply ≡ Some answer → RepliesTo m root (grounds_of m root before after t s) t.read t.request t.receipt (tally_in t) answer → IsDoneReply asked.strategy (Some answer)
   to-asked answer e a =
       let same = same-request root (m.input.left before) (m.input.left after) bytes t.read a.0 asked q.steady.told s.read a.1.ended a.1.decoded q.steady.valid in
       let g = grounds_of m root before after t s in
       done-to m q.entries g asked (calm m root before after t bytes asked s q) limit old new pb pn t answer j r e
-      (subst (λ x. Answers m g x t.receipt t.ends answer) same a.2)
+      (subst (λ x. Answers m g x t.receipt (tally_in t) answer) same a.2)
 
-  done-at : (answer : Reply) → t.reply ≡ Some answer → Replies m root (grounds_of m root before after t s) t.read t.request t.receipt t.ends answer → IsDoneReply asked.strategy (Some answer)
+  done-at : (answer : Reply) → t.reply ≡ Some answer → Replies m root (grounds_of m root before after t s) t.read t.request t.receipt (tally_in t) answer → IsDoneReply asked.strategy (Some answer)
   done-at (reply.BadRequest bad) e a = not-refused root (m.input.left before) (m.input.left after) bytes t.read bad asked q.steady.told s.read a.0 a.4 q.steady.valid
   done-at reply.NoMemory e a = tt
   done-at (reply.Done exit stdout stderr from number placed) e a = tt

@@ -1,4 +1,4 @@
--- What follows from a race of both attempts: which of them won, and what the other was told.
+-- What follows from the race of a plan's attempts: which of them won, and what the other was told.
 use Rattle.std.proofs.Common.{◌≡◌, ◌∙◌, ◌||◌, Bool, true, false, ap, refl, subst, sym}
 use Rattle.std.specs.Prelude.{Err, IfSome, None, Option, Some, if◌then◌else◌, is_some}
 use Rattle.rx_local.specs.Local.{HasTold, IsStopped, Tells}
@@ -8,7 +8,7 @@ use Rattle.rx_race.specs.declared.slips.Seat.{Seat}
 use Rattle.rx_race.specs.declared.slips.Seat.TheVariants.{Canceller, Of}
 use Rattle.rx_race.specs.declared.slips.Slip.{Slip}
 use Rattle.rx_race.specs.declared.slips.Slip.TheVariants.{Live, Refused, Stopped, Told, Unused}
-use Rattle.rx_race.specs.Locked.{IsLook, SomeoneWon}
+use Rattle.rx_race.specs.Locked.{IsLook, SomeoneWon, slips_of}
 use Rattle.rx_race.specs.Publishing.{is_remote_only, is_zero, may_publish}
 use Rattle.rx_race.specs.Slips.{slip_at}
 use Rattle.rx_scan.specs.declared.gathering.Gathered.{Gathered}
@@ -24,15 +24,17 @@ use Rattle.rx_world.specs.declared.decisions.Decision.{Decision}
 use Rattle.rx_world.specs.declared.outcomes.Outcome.{Outcome}
 use Rattle.rx_world.specs.declared.remote_causes.RemoteCause.{RemoteCause}
 use Rattle.rx_engine.specs.declared.attempts.Won.{Won as Winner}
-use Rattle.rx_engine.specs.Attempts.{Attempts, HasAttempts, HasLocal, has_both, has_local, has_remote, starts_here, won_remote}
+use Rattle.rx_engine.specs.declared.transcripts.Passes.{Passes}
+use Rattle.rx_engine.specs.Attempts.{Attempts, HasAttempts, HasLocal, first_of, starts_here, won_remote}
 use Rattle.rx_engine.specs.Meanings.{Meanings}
-use Rattle.rx_engine.specs.Racing.{FitsEnd, HaveRaced, IsVerdictOn, first_by}
+use Rattle.rx_engine.specs.Plans.{has_both, has_local, has_remote, is_due_here}
+use Rattle.rx_engine.specs.Racing.{FitsEnd, HaveRaced, IsVerdictOn, first_by, unstarted}
 use Rattle.rx_engine.proofs.Cases.{false-true, none-some, some-none}
 
-refused-told : (verdict : Verdict) → Refused ≡ Told verdict → ⊥
+pub refused-told : (verdict : Verdict) → Refused ≡ Told verdict → ⊥
 refused-told verdict h = cc
 
-unused-told : (verdict : Verdict) → Unused ≡ Told verdict → ⊥
+pub unused-told : (verdict : Verdict) → Unused ≡ Told verdict → ⊥
 unused-told verdict h = cc
 
 late-won : Told Late ≡ Told Won → ⊥
@@ -41,20 +43,32 @@ late-won h = cc
 local-remote : Local ≡ Remote → ⊥
 local-remote h = cc
 
+unstarted-told : (due : Bool) (verdict : Verdict) → unstarted due ≡ Told verdict → ⊥
+unstarted-told true verdict h = refused-told verdict h
+unstarted-told false verdict h = unused-told verdict h
+
 -- ---- one attempt
 
--- an end that was offered was told something
-pub record WasTold {C : Type 0} (plan : Plan) (x : Attempt) (told : Option Decision) (end : End Outcome C) (slip : Slip) : Type 0 where
+-- an attempt that offered its end was to start, and was told something
+pub record WasTold {C : Type 0} (plan : Plan) (x : Attempt) (due : Bool) (told : Option Decision) (end : End Outcome C) (slip : Slip) : Type 0 where
   pub verdict : Verdict
   pub slip_is : slip ≡ Told verdict
+  pub due_is : due ≡ true
   pub on : IsVerdictOn plan x told end verdict
 
-was-told : {C : Type 0} (plan : Plan) (x : Attempt) (told : Option Decision) (end : End Outcome C) (slip : Slip) → FitsEnd plan x told (Some end) slip → WasTold plan x told end slip
-was-told plan x told end (Told verdict) fits = record { verdict = verdict; slip_is = refl; on = fits }
-was-told plan x told end Unused fits = absurd fits
-was-told plan x told end Refused fits = absurd fits
-was-told plan x told end Live fits = absurd fits
-was-told plan x told end Stopped fits = absurd fits
+pub was-told : {C : Type 0} (plan : Plan) (x : Attempt) (due : Bool) (told : Option Decision) (end : End Outcome C) (slip : Slip) → FitsEnd plan x due told (Some end) slip
+    → WasTold plan x due told end slip
+was-told plan x due told end (Told verdict) fits = record { verdict = verdict; slip_is = refl; due_is = fits.0; on = fits.1 }
+was-told plan x due told end Unused fits = absurd fits
+was-told plan x due told end Refused fits = absurd fits
+was-told plan x due told end Live fits = absurd fits
+was-told plan x due told end Stopped fits = absurd fits
+
+-- an attempt that was started was to start
+was-due : {C : Type 0} (plan : Plan) (x : Attempt) (due : Bool) (told : Option Decision) (ended : Option (End Outcome C)) (slip : Slip) → FitsEnd plan x due told ended slip
+    → is_some ended ≡ true → due ≡ true
+was-due plan x due told None slip fits s = absurd (false-true s)
+was-due plan x due told (Some end) slip fits s = (was-told plan x due told end slip fits).due_is
 
 -- where an end may be published, it isn't without an outcome for that
 published : (test : Bool) (won : Winner) → test ≡ true → (if test then Some won else None) ≡ None → ⊥
@@ -67,11 +81,11 @@ published-there plan (ends.Done outcome origin) may n =
     published (is_zero outcome.exit.code || is_remote_only plan) (record { outcome = outcome; origin = origin }) may n
 
 -- a remote attempt that won has an outcome that is published
-fits-won : (plan : Plan) (told : Option Decision) (remote : Option (End Outcome RemoteCause)) (slip : Slip) → FitsEnd plan Remote told remote slip → slip ≡ Told Won → won_remote plan remote ≡ None → ⊥
-fits-won plan told None slip fits won n = refused-told Won (sym fits ∙ won)
-fits-won plan told (Some end) slip fits won n =
-    let on : IsVerdictOn plan Remote told end Won = subst (FitsEnd plan Remote told (Some end)) won fits in
-    published-there plan end (on.won refl) n
+fits-won : (plan : Plan) (due : Bool) (told : Option Decision) (remote : Option (End Outcome RemoteCause)) (slip : Slip) → FitsEnd plan Remote due told remote slip → slip ≡ Told Won → won_remote plan remote ≡ None → ⊥
+fits-won plan due told None slip fits won n = unstarted-told due Won (sym fits.0 ∙ won)
+fits-won plan due told (Some end) slip fits won n =
+    let on : (due ≡ true) × IsVerdictOn plan Remote told end Won = subst (FitsEnd plan Remote due told (Some end)) won fits in
+    published-there plan end (on.1.won refl) n
 
 -- the remote one is first only where it won
 first-told : (slip : Slip) → Remote ≡ first_by slip → slip ≡ Told Won
@@ -100,75 +114,67 @@ told-late (Some decision) verdict n late = late
 
 -- ---- a race in which the remote attempt has nothing that is published
 
-module _ (plan : Plan) (told_local : Option Decision) (local : Option (End Outcome Cause)) (told_remote : Option Decision) (remote : Option (End Outcome RemoteCause)) (first : Attempt)
-    (r : HaveRaced plan told_local local told_remote remote first) (none : won_remote plan remote ≡ None) where
+module _ (plan : Plan) (told_local : Option Decision) (local : Option (End Outcome Cause)) (told_remote : Option Decision) (remote : Option (End Outcome RemoteCause)) (passes : Passes)
+    (r : HaveRaced plan told_local local told_remote remote passes) (none : won_remote plan remote ≡ None) where
   -- no other than the local one won
-  not-won : (seat : Seat) → slip_at seat r.slips ≡ Told Won → (r.slips.local ≡ Told Won → ⊥) → ⊥
+  not-won : (seat : Seat) → slip_at seat (slips_of passes.local passes.remote passes.cancel) ≡ Told Won → (passes.local ≡ Told Won → ⊥) → ⊥
   not-won (Of Local) won not = not won
-  not-won (Of Remote) won not = fits-won plan told_remote remote r.slips.remote r.fits_remote won none
+  not-won (Of Remote) won not = fits-won plan (has_remote plan) told_remote remote passes.remote r.fits_remote won none
   not-won Canceller won not = unused-told Won (sym r.uncancelled ∙ won)
 
-  no-winner : SomeoneWon r.slips → (r.slips.local ≡ Told Won → ⊥) → ⊥
+  no-winner : SomeoneWon (slips_of passes.local passes.remote passes.cancel) → (passes.local ≡ Told Won → ⊥) → ⊥
   no-winner someone not = not-won someone.0 someone.1 not
 
-  -- the local one was started
-  raced-some : local ≡ None → ⊥
-  raced-some e =
-      let refused : r.slips.local ≡ Refused = subst (λ x. FitsEnd plan Local told_local x r.slips.local) e r.fits_local in
+  -- a local one that was to start was started
+  raced-some : is_due_here plan passes.remote ≡ true → local ≡ None → ⊥
+  raced-some due e =
+      let left = subst (λ x. FitsEnd plan Local (is_due_here plan passes.remote) told_local x passes.local) e r.fits_local in
+      let refused : passes.local ≡ Refused = left.0 ∙ ap unstarted due in
       no-winner (r.told.look Local (subst IsLook (sym refused) tt)) (λ won. refused-told Won (sym refused ∙ won))
 
   -- and wasn't stopped
   raced-unstopped : (why : Cause) → local ≡ Some (ends.Failed why) → HasTold None told_local (Err why) → IsStopped why → ⊥
   raced-unstopped why e t s =
-      let was = was-told plan Local told_local (ends.Failed why) r.slips.local (subst (λ x. FitsEnd plan Local told_local x r.slips.local) e r.fits_local) in
-      let late : r.slips.local ≡ Told Late = was.slip_is ∙ ap Told (told-late told_local was.verdict (stopped-told why told_local t s) was.on.late) in
+      let was = was-told plan Local (is_due_here plan passes.remote) told_local (ends.Failed why) passes.local
+      (subst (λ x. FitsEnd plan Local (is_due_here plan passes.remote) told_local x passes.local) e r.fits_local) in
+      let late : passes.local ≡ Told Late = was.slip_is ∙ ap Told (told-late told_local was.verdict (stopped-told why told_local t s) was.on.late) in
       no-winner (r.told.late Local late) (λ won. late-won (sym late ∙ won))
 
 -- ---- the attempts of a plan
 
-both-remote : (plan : Plan) → has_both plan ≡ true → has_remote plan ≡ true
-both-remote plans.LocalOnly e = absurd (false-true e)
-both-remote plans.RemoteOnly e = absurd (false-true e)
-both-remote plans.Fallback e = absurd (false-true e)
-both-remote plans.Both e = refl
+-- both at once are both to start
+both-due : (plan : Plan) (remote : Slip) → has_both plan ≡ true → is_due_here plan remote ≡ true
+both-due plans.LocalOnly remote e = absurd (false-true e)
+both-due plans.RemoteOnly remote e = absurd (false-true e)
+both-due plans.Fallback remote e = absurd (false-true e)
+both-due plans.Both remote e = refl
 
 -- the local attempt was started where the remote one won nothing
 starts-none : (plan : Plan) (remote : Option (End Outcome RemoteCause)) → has_local plan ≡ true → won_remote plan remote ≡ None → starts_here plan remote ≡ true
 starts-none plan remote h n = rw (h, n) refl
 
 module _ {P W B : Type 0} (m : Meanings P W B) (gathered : Gathered) (accepts : Bool) (before after : P) (attempts : Attempts) (made : HasAttempts m gathered accepts before after attempts) where
-  first-won-by : (both : Bool) → has_both gathered.plan ≡ both → attempts.first ≡ Remote → won_remote gathered.plan attempts.remote ≡ None → ⊥
-  first-won-by false e f n = local-remote (sym (made.in_turn e).first_is ∙ f)
-  first-won-by true e f n =
-      let r = made.raced e in
-      fits-won gathered.plan attempts.told_remote attempts.remote r.slips.remote r.fits_remote (first-told r.slips.remote (sym f ∙ r.first_is)) n
-
   -- the remote attempt comes first only with an outcome that is published
-  pub first-won : attempts.first ≡ Remote → won_remote gathered.plan attempts.remote ≡ None → ⊥
-  first-won f n = first-won-by (has_both gathered.plan) refl f n
-
-  planned-by : (both : Bool) → has_both gathered.plan ≡ both → is_some attempts.remote ≡ true → has_remote gathered.plan ≡ true
-  planned-by false e s = sym (made.in_turn e).started_there ∙ s
-  planned-by true e s = both-remote gathered.plan e
+  pub first-won : first_of attempts ≡ Remote → won_remote gathered.plan attempts.remote ≡ None → ⊥
+  first-won f n =
+      fits-won gathered.plan (has_remote gathered.plan) attempts.told_remote attempts.remote attempts.passes.remote made.raced.fits_remote (first-told attempts.passes.remote (sym f)) n
 
   -- a remote attempt that was started is in the plan
   pub planned-there : is_some attempts.remote ≡ true → has_remote gathered.plan ≡ true
-  planned-there s = planned-by (has_both gathered.plan) refl s
+  planned-there s = was-due gathered.plan Remote (has_remote gathered.plan) attempts.told_remote attempts.remote attempts.passes.remote made.raced.fits_remote s
 
   module _ (has : has_local gathered.plan ≡ true) (none : won_remote gathered.plan attempts.remote ≡ None) where
     started-by : (both : Bool) → has_both gathered.plan ≡ both → attempts.local ≡ None → ⊥
     started-by false e n = false-true (sym (ap is_some n) ∙ (made.in_turn e).started_here ∙ starts-none gathered.plan attempts.remote has none)
-    started-by true e n = raced-some gathered.plan attempts.told_local attempts.local attempts.told_remote attempts.remote attempts.first (made.raced e) none n
+    started-by true e n =
+        raced-some gathered.plan attempts.told_local attempts.local attempts.told_remote attempts.remote attempts.passes made.raced none (both-due gathered.plan attempts.passes.remote e) n
 
     -- where the remote attempt has nothing to publish, the local one was started
     pub started-here : attempts.local ≡ None → ⊥
     started-here n = started-by (has_both gathered.plan) refl n
 
-    unstopped-by : (both : Bool) → has_both gathered.plan ≡ both → (why : Cause) → attempts.local ≡ Some (ends.Failed why) → HasTold None attempts.told_local (Err why) → IsStopped why → ⊥
-    unstopped-by false e why f t s = stopped-told why attempts.told_local t s (made.in_turn e).told_local_is
-    unstopped-by true e why f t s = raced-unstopped gathered.plan attempts.told_local attempts.local attempts.told_remote attempts.remote attempts.first (made.raced e) none why f t s
-
     -- and wasn't stopped
     pub unstopped-here : (why : Cause) → attempts.local ≡ Some (ends.Failed why) → IsStopped why → ⊥
     unstopped-here why f s =
-        unstopped-by (has_both gathered.plan) refl why f (subst (HasLocal m gathered attempts.told_local before after) f made.local).stopped s
+        raced-unstopped gathered.plan attempts.told_local attempts.local attempts.told_remote attempts.remote attempts.passes made.raced none why f
+        (subst (HasLocal m gathered attempts.told_local before after) f made.local).stopped s

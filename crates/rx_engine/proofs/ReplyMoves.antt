@@ -11,7 +11,6 @@ use Rattle.rx_scan.specs.Lists.{Listing, stretch}
 use Rattle.rx_session.specs.declared.replies.Reply.{Reply}
 use Rattle.rx_session.specs.declared.replies.Reply.TheVariants as reply
 use Rattle.rx_session.specs.declared.requests.Request.{Request}
-use Rattle.rx_world.specs.declared.attempts.Ended.{Ended}
 use Rattle.rx_world.specs.declared.looks.Look.{Look}
 use Rattle.rx_world.specs.declared.sources.Given.{Given}
 use Rattle.rx_exec_messages.specs.declared.callers.Caller as callers
@@ -27,7 +26,9 @@ use Rattle.rx_engine.specs.declared.attempts.Won.{Won}
 use Rattle.rx_engine.specs.declared.desk.Parts.{Parts}
 use Rattle.rx_engine.specs.declared.pending.Stage.{Stage}
 use Rattle.rx_engine.specs.declared.pending.Stage.TheVariants as stages
+use Rattle.rx_engine.specs.declared.transcripts.Tally.{Tally}
 use Rattle.rx_engine.specs.Answers.{Answers, HasRun, HasWon, IsRefused, IsUnrun, MayHaveRun, asked_of, grounds}
+use Rattle.rx_engine.specs.Attempts.{no_tally}
 use Rattle.rx_engine.specs.Meanings.{meanings}
 use Rattle.rx_engine.specs.Pending.{IsStageOf}
 use Rattle.rx_engine.specs.Ready.{IsReadyAs}
@@ -44,23 +45,23 @@ pub record AreSame {I O T L M R C : Type 0} (p q r s : Parts I O T L M R C) : Ty
 
 module _ {W I O T L M B R C : Type 0} (w : world.Ghosts W) (i : inputs.Ghosts I) (o : sinks.Ghosts O) (t : sources.Ghosts T W) (l : sources.Ghosts L W) (k : makers.Ghosts M W B) (b : benches.Ghosts B W)
     (v : sources.Ghosts R W) (z : callers.Ghosts C W) (p q r s : Parts I O T L M R C) (same : AreSame p q r s) (xs : List Given) (ls : List Listing) (vs : List (List ℕ × Look)) where
-  unrun-move : (ends : List Ended) → IsUnrun (meanings w i o t l k b v z) (grounds p q xs ls vs) ends → IsUnrun (meanings w i o t l k b v z) (grounds r s xs ls vs) ends
-  unrun-move ends h = record {
+  unrun-move : (tally : Tally) → IsUnrun (meanings w i o t l k b v z) (grounds p q xs ls vs) tally → IsUnrun (meanings w i o t l k b v z) (grounds r s xs ls vs) tally
+  unrun-move tally h = record {
     idle = idle-move w i o t l k b v z p q r s same.before same.after h.idle;
-    ends_are = h.ends_are;
+    tally_is = h.tally_is;
   }
 
   -- nothing was asked, and no attempt was made
-  pub untouched-move : (ends : List Ended) → IsUntouched (meanings w i o t l k b v z) (grounds p q xs ls vs) ends → IsUntouched (meanings w i o t l k b v z) (grounds r s xs ls vs) ends
-  untouched-move ends h = record { answers_are = h.answers_are; lists_are = h.lists_are; unrun = unrun-move ends h.unrun }
+  pub untouched-move : (tally : Tally) → IsUntouched (meanings w i o t l k b v z) (grounds p q xs ls vs) tally → IsUntouched (meanings w i o t l k b v z) (grounds r s xs ls vs) tally
+  untouched-move tally h = record { answers_are = h.answers_are; lists_are = h.lists_are; unrun = unrun-move tally h.unrun }
 
   listed-move : (gathered : Gathered) → (w.stamps_honest → t.keeps p.tree → IfSome (t.listed p.tree) (λ entries. All (IsAsListed entries) gathered.files))
       → w.stamps_honest → t.keeps r.tree → IfSome (t.listed r.tree) (λ entries. All (IsAsListed entries) gathered.files)
   listed-move gathered h =
       subst (λ x. w.stamps_honest → t.keeps x → IfSome (t.listed x) (λ entries. All (IsAsListed entries) gathered.files)) (sym same.tree_before) h
 
-  run-move : (request : Request) (ends : List Ended) → HasRun (meanings w i o t l k b v z) (grounds p q xs ls vs) request ends → HasRun (meanings w i o t l k b v z) (grounds r s xs ls vs) request ends
-  run-move request ends h =
+  run-move : (request : Request) (tally : Tally) → HasRun (meanings w i o t l k b v z) (grounds p q xs ls vs) request tally → HasRun (meanings w i o t l k b v z) (grounds r s xs ls vs) request tally
+  run-move request tally h =
       let n = h.inputs in
       record {
         gathered = h.gathered;
@@ -72,75 +73,75 @@ module _ {W I O T L M B R C : Type 0} (w : world.Ghosts W) (i : inputs.Ghosts I)
         };
         attempts = h.attempts;
         made = attempts-move w i o t l k b v z p q r s h.gathered request.accept_cached h.attempts same.before same.after h.made;
-        ends_are = h.ends_are;
+        tally_is = h.tally_is;
       }
 
-  may-move : (request : Request) (ends : List Ended) → MayHaveRun (meanings w i o t l k b v z) (grounds p q xs ls vs) request ends → MayHaveRun (meanings w i o t l k b v z) (grounds r s xs ls vs) request ends
-  may-move request ends (inl h) = inl (unrun-move ends h)
-  may-move request ends (inr h) = inr (run-move request ends h)
+  may-move : (request : Request) (tally : Tally) → MayHaveRun (meanings w i o t l k b v z) (grounds p q xs ls vs) request tally → MayHaveRun (meanings w i o t l k b v z) (grounds r s xs ls vs) request tally
+  may-move request tally (inl h) = inl (unrun-move tally h)
+  may-move request tally (inr h) = inr (run-move request tally h)
 
-  won-move : (request : Request) (ends : List Ended) (won : Won) → HasWon (meanings w i o t l k b v z) (grounds p q xs ls vs) request ends won → HasWon (meanings w i o t l k b v z) (grounds r s xs ls vs) request ends won
+  won-move : (request : Request) (tally : Tally) (won : Won) → HasWon (meanings w i o t l k b v z) (grounds p q xs ls vs) request tally won → HasWon (meanings w i o t l k b v z) (grounds r s xs ls vs) request tally won
   unfolding run-move
-  won-move request ends won h = record { run = run-move request ends h.run; won_is = h.won_is }
+  won-move request tally won h = record { run = run-move request tally h.run; won_is = h.won_is }
 
-  refused-move : (request : Request) (receipt : Option Receipt) (ends : List Ended) (why : GatherFault) → IsRefused (meanings w i o t l k b v z) (grounds p q xs ls vs) request receipt ends why → IsRefused (meanings w i o t l k b v z) (grounds r s xs ls vs) request receipt ends why
-  refused-move request receipt ends why h = record {
+  refused-move : (request : Request) (receipt : Option Receipt) (tally : Tally) (why : GatherFault) → IsRefused (meanings w i o t l k b v z) (grounds p q xs ls vs) request receipt tally why → IsRefused (meanings w i o t l k b v z) (grounds r s xs ls vs) request receipt tally why
+  refused-move request receipt tally why h = record {
     cause = subst (λ x. BlamesGather (asked_of request) why (stretch [] vs (t.faults x) (t.faults s.tree) xs ls)) (sym same.tree_before)
         (subst (λ y. BlamesGather (asked_of request) why (stretch [] vs (t.faults p.tree) (t.faults y) xs ls)) (sym same.tree_after) h.cause);
-    unrun = unrun-move ends h.unrun;
+    unrun = unrun-move tally h.unrun;
     receipt_is = h.receipt_is;
   }
 
-  answers-move : (request : Request) (receipt : Option Receipt) (ends : List Ended) (answer : Reply) → Answers (meanings w i o t l k b v z) (grounds p q xs ls vs) request receipt ends answer → Answers (meanings w i o t l k b v z) (grounds r s xs ls vs) request receipt ends answer
+  answers-move : (request : Request) (receipt : Option Receipt) (tally : Tally) (answer : Reply) → Answers (meanings w i o t l k b v z) (grounds p q xs ls vs) request receipt tally answer → Answers (meanings w i o t l k b v z) (grounds r s xs ls vs) request receipt tally answer
   unfolding run-move
-  answers-move request receipt ends (reply.Done exit stdout stderr from number placed) h = (h.0, won-move request ends h.0 h.1, h.2, h.3)
-  answers-move request receipt ends (reply.PlaceFault number placed) h = (h.0, won-move request ends h.0 h.1, h.2, h.3)
-  answers-move request receipt ends reply.JournalFull h = (h.0, won-move request ends h.0 h.1, h.2)
-  answers-move request receipt ends (reply.AllFailed failures) h =
-      (record { run = run-move request ends h.0.run; none_won = h.0.none_won; tellable = h.0.tellable }, h.1, h.2)
-  answers-move request receipt ends (reply.NotRemotable why) h = refused-move request receipt ends (fault.NotRemotable why) h
-  answers-move request receipt ends (reply.InputMissing path) h = refused-move request receipt ends (fault.InputMissing path) h
-  answers-move request receipt ends (reply.InputChanged input) h = refused-move request receipt ends (fault.InputChanged input) h
-  answers-move request receipt ends (reply.SourceFault path) h = refused-move request receipt ends (fault.SourceFault path) h
-  answers-move request receipt ends (reply.TooLarge limit n path) h = refused-move request receipt ends (fault.TooLarge limit n path) h
-  answers-move request receipt ends (reply.Blocked path) h = refused-move request receipt ends (fault.Blocked path) h
-  answers-move request receipt ends (reply.BadRequest bad) h = absurd h
-  answers-move request receipt ends reply.NoMemory h = (may-move request ends h.0, h.1)
+  answers-move request receipt tally (reply.Done exit stdout stderr from number placed) h = (h.0, won-move request tally h.0 h.1, h.2, h.3)
+  answers-move request receipt tally (reply.PlaceFault number placed) h = (h.0, won-move request tally h.0 h.1, h.2, h.3)
+  answers-move request receipt tally reply.JournalFull h = (h.0, won-move request tally h.0 h.1, h.2)
+  answers-move request receipt tally (reply.AllFailed failures) h =
+      (record { run = run-move request tally h.0.run; none_won = h.0.none_won; tellable = h.0.tellable }, h.1, h.2)
+  answers-move request receipt tally (reply.NotRemotable why) h = refused-move request receipt tally (fault.NotRemotable why) h
+  answers-move request receipt tally (reply.InputMissing path) h = refused-move request receipt tally (fault.InputMissing path) h
+  answers-move request receipt tally (reply.InputChanged input) h = refused-move request receipt tally (fault.InputChanged input) h
+  answers-move request receipt tally (reply.SourceFault path) h = refused-move request receipt tally (fault.SourceFault path) h
+  answers-move request receipt tally (reply.TooLarge limit n path) h = refused-move request receipt tally (fault.TooLarge limit n path) h
+  answers-move request receipt tally (reply.Blocked path) h = refused-move request receipt tally (fault.Blocked path) h
+  answers-move request receipt tally (reply.BadRequest bad) h = absurd h
+  answers-move request receipt tally reply.NoMemory h = (may-move request tally h.0, h.1)
 
   at-end : IsAtEnd (i.left q.input) → IsAtEnd (i.left s.input)
   at-end h = subst (λ x. IsAtEnd (i.left x)) (sym same.input_after) h
 
-  to-move : (root read : List ℕ) (request : Option Request) (receipt : Option Receipt) (ends : List Ended) (answer : Reply) → RepliesTo (meanings w i o t l k b v z) root (grounds p q xs ls vs) read request receipt ends answer → RepliesTo (meanings w i o t l k b v z) root (grounds r s xs ls vs) read request receipt ends answer
-  to-move root read request receipt ends answer h =
-      (h.0, record { request_is = h.1.request_is; decoded = h.1.decoded; ended = at-end h.1.ended }, answers-move h.0 receipt ends answer h.2)
+  to-move : (root read : List ℕ) (request : Option Request) (receipt : Option Receipt) (tally : Tally) (answer : Reply) → RepliesTo (meanings w i o t l k b v z) root (grounds p q xs ls vs) read request receipt tally answer → RepliesTo (meanings w i o t l k b v z) root (grounds r s xs ls vs) read request receipt tally answer
+  to-move root read request receipt tally answer h =
+      (h.0, record { request_is = h.1.request_is; decoded = h.1.decoded; ended = at-end h.1.ended }, answers-move h.0 receipt tally answer h.2)
 
-  handled-move : (request : Option Request) (ends : List Ended) → WasHandled (meanings w i o t l k b v z) (grounds p q xs ls vs) request ends → WasHandled (meanings w i o t l k b v z) (grounds r s xs ls vs) request ends
-  handled-move None ends h = unrun-move ends h
-  handled-move (Some asked) ends h = may-move asked ends h
+  handled-move : (request : Option Request) (tally : Tally) → WasHandled (meanings w i o t l k b v z) (grounds p q xs ls vs) request tally → WasHandled (meanings w i o t l k b v z) (grounds r s xs ls vs) request tally
+  handled-move None tally h = unrun-move tally h
+  handled-move (Some asked) tally h = may-move asked tally h
 
-  replies-move : (root read : List ℕ) (request : Option Request) (receipt : Option Receipt) (ends : List Ended) (answer : Reply) → Replies (meanings w i o t l k b v z) root (grounds p q xs ls vs) read request receipt ends answer → Replies (meanings w i o t l k b v z) root (grounds r s xs ls vs) read request receipt ends answer
-  replies-move root read request receipt ends (reply.BadRequest bad) h = (h.0, h.1, untouched-move ends h.2, h.3, λ cut. at-end (h.4 cut))
-  replies-move root read request receipt ends reply.NoMemory h = (h.0, handled-move request ends h.1, h.2)
-  replies-move root read request receipt ends (reply.Done exit stdout stderr from number placed) h = to-move root read request receipt ends (reply.Done exit stdout stderr from number placed) h
-  replies-move root read request receipt ends (reply.PlaceFault number placed) h = to-move root read request receipt ends (reply.PlaceFault number placed) h
-  replies-move root read request receipt ends (reply.NotRemotable why) h = to-move root read request receipt ends (reply.NotRemotable why) h
-  replies-move root read request receipt ends (reply.InputMissing path) h = to-move root read request receipt ends (reply.InputMissing path) h
-  replies-move root read request receipt ends (reply.InputChanged input) h = to-move root read request receipt ends (reply.InputChanged input) h
-  replies-move root read request receipt ends (reply.SourceFault path) h = to-move root read request receipt ends (reply.SourceFault path) h
-  replies-move root read request receipt ends (reply.TooLarge limit n path) h = to-move root read request receipt ends (reply.TooLarge limit n path) h
-  replies-move root read request receipt ends (reply.AllFailed failures) h = to-move root read request receipt ends (reply.AllFailed failures) h
-  replies-move root read request receipt ends reply.JournalFull h = to-move root read request receipt ends reply.JournalFull h
-  replies-move root read request receipt ends (reply.Blocked path) h = to-move root read request receipt ends (reply.Blocked path) h
+  replies-move : (root read : List ℕ) (request : Option Request) (receipt : Option Receipt) (tally : Tally) (answer : Reply) → Replies (meanings w i o t l k b v z) root (grounds p q xs ls vs) read request receipt tally answer → Replies (meanings w i o t l k b v z) root (grounds r s xs ls vs) read request receipt tally answer
+  replies-move root read request receipt tally (reply.BadRequest bad) h = (h.0, h.1, untouched-move tally h.2, h.3, λ cut. at-end (h.4 cut))
+  replies-move root read request receipt tally reply.NoMemory h = (h.0, handled-move request tally h.1, h.2)
+  replies-move root read request receipt tally (reply.Done exit stdout stderr from number placed) h = to-move root read request receipt tally (reply.Done exit stdout stderr from number placed) h
+  replies-move root read request receipt tally (reply.PlaceFault number placed) h = to-move root read request receipt tally (reply.PlaceFault number placed) h
+  replies-move root read request receipt tally (reply.NotRemotable why) h = to-move root read request receipt tally (reply.NotRemotable why) h
+  replies-move root read request receipt tally (reply.InputMissing path) h = to-move root read request receipt tally (reply.InputMissing path) h
+  replies-move root read request receipt tally (reply.InputChanged input) h = to-move root read request receipt tally (reply.InputChanged input) h
+  replies-move root read request receipt tally (reply.SourceFault path) h = to-move root read request receipt tally (reply.SourceFault path) h
+  replies-move root read request receipt tally (reply.TooLarge limit n path) h = to-move root read request receipt tally (reply.TooLarge limit n path) h
+  replies-move root read request receipt tally (reply.AllFailed failures) h = to-move root read request receipt tally (reply.AllFailed failures) h
+  replies-move root read request receipt tally reply.JournalFull h = to-move root read request receipt tally reply.JournalFull h
+  replies-move root read request receipt tally (reply.Blocked path) h = to-move root read request receipt tally (reply.Blocked path) h
 
-  pub ready-move : (root read : List ℕ) (request : Option Request) (ends : List Ended) (answered : Option Answered) → IsReadyAs (meanings w i o t l k b v z) root (grounds p q xs ls vs) read request ends answered → IsReadyAs (meanings w i o t l k b v z) root (grounds r s xs ls vs) read request ends answered
-  ready-move root read request ends None h = (h.0, handled-move request ends h.1)
-  ready-move root read request ends (Some a) h = (h.0, replies-move root read request a.receipt ends a.reply h.1)
+  pub ready-move : (root read : List ℕ) (request : Option Request) (tally : Tally) (answered : Option Answered) → IsReadyAs (meanings w i o t l k b v z) root (grounds p q xs ls vs) read request tally answered → IsReadyAs (meanings w i o t l k b v z) root (grounds r s xs ls vs) read request tally answered
+  ready-move root read request tally None h = (h.0, handled-move request tally h.1)
+  ready-move root read request tally (Some a) h = (h.0, replies-move root read request a.receipt tally a.reply h.1)
 
   -- the stage of a request
   pub stage-move : (request : Request) (stage : Stage) → IsStageOf (meanings w i o t l k b v z) (grounds p q xs ls vs) request stage → IsStageOf (meanings w i o t l k b v z) (grounds r s xs ls vs) request stage
   unfolding run-move
   stage-move request stages.Lost h = absurd h
   stage-move request (stages.ShutDown frame) h = absurd h
-  stage-move request (stages.Refused None) h = (may-move request [] h.0, h.1)
-  stage-move request (stages.Refused (Some a)) h = ((h.0.0, answers-move request a.receipt [] a.reply h.0.1), h.1)
-  stage-move request (stages.Attempted attempted) h = record { run = run-move request attempted.ends h.run; won_is = h.won_is }
+  stage-move request (stages.Refused None) h = (may-move request no_tally h.0, h.1)
+  stage-move request (stages.Refused (Some a)) h = ((h.0.0, answers-move request a.receipt no_tally a.reply h.0.1), h.1)
+  stage-move request (stages.Attempted attempted) h = record { run = run-move request attempted.tally h.run; won_is = h.won_is }

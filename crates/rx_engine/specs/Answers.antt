@@ -13,12 +13,12 @@ use Rattle.rx_scan.specs.declared.gathering.Gathered.{Gathered}
 use Rattle.rx_reach.specs.Explored.{HaveDigests}
 use Rattle.rx_scan.specs.Gathering.{Asked, BlamesGather, IsGatheredBy, IsOrderly}
 use Rattle.rx_scan.specs.Lists.{Listing, Stretch, stretch}
-use Rattle.rx_world.specs.declared.attempts.Ended.{Ended}
 use Rattle.rx_world.specs.declared.looks.Look.{Look}
 use Rattle.rx_world.specs.declared.sources.Given.{Given}
 use Rattle.rx_world.specs.Inputs.{IsAsListed}
 use Rattle.rx_engine.specs.declared.attempts.Won.{Won}
-use Rattle.rx_engine.specs.Attempts.{AreTellable, Attempts, HasAttempts, IsIdle, failure_of, kept_ends, winner}
+use Rattle.rx_engine.specs.declared.transcripts.Tally.{Tally}
+use Rattle.rx_engine.specs.Attempts.{AreTellable, Attempts, HasAttempts, IsIdle, failure_of, no_tally, tally_of, winner}
 use Rattle.rx_engine.specs.Meanings.{Meanings}
 
 -- what an answer stands on: the parts before and after, what the source tree that is gathered from answered and listed, and what was seen
@@ -57,41 +57,41 @@ pub record HasGathered {P W B : Type 0} (m : Meanings P W B) (g : Grounds P) (re
       IfSome (m.tree.listed g.before) (λ entries. All (IsAsListed entries) gathered.files)
 
 -- no attempt was made
-pub record IsUnrun {P W B : Type 0} (m : Meanings P W B) (g : Grounds P) (ends : List Ended) : Type 0 where
+pub record IsUnrun {P W B : Type 0} (m : Meanings P W B) (g : Grounds P) (tally : Tally) : Type 0 where
   pub idle : IsIdle m g.before g.after
-  pub ends_are : ends ≡ []
+  pub tally_is : tally ≡ no_tally
 
 -- nothing was run, since this is why nothing was gathered
-pub record IsRefused {P W B : Type 0} (m : Meanings P W B) (g : Grounds P) (request : Request) (receipt : Option Receipt) (ends : List Ended)
+pub record IsRefused {P W B : Type 0} (m : Meanings P W B) (g : Grounds P) (request : Request) (receipt : Option Receipt) (tally : Tally)
     (why : GatherFault) : Type 0 where
   pub cause : BlamesGather (asked_of request) why (stretch_of m g)
-  pub unrun : IsUnrun m g ends
+  pub unrun : IsUnrun m g tally
   pub receipt_is : receipt ≡ None
 
 -- ---- the attempts
 
 -- The attempts of a request were made on what was gathered for it, and each that was started has its end.
-pub record HasRun {P W B : Type 0} (m : Meanings P W B) (g : Grounds P) (request : Request) (ends : List Ended) : Type 0 where
+pub record HasRun {P W B : Type 0} (m : Meanings P W B) (g : Grounds P) (request : Request) (tally : Tally) : Type 0 where
   pub gathered : Gathered
   pub inputs : HasGathered m g request gathered
   pub attempts : Attempts
   pub made : HasAttempts m gathered request.accept_cached g.before g.after attempts
-  pub ends_are : ends ≡ kept_ends attempts
+  pub tally_is : tally ≡ tally_of attempts
 
 -- the same, and this is the outcome that is to be published
-pub record HasWon {P W B : Type 0} (m : Meanings P W B) (g : Grounds P) (request : Request) (ends : List Ended) (won : Won) : Type 0 where
-  pub run : HasRun m g request ends
+pub record HasWon {P W B : Type 0} (m : Meanings P W B) (g : Grounds P) (request : Request) (tally : Tally) (won : Won) : Type 0 where
+  pub run : HasRun m g request tally
   pub won_is : winner run.gathered.plan run.attempts ≡ Some won
 
 -- the same, and none is, though no end is want of memory
-pub record HasLost {P W B : Type 0} (m : Meanings P W B) (g : Grounds P) (request : Request) (ends : List Ended) : Type 0 where
-  pub run : HasRun m g request ends
+pub record HasLost {P W B : Type 0} (m : Meanings P W B) (g : Grounds P) (request : Request) (tally : Tally) : Type 0 where
+  pub run : HasRun m g request tally
   pub none_won : winner run.gathered.plan run.attempts ≡ None
-  pub tellable : AreTellable ends
+  pub tellable : AreTellable tally.ends
 
 -- the attempts were made or, for want of memory before them, not
-abbrev pub MayHaveRun : {P W B : Type 0} → Meanings P W B → Grounds P → Request → List Ended → Type 0
-MayHaveRun m g request ends = IsUnrun m g ends ⊎ HasRun m g request ends
+abbrev pub MayHaveRun : {P W B : Type 0} → Meanings P W B → Grounds P → Request → Tally → Type 0
+MayHaveRun m g request tally = IsUnrun m g tally ⊎ HasRun m g request tally
 
 -- ---- the replies
 
@@ -101,22 +101,22 @@ done_reply won number =
     reply.Done won.outcome.exit.code won.outcome.exit.stdout won.outcome.exit.stderr won.origin number (length won.outcome.files)
 
 -- each reply to a request, and what it says
-abbrev pub Answers : {P W B : Type 0} → Meanings P W B → Grounds P → Request → Option Receipt → List Ended → Reply → Type 0
-Answers m g request receipt ends (reply.Done exit stdout stderr from number placed) =
-    (won : Won) × HasWon m g request ends won
+abbrev pub Answers : {P W B : Type 0} → Meanings P W B → Grounds P → Request → Option Receipt → Tally → Reply → Type 0
+Answers m g request receipt tally (reply.Done exit stdout stderr from number placed) =
+    (won : Won) × HasWon m g request tally won
     × (reply.Done exit stdout stderr from number placed ≡ done_reply won number) × (receipt ≡ Some (record { number = number }))
-Answers m g request receipt ends (reply.PlaceFault number placed) =
-    (won : Won) × HasWon m g request ends won
+Answers m g request receipt tally (reply.PlaceFault number placed) =
+    (won : Won) × HasWon m g request tally won
     × (placed < length won.outcome.files) × (receipt ≡ Some (record { number = number }))
-Answers m g request receipt ends reply.JournalFull =
-    (won : Won) × HasWon m g request ends won × (receipt ≡ None)
-Answers m g request receipt ends (reply.AllFailed failures) =
-    HasLost m g request ends × (failures ≡ flat_map failure_of ends) × (receipt ≡ None)
-Answers m g request receipt ends (reply.NotRemotable why) = IsRefused m g request receipt ends (fault.NotRemotable why)
-Answers m g request receipt ends (reply.InputMissing path) = IsRefused m g request receipt ends (fault.InputMissing path)
-Answers m g request receipt ends (reply.InputChanged input) = IsRefused m g request receipt ends (fault.InputChanged input)
-Answers m g request receipt ends (reply.SourceFault path) = IsRefused m g request receipt ends (fault.SourceFault path)
-Answers m g request receipt ends (reply.TooLarge limit n path) = IsRefused m g request receipt ends (fault.TooLarge limit n path)
-Answers m g request receipt ends (reply.Blocked path) = IsRefused m g request receipt ends (fault.Blocked path)
-Answers m g request receipt ends (reply.BadRequest bad) = ⊥
-Answers m g request receipt ends reply.NoMemory = MayHaveRun m g request ends × (receipt ≡ None)
+Answers m g request receipt tally reply.JournalFull =
+    (won : Won) × HasWon m g request tally won × (receipt ≡ None)
+Answers m g request receipt tally (reply.AllFailed failures) =
+    HasLost m g request tally × (failures ≡ flat_map failure_of tally.ends) × (receipt ≡ None)
+Answers m g request receipt tally (reply.NotRemotable why) = IsRefused m g request receipt tally (fault.NotRemotable why)
+Answers m g request receipt tally (reply.InputMissing path) = IsRefused m g request receipt tally (fault.InputMissing path)
+Answers m g request receipt tally (reply.InputChanged input) = IsRefused m g request receipt tally (fault.InputChanged input)
+Answers m g request receipt tally (reply.SourceFault path) = IsRefused m g request receipt tally (fault.SourceFault path)
+Answers m g request receipt tally (reply.TooLarge limit n path) = IsRefused m g request receipt tally (fault.TooLarge limit n path)
+Answers m g request receipt tally (reply.Blocked path) = IsRefused m g request receipt tally (fault.Blocked path)
+Answers m g request receipt tally (reply.BadRequest bad) = ⊥
+Answers m g request receipt tally reply.NoMemory = MayHaveRun m g request tally × (receipt ≡ None)

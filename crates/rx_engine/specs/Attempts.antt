@@ -1,5 +1,5 @@
 -- The attempts of a session: which a plan has, how they ended, and what is published of them.
-use Rattle.std.specs.Prelude.{◌≡◌, ◌≢◌, ◌⊎◌, ◌≤◌, ◌||◌, ◌&&◌, Bool, true, false, not, List, [], ◌∷◌, ◌++◌, Option, None, Some, Result, Ok, Err, All, IfOk, if◌then◌else◌, is_some}
+use Rattle.std.specs.Prelude.{◌≡◌, ◌≢◌, ◌⊎◌, ◌≤◌, ◌||◌, ◌&&◌, Bool, false, not, List, [], ◌∷◌, ◌++◌, Option, None, Some, Result, Ok, Err, All, IfOk, if◌then◌else◌, is_some}
 use Rattle.rx_local.specs.Limits.{IsWithinLimits}
 use Rattle.rx_local.specs.Local.{HasAttempted, HasTold, Job, job}
 use Rattle.rx_race.specs.Publishing.{is_remote_only, is_zero}
@@ -16,7 +16,6 @@ use Rattle.rx_world.specs.declared.attempts.Failure.{Failure}
 use Rattle.rx_world.specs.declared.attempts.Failure.TheVariants as failures
 use Rattle.rx_world.specs.declared.attempts.Origin.TheVariants as origins
 use Rattle.rx_world.specs.declared.attempts.Plan.{Plan}
-use Rattle.rx_world.specs.declared.attempts.Plan.TheVariants.{Both, Fallback, LocalOnly, RemoteOnly}
 use Rattle.rx_world.specs.declared.benches.Bench as benches
 use Rattle.rx_world.specs.declared.benches.BenchMaker as makers
 use Rattle.rx_world.specs.declared.decisions.Decision.{Decision}
@@ -31,41 +30,27 @@ use Rattle.rx_world.specs.Outcomes.{IsProper, kept}
 use Rattle.rx_engine.specs.declared.attempts.Attempted.{Attempted}
 use Rattle.rx_engine.specs.declared.attempts.Won.{Won}
 use Rattle.rx_engine.specs.declared.held.Held.{Held}
+use Rattle.rx_engine.specs.declared.transcripts.Passes.{Passes}
+use Rattle.rx_engine.specs.declared.transcripts.Tally.{Tally}
 use Rattle.rx_engine.specs.Meanings.{Meanings}
-use Rattle.rx_engine.specs.Racing.{HaveRaced}
+use Rattle.rx_engine.specs.Plans.{has_both, has_local, has_remote}
+use Rattle.rx_engine.specs.Racing.{HaveRaced, first_by, unused_passes}
 use Rattle.rx_engine.specs.RemoteAttempts.{EndsThere, IsIdleThere}
-
--- ---- plans
-
-abbrev pub has_local : Plan → Bool
-has_local LocalOnly = true
-has_local RemoteOnly = false
-has_local Fallback = true
-has_local Both = true
-
-abbrev pub has_remote : Plan → Bool
-has_remote LocalOnly = false
-has_remote RemoteOnly = true
-has_remote Fallback = true
-has_remote Both = true
-
--- both at once
-abbrev pub has_both : Plan → Bool
-has_both LocalOnly = false
-has_both RemoteOnly = false
-has_both Fallback = false
-has_both Both = true
 
 -- ---- ends
 
--- How each attempt that was started ended, with the whole outcome; the decision that each was told of while it ran; and whose outcome is
--- published before that of the other.
+-- How each attempt that was started ended, with the whole outcome; the decision that each was told of while it ran; and what became of the
+-- passes of their race.
 pub record Attempts : Type 0 where
   pub local : Option (End Outcome Cause)
   pub remote : Option (End Outcome RemoteCause)
   pub told_local : Option Decision
   pub told_remote : Option Decision
-  pub first : Attempt
+  pub passes : Passes
+
+-- whose outcome is published before that of the other
+abbrev pub first_of : Attempts → Attempt
+first_of attempts = first_by attempts.passes.remote
 
 abbrev pub kept_end : {C : Type 0} → End Outcome C → End KeptOutcome C
 kept_end (ends.Done outcome origin) = ends.Done (kept outcome) origin
@@ -96,7 +81,15 @@ in_order whose.Remote here there = there ++ here
 
 -- the ends as a transcript keeps them
 abbrev pub kept_ends : Attempts → List Ended
-kept_ends attempts = in_order attempts.first (listed_local (kept_of attempts.local)) (listed_remote (kept_of attempts.remote))
+kept_ends attempts = in_order (first_of attempts) (listed_local (kept_of attempts.local)) (listed_remote (kept_of attempts.remote))
+
+-- the same, and what became of the passes
+abbrev pub tally_of : Attempts → Tally
+tally_of attempts = record { ends = kept_ends attempts; passes = attempts.passes }
+
+-- no attempt was started
+abbrev pub no_tally : Tally
+no_tally = record { ends = []; passes = unused_passes }
 
 -- ---- what is published
 
@@ -128,7 +121,7 @@ won_by whose.Remote here there = first_won there here
 
 -- the outcome that is published, where there is one
 abbrev pub winner : Plan → Attempts → Option Won
-winner plan attempts = won_by attempts.first (outcome_of attempts.local) (won_remote plan attempts.remote)
+winner plan attempts = won_by (first_of attempts) (outcome_of attempts.local) (won_remote plan attempts.remote)
 
 -- the first outcome among ends that are kept
 abbrev pub first_done : List Ended → Option KeptOutcome
@@ -204,44 +197,35 @@ HasRemote m gathered accepts told before after None = IsIdleThere m.world m.farm
 HasRemote m gathered accepts told before after (Some end) =
     EndsThere m.world m.farm m.tree_remote gathered accepts told before after before after end
 
--- The attempts of a plan without both at once: the remote one where the plan has one, and the local one where it starts after that. Neither
--- was told of a decision.
+-- Of a plan without both at once the remote attempt is made where the plan has one, and the local one where it starts after that. Neither was
+-- told of a decision.
 pub record AreInTurn (plan : Plan) (attempts : Attempts) : Type 0 where
   pub started_here : is_some attempts.local ≡ starts_here plan attempts.remote
   pub started_there : is_some attempts.remote ≡ has_remote plan
   pub told_local_is : attempts.told_local ≡ None
   pub told_remote_is : attempts.told_remote ≡ None
-  pub first_is : attempts.first ≡ whose.Local
 
--- the attempts came so, and neither was told of a decision
-pub record HasTurns {P W B : Type 0} (m : Meanings P W B) (gathered : Gathered) (accepts : Bool) (before after : P)
-    (local : Option (End Outcome Cause)) (remote : Option (End Outcome RemoteCause)) : Type 0 where
-  pub here : HasLocal m gathered None before after local
-  pub there : HasRemote m gathered accepts None before after remote
-  pub started_here : is_some local ≡ starts_here gathered.plan remote
-  pub started_there : is_some remote ≡ has_remote gathered.plan
-
--- The attempts of the plan were made, and these are their ends: both in a race where the plan has both at once, and else in turn.
+-- The attempts of the plan were made in a race of their own, and these are their ends. Where the plan hasn't both at once, they came in turn.
 pub record HasAttempts {P W B : Type 0} (m : Meanings P W B) (gathered : Gathered) (accepts : Bool) (before after : P)
     (attempts : Attempts) : Type 0 where
   pub local : HasLocal m gathered attempts.told_local before after attempts.local
   pub remote : HasRemote m gathered accepts attempts.told_remote before after attempts.remote
+  pub raced : HaveRaced gathered.plan attempts.told_local attempts.local attempts.told_remote attempts.remote attempts.passes
   pub in_turn : has_both gathered.plan ≡ false → AreInTurn gathered.plan attempts
-  pub raced : has_both gathered.plan ≡ true →
-      HaveRaced gathered.plan attempts.told_local attempts.local attempts.told_remote attempts.remote attempts.first
 
 -- the same, and what is kept and published of them
 pub record HasMade {P W B : Type 0} (m : Meanings P W B) (gathered : Gathered) (accepts : Bool) (before after : P) (made : Attempted) : Type 0 where
   pub attempts : Attempts
   pub each : HasAttempts m gathered accepts before after attempts
-  pub ends_are : made.ends ≡ kept_ends attempts
+  pub tally_is : made.tally ≡ tally_of attempts
   pub won_is : made.won ≡ winner gathered.plan attempts
 
 -- of these ends that is kept and published
-pub record IsMadeOf (plan : Plan) (first : Attempt) (local : Option (End Outcome Cause)) (remote : Option (End Outcome RemoteCause))
+pub record IsMadeOf (plan : Plan) (passes : Passes) (local : Option (End Outcome Cause)) (remote : Option (End Outcome RemoteCause))
     (made : Attempted) : Type 0 where
-  pub ends_are : made.ends ≡ in_order first (listed_local (kept_of local)) (listed_remote (kept_of remote))
-  pub won_is : made.won ≡ won_by first (outcome_of local) (won_remote plan remote)
+  pub passes_are : made.tally.passes ≡ passes
+  pub ends_are : made.tally.ends ≡ in_order (first_by passes.remote) (listed_local (kept_of local)) (listed_remote (kept_of remote))
+  pub won_is : made.won ≡ won_by (first_by passes.remote) (outcome_of local) (won_remote plan remote)
 
 -- no count of a part that attempts have fell
 pub record AreLaterThan {P W B : Type 0} (m : Meanings P W B) (before after : P) : Type 0 where

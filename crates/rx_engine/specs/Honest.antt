@@ -20,8 +20,9 @@ use Rattle.rx_world.specs.Trees.{tree_of}
 use Rattle.rx_engine.specs.declared.attempts.Won.{Won}
 use Rattle.rx_engine.specs.declared.transcripts.Transcript.{Transcript}
 use Rattle.rx_engine.specs.Answers.{asked_of, done_reply}
-use Rattle.rx_engine.specs.Attempts.{first_done, has_remote}
+use Rattle.rx_engine.specs.Attempts.{first_done}
 use Rattle.rx_engine.specs.Meanings.{Meanings}
+use Rattle.rx_engine.specs.Plans.{has_remote}
 
 -- The tools are honest, the input tells a valid request, and the source trees for gathering and for local attempts tell this list and keep it.
 pub record IsSteady {P W B : Type 0} (m : Meanings P W B) (root : List ℕ) (before : P) (bytes : List ℕ) (asked : Request)

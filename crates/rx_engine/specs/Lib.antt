@@ -11,6 +11,7 @@ pub mod Journal
 pub mod Kept
 pub mod Meanings
 pub mod Pending
+pub mod Plans
 pub mod Proxy
 pub mod Quiet
 pub mod RacedAttempts

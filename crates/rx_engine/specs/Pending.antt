@@ -1,5 +1,5 @@
 -- A session before anything is published: what was read, and what was made of it.
-use Rattle.std.specs.Prelude.{◌≡◌, ◌⊎◌, ℕ, List, [], Option, None, IfSome}
+use Rattle.std.specs.Prelude.{◌≡◌, ◌⊎◌, ℕ, List, Option, None, IfSome}
 use Rattle.std.specs.Io.KnownBytes.{Consumes}
 use Rattle.rx_board.specs.Board.{State}
 use Rattle.rx_session.specs.declared.bad.SessionFault.{SessionFault}
@@ -21,7 +21,7 @@ use Rattle.rx_engine.specs.declared.pending.Stage.TheVariants as stages
 use Rattle.rx_engine.specs.declared.transcripts.Transcript.{Transcript}
 use Rattle.rx_engine.specs.Answered.{IsPlain, IsUnpublished, bad_request, reply_no_memory}
 use Rattle.rx_engine.specs.Answers.{Grounds, HasOutputsBelow, HasRun, grounds}
-use Rattle.rx_engine.specs.Attempts.{winner}
+use Rattle.rx_engine.specs.Attempts.{no_tally, winner}
 use Rattle.rx_engine.specs.Journal.{JournalsBoard, files_of}
 use Rattle.rx_engine.specs.Meanings.{Meanings}
 use Rattle.rx_engine.specs.Ready.{AnswersAs, IsReadyAs}
@@ -29,14 +29,14 @@ use Rattle.rx_engine.specs.Session.{AreLater, IsAsked, IsSession, IsUntouched}
 
 -- The attempts of a request were made on what was gathered for it, and this is what is to be published of them.
 pub record HasTried {P W B : Type 0} (m : Meanings P W B) (g : Grounds P) (request : Request) (attempted : Attempted) : Type 0 where
-  pub run : HasRun m g request attempted.ends
+  pub run : HasRun m g request attempted.tally
   pub won_is : attempted.won ≡ winner run.gathered.plan run.attempts
 
 -- what was made of a request
 abbrev pub IsStageOf : {P W B : Type 0} → Meanings P W B → Grounds P → Request → Stage → Type 0
 IsStageOf m g request stages.Lost = ⊥
 IsStageOf m g request (stages.ShutDown frame) = ⊥
-IsStageOf m g request (stages.Refused answered) = AnswersAs m g request [] answered × IfSome answered IsUnpublished
+IsStageOf m g request (stages.Refused answered) = AnswersAs m g request no_tally answered × IfSome answered IsUnpublished
 IsStageOf m g request (stages.Attempted attempted) = HasTried m g request attempted
 
 -- Between two states of the parts this was made of a request.
@@ -75,9 +75,9 @@ IsEndOfRun (stages.Attempted attempted) = ⊥
 -- what was made of what was read, by its stage
 abbrev pub IsStage : {P W B : Type 0} → Meanings P W B → List ℕ → Grounds P → List ℕ → Option Request → Stage → Type 0
 IsStage m root g read request stages.Lost =
-    (request ≡ None) × IsUntouched m g [] × Rose (m.input.faults g.before) (m.input.faults g.after)
-IsStage m root g read request (stages.ShutDown frame) = (read ≡ shutdown) × (request ≡ None) × IsUntouched m g [] × (frame.items ≡ shutdown_done)
-IsStage m root g read request (stages.Refused answered) = IsReadyAs m root g read request [] answered × IfSome answered IsUnpublished
+    (request ≡ None) × IsUntouched m g no_tally × Rose (m.input.faults g.before) (m.input.faults g.after)
+IsStage m root g read request (stages.ShutDown frame) = (read ≡ shutdown) × (request ≡ None) × IsUntouched m g no_tally × (frame.items ≡ shutdown_done)
+IsStage m root g read request (stages.Refused answered) = IsReadyAs m root g read request no_tally answered × IfSome answered IsUnpublished
 IsStage m root g read request (stages.Attempted attempted) =
     (asked : Request) × IsAsked m root g read request asked × HasTried m g asked attempted
 
@@ -97,7 +97,7 @@ pub record IsPending {P W B : Type 0} (m : Meanings P W B) (root : List ℕ) (be
 
 -- the outcome that is to be published has the files that are listed first among the ends
 abbrev pub IsFirstWon : Attempted → Type 0
-IsFirstWon attempted = IfSome attempted.won (λ won. files_of attempted.ends ≡ listing won.outcome.files)
+IsFirstWon attempted = IfSome attempted.won (λ won. files_of attempted.tally.ends ≡ listing won.outcome.files)
 
 -- A session that was pending between whatever states before and these parts is whole, and so is its part of the journal.
 pub record IsConcluded {P Q W B : Type 0} (m : Meanings P W B) (p : places.Ghosts Q) (pending : Pending) (old new : P)

@@ -9,12 +9,12 @@ use Rattle.rx_session.specs.declared.requests.Request.{Request}
 use Rattle.rx_session.specs.Frames.{IsRequest, incoming_of, shutdown, shutdown_done}
 use Rattle.rx_session.specs.Replies.{frame_of}
 use Rattle.rx_scan.specs.Lists.{Listing, Tells}
-use Rattle.rx_world.specs.declared.attempts.Ended.{Ended}
 use Rattle.rx_world.specs.declared.looks.Look.{Look}
 use Rattle.rx_world.specs.declared.sources.Given.{Given}
 use Rattle.rx_world.specs.Causes.{Rose}
 use Rattle.rx_engine.specs.declared.transcripts.Ending.{Ending}
 use Rattle.rx_engine.specs.declared.transcripts.Ending.TheVariants.{NoMemory, Replied, ShutDown, SinkLost, SourceLost}
+use Rattle.rx_engine.specs.declared.transcripts.Tally.{Tally}
 use Rattle.rx_engine.specs.declared.transcripts.Transcript.{Transcript}
 use Rattle.rx_engine.specs.Answers.{Answers, Grounds, IsUnrun, MayHaveRun, grounds}
 use Rattle.rx_engine.specs.Attempts.{AreLaterThan}
@@ -27,49 +27,53 @@ pub record IsAsked {P W B : Type 0} (m : Meanings P W B) (root : List ℕ) (g : 
   pub decoded : IsRequest root read asked
   pub ended : IsAtEnd (m.input.left g.after)
 
+-- how the attempts of a session ended, and what became of the passes of their race
+abbrev pub tally_in : Transcript → Tally
+tally_in t = record { ends = t.ends; passes = t.passes }
+
 -- the reply is one to a request
-abbrev pub RepliesTo : {P W B : Type 0} → Meanings P W B → List ℕ → Grounds P → List ℕ → Option Request → Option Receipt → List Ended → Reply → Type 0
-RepliesTo m root g read request receipt ends answer =
-    (asked : Request) × IsAsked m root g read request asked × Answers m g asked receipt ends answer
+abbrev pub RepliesTo : {P W B : Type 0} → Meanings P W B → List ℕ → Grounds P → List ℕ → Option Request → Option Receipt → Tally → Reply → Type 0
+RepliesTo m root g read request receipt tally answer =
+    (asked : Request) × IsAsked m root g read request asked × Answers m g asked receipt tally answer
 
 -- nothing was asked of the source trees, and no attempt was made
-pub record IsUntouched {P W B : Type 0} (m : Meanings P W B) (g : Grounds P) (ends : List Ended) : Type 0 where
+pub record IsUntouched {P W B : Type 0} (m : Meanings P W B) (g : Grounds P) (tally : Tally) : Type 0 where
   pub answers_are : g.answers ≡ []
   pub lists_are : g.lists ≡ []
-  pub unrun : IsUnrun m g ends
+  pub unrun : IsUnrun m g tally
 
 -- where memory ran out, the attempts of a request may have been made, and each that was started has its end
-abbrev pub WasHandled : {P W B : Type 0} → Meanings P W B → Grounds P → Option Request → List Ended → Type 0
-WasHandled m g None ends = IsUnrun m g ends
-WasHandled m g (Some asked) ends = MayHaveRun m g asked ends
+abbrev pub WasHandled : {P W B : Type 0} → Meanings P W B → Grounds P → Option Request → Tally → Type 0
+WasHandled m g None tally = IsUnrun m g tally
+WasHandled m g (Some asked) tally = MayHaveRun m g asked tally
 
 -- Each reply, and what it says of the bytes that were read.
-abbrev pub Replies : {P W B : Type 0} → Meanings P W B → List ℕ → Grounds P → List ℕ → Option Request → Option Receipt → List Ended → Reply → Type 0
-Replies m root g read request receipt ends (reply.BadRequest bad) =
-    (incoming_of root read ≡ Err bad) × (request ≡ None) × IsUntouched m g ends × (receipt ≡ None)
+abbrev pub Replies : {P W B : Type 0} → Meanings P W B → List ℕ → Grounds P → List ℕ → Option Request → Option Receipt → Tally → Reply → Type 0
+Replies m root g read request receipt tally (reply.BadRequest bad) =
+    (incoming_of root read ≡ Err bad) × (request ≡ None) × IsUntouched m g tally × (receipt ≡ None)
     × (bad.reason ≡ CutShort → IsAtEnd (m.input.left g.after))
-Replies m root g read request receipt ends reply.NoMemory =
-    IfSome request (IsRequest root read) × WasHandled m g request ends × (receipt ≡ None)
-Replies m root g read request receipt ends (reply.Done exit stdout stderr from number placed) =
-    RepliesTo m root g read request receipt ends (reply.Done exit stdout stderr from number placed)
-Replies m root g read request receipt ends (reply.PlaceFault number placed) =
-    RepliesTo m root g read request receipt ends (reply.PlaceFault number placed)
-Replies m root g read request receipt ends (reply.NotRemotable why) =
-    RepliesTo m root g read request receipt ends (reply.NotRemotable why)
-Replies m root g read request receipt ends (reply.InputMissing path) =
-    RepliesTo m root g read request receipt ends (reply.InputMissing path)
-Replies m root g read request receipt ends (reply.InputChanged input) =
-    RepliesTo m root g read request receipt ends (reply.InputChanged input)
-Replies m root g read request receipt ends (reply.SourceFault path) =
-    RepliesTo m root g read request receipt ends (reply.SourceFault path)
-Replies m root g read request receipt ends (reply.TooLarge limit n path) =
-    RepliesTo m root g read request receipt ends (reply.TooLarge limit n path)
-Replies m root g read request receipt ends (reply.AllFailed failures) =
-    RepliesTo m root g read request receipt ends (reply.AllFailed failures)
-Replies m root g read request receipt ends reply.JournalFull =
-    RepliesTo m root g read request receipt ends reply.JournalFull
-Replies m root g read request receipt ends (reply.Blocked path) =
-    RepliesTo m root g read request receipt ends (reply.Blocked path)
+Replies m root g read request receipt tally reply.NoMemory =
+    IfSome request (IsRequest root read) × WasHandled m g request tally × (receipt ≡ None)
+Replies m root g read request receipt tally (reply.Done exit stdout stderr from number placed) =
+    RepliesTo m root g read request receipt tally (reply.Done exit stdout stderr from number placed)
+Replies m root g read request receipt tally (reply.PlaceFault number placed) =
+    RepliesTo m root g read request receipt tally (reply.PlaceFault number placed)
+Replies m root g read request receipt tally (reply.NotRemotable why) =
+    RepliesTo m root g read request receipt tally (reply.NotRemotable why)
+Replies m root g read request receipt tally (reply.InputMissing path) =
+    RepliesTo m root g read request receipt tally (reply.InputMissing path)
+Replies m root g read request receipt tally (reply.InputChanged input) =
+    RepliesTo m root g read request receipt tally (reply.InputChanged input)
+Replies m root g read request receipt tally (reply.SourceFault path) =
+    RepliesTo m root g read request receipt tally (reply.SourceFault path)
+Replies m root g read request receipt tally (reply.TooLarge limit n path) =
+    RepliesTo m root g read request receipt tally (reply.TooLarge limit n path)
+Replies m root g read request receipt tally (reply.AllFailed failures) =
+    RepliesTo m root g read request receipt tally (reply.AllFailed failures)
+Replies m root g read request receipt tally reply.JournalFull =
+    RepliesTo m root g read request receipt tally reply.JournalFull
+Replies m root g read request receipt tally (reply.Blocked path) =
+    RepliesTo m root g read request receipt tally (reply.Blocked path)
 
 -- The bytes are a Shutdown, and nothing was done but to answer it.
 pub record WasAskedToEnd {P W B : Type 0} (m : Meanings P W B) (g : Grounds P) (t : Transcript) : Type 0 where
@@ -77,13 +81,13 @@ pub record WasAskedToEnd {P W B : Type 0} (m : Meanings P W B) (g : Grounds P) (
   pub request_is : t.request ≡ None
   pub reply_is : t.reply ≡ None
   pub receipt_is : t.receipt ≡ None
-  pub untouched : IsUntouched m g t.ends
+  pub untouched : IsUntouched m g (tally_in t)
 
 -- a front of the reply was written
 abbrev pub IsReplyCut : {P W B : Type 0} → Meanings P W B → List ℕ → Grounds P → Transcript → Type 0
 IsReplyCut m root g t =
     (answer : Reply) × (t.reply ≡ Some answer) × (count : ℕ) × (t.written ≡ take count (frame_of answer))
-    × Replies m root g t.read t.request t.receipt t.ends answer
+    × Replies m root g t.read t.request t.receipt (tally_in t) answer
 
 -- a front of the answer to a Shutdown was written
 abbrev pub IsEndCut : {P W B : Type 0} → Meanings P W B → Grounds P → Transcript → Type 0
@@ -92,14 +96,14 @@ IsEndCut m g t = (count : ℕ) × (t.written ≡ take count shutdown_done) × Wa
 -- what was answered, by how the session ended
 abbrev pub IsCourse : {P W B : Type 0} → Meanings P W B → List ℕ → Grounds P → Transcript → Ending → Type 0
 IsCourse m root g t Replied =
-    (answer : Reply) × (t.reply ≡ Some answer) × (t.written ≡ frame_of answer) × Replies m root g t.read t.request t.receipt t.ends answer
+    (answer : Reply) × (t.reply ≡ Some answer) × (t.written ≡ frame_of answer) × Replies m root g t.read t.request t.receipt (tally_in t) answer
 IsCourse m root g t ShutDown = WasAskedToEnd m g t × (t.written ≡ shutdown_done)
 IsCourse m root g t SinkLost = IsReplyCut m root g t ⊎ IsEndCut m g t
 IsCourse m root g t SourceLost =
-    (t.reply ≡ None) × (t.request ≡ None) × (t.written ≡ []) × (t.receipt ≡ None) × IsUntouched m g t.ends
+    (t.reply ≡ None) × (t.request ≡ None) × (t.written ≡ []) × (t.receipt ≡ None) × IsUntouched m g (tally_in t)
 IsCourse m root g t NoMemory =
     (t.reply ≡ None) × (t.written ≡ []) × (t.receipt ≡ None)
-    × IfSome t.request (IsRequest root t.read) × WasHandled m g t.request t.ends
+    × IfSome t.request (IsRequest root t.read) × WasHandled m g t.request (tally_in t)
 
 -- the counts of no part fell
 pub record AreLater {P W B : Type 0} (m : Meanings P W B) (before after : P) : Type 0 where

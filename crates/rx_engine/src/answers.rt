@@ -84,6 +84,7 @@ fn prepare<W: World, D: Desk<W>>(
         request.now parts.old parts.new p.gathered) }
     ensures fits { IfOk result (λ p. FitsFarm p.gathered) }
     ensures accepts { IfOk result (λ p. p.accept_cached ≡ request.now.accept_cached) }
+    ensures plan { IfOk result (λ p. p.room.race.plan ≡ p.gathered.plan) }
     ensures err { IfErr result (HasNotGathered
         (meanings W.World D.I.Source D.O.Sink D.T.Sources D.L.Sources D.B.BenchMaker D.B.B.Bench
         D.R.Sources D.C.Caller)
@@ -95,7 +96,6 @@ fn prepare<W: World, D: Desk<W>>(
     ensures tree_remote { parts.new.tree_remote ≡ parts.old.tree_remote }
     ensures farm { parts.new.farm ≡ parts.old.farm }
 {
-    let room = Room::new(alloc)?;
     let command = command_for(alloc, request)?;
     let inputs = declared_inputs(alloc, request)?;
     let gathered = gather::<W, D::T>(
@@ -108,6 +108,7 @@ fn prepare<W: World, D: Desk<W>>(
         &mut parts.tree,
         cache,
     )?;
+    let room = Room::new(alloc, gathered.plan)?;
     Ok(Prepared {
         gathered,
         accept_cached: request.accept_cached,
@@ -123,7 +124,8 @@ fn run<W: World + Send, D: Desk<W>, N: Places + Send + Sync, R: Threads + Wait +
     parts: Parts<D::I, D::O, D::T, D::L, D::B, D::R, D::C>,
     means: &Means<'_, W, D::H, N>,
 ) -> (Attempted, Parts<D::I, D::O, D::T, D::L, D::B, D::R, D::C>)
-    requires { FitsFarm prepared.gathered }
+    requires fits { FitsFarm prepared.gathered }
+    requires plan { prepared.room.race.plan ≡ prepared.gathered.plan }
     ensures made { HasMade
         (meanings W.World D.I.Source D.O.Sink D.T.Sources D.L.Sources D.B.BenchMaker D.B.B.Bench
         D.R.Sources D.C.Caller)

@@ -1,15 +1,14 @@
 //! The attempts of a session: a plan in, the ends of its attempts and the outcome to publish out.
 //! Nothing here publishes or replies.
 
-ghost use Rattle.std.specs.Prelude.{◌≡◌, ◌≤◌, [], vec_capacity};
-ghost use Rattle.rx_engine.specs.Attempts.{HasMade, has_both};
+ghost use Rattle.std.specs.Prelude.{◌≡◌, ◌≤◌, [], IfOk, vec_capacity};
+ghost use Rattle.rx_engine.specs.Attempts.{HasMade};
 ghost use Rattle.rx_engine.specs.Meanings.{meanings};
 ghost use Rattle.rx_engine.specs.RemoteAttempts.{FitsFarm};
-ghost use Rattle.rx_world.specs.declared.attempts.Plan.TheVariants.{Both as both_at_once};
 
 use crate::desk::{Desk, Parts};
-use crate::racing::{Raced, race_both};
-use crate::turns::{Turns, take_turns};
+use crate::racing::{Raced, race};
+use crate::transcripts::Tally;
 use crate::winners::kept_and_won;
 use rx_base::{Items, NoMemory};
 use rx_blobs::Presence;
@@ -17,7 +16,7 @@ use rx_digest_cache::DigestCache;
 use rx_local::{Places, Slots};
 use rx_race::{Blanks, Race};
 use rx_scan::Gathered;
-use rx_world::{Attempt, Ended, Origin, Outcome, Plan, World};
+use rx_world::{Ended, Origin, Outcome, Plan, World};
 use std::alloc::Global;
 use std::marker::Brand;
 use std::sync::Wait;
@@ -61,11 +60,11 @@ pub(crate) struct Job<'a, H, N: Places> {
 pub(crate) struct Room {
     /// Room for the ends of all attempts.
     pub ends: Vec<Ended>,
-    /// The race of both at once.
+    /// Their race.
     pub race: Race,
     ghost empty: { ends.items ≡ [] },
     ghost enough: { 2 ≤ vec_capacity ends },
-    ghost fresh: { race ≡ record { plan = both_at_once; events = [] } },
+    ghost fresh: { race.events ≡ [] },
 }
 
 /// An outcome that is to be published, and where it comes from.
@@ -78,24 +77,24 @@ pub(crate) struct Won {
 /// How the attempts of a plan ended.
 #[derive(Debug, Drop)]
 pub(crate) struct Attempted {
-    /// The end of each attempt that was started, as a transcript keeps it: local before remote, but
-    /// that of an attempt which won its race first.
-    pub ends: Items<Ended>,
+    pub tally: Tally,
     /// What is published of them.
     pub won: Option<Won>,
 }
 
 impl Room {
-    pub(crate) fn new(alloc: Global) -> Result<Room, NoMemory> {
+    /// That of the attempts of a plan.
+    pub(crate) fn new(alloc: Global, plan: Plan) -> Result<Room, NoMemory>
+        ensures { IfOk result (λ room. room.race.plan ≡ plan) }
+    {
         Ok(Room {
             ends: Vec::with_capacity(alloc, MOST_ATTEMPTS)?,
-            race: Race::new(alloc, Plan::Both)?,
+            race: Race::new(alloc, plan)?,
         })
     }
 }
 
-/// Makes the attempts of the plan on what was gathered: both at once in a race of their own, where the
-/// plan has them so, and else in turn.
+/// Makes the attempts of the plan on what was gathered, in a race of their own.
 pub(crate) fn make_attempts<
     W: World + Send,
     D: Desk<W>,
@@ -107,7 +106,8 @@ pub(crate) fn make_attempts<
     room: Room,
     parts: Parts<D::I, D::O, D::T, D::L, D::B, D::R, D::C>,
 ) -> (Attempted, Parts<D::I, D::O, D::T, D::L, D::B, D::R, D::C>)
-    requires { FitsFarm job.now.gathered.now }
+    requires fits { FitsFarm job.now.gathered.now }
+    requires plan { room.race.plan ≡ job.now.gathered.now.plan }
     ensures made { HasMade
         (meanings W.World D.I.Source D.O.Sink D.T.Sources D.L.Sources D.B.BenchMaker D.B.B.Bench
         D.R.Sources D.C.Caller)
@@ -117,20 +117,12 @@ pub(crate) fn make_attempts<
     ensures tree { result.1.tree ≡ parts.tree }
 {
     let plan = job.gathered.plan;
-    let Room { ends, race } = room;
-    if has_both(plan) {
-        let (raced, parts) = race_both::<W, Brand, D, N, R>(rt, job, race, Blanks::new(), parts);
-        let Raced { here, there, first } = raced;
-        return (kept_and_won(plan, ends, first, here, there), parts);
-    }
-    let mut parts = parts;
-    let Turns { here, there } = take_turns::<W, D, N>(rt, job, &mut parts);
-    (kept_and_won(plan, ends, Attempt::Local, here, there), parts)
-}
-
-/// Whether a plan has both attempts at once.
-fn has_both(plan: Plan) -> bool
-    ensures { result ≡ has_both plan }
-{
-    matches!(plan, Plan::Both)
+    let Room { ends, race: own } = room;
+    let (raced, parts) = race::<W, Brand, D, N, R>(rt, job, own, Blanks::new(), parts);
+    let Raced {
+        here,
+        there,
+        passes,
+    } = raced;
+    (kept_and_won(plan, ends, passes, here, there), parts)
 }

@@ -15,18 +15,18 @@ use crate::attempts::Attempted;
 use crate::desk::{Desk, Parts};
 use crate::pending::{Pending, Stage};
 use crate::publishing::publish;
-use crate::transcripts::{Ending, Transcript};
+use crate::transcripts::{Ending, Passes, Tally, Transcript};
 use rx_base::{Bytes, Items};
 use rx_board::Board;
 use rx_session::{Request, write_frame};
-use rx_world::{Ended, Place, Sink, World};
+use rx_world::{Place, Sink, World};
 use std::alloc::Global;
 
 /// What was done of a request: how its attempts ended, and the answer. Without an answer, memory ran
 /// out even for the one which says so.
 #[derive(Drop)]
 pub(crate) struct Handled {
-    pub ends: Items<Ended>,
+    pub tally: Tally,
     pub answered: Option<Answered>,
 }
 
@@ -63,7 +63,7 @@ pub(crate) fn conclude<W: World, D: Desk<W>, P: Place>(
             return end_run(alloc, number, read, frame, &mut parts.output);
         }
         Stage::Refused { answered } => Handled {
-            ends: Items::new(alloc),
+            tally: Tally::none(alloc),
             answered,
         },
         Stage::Attempted { attempted } => settle(alloc, number, attempted, board),
@@ -79,20 +79,20 @@ fn settle<P: Place>(
     attempted: Attempted,
     board: &mut Board<P>,
 ) -> Handled
-    ensures ends { result.ends ≡ attempted.ends }
-    ensures answered { IfSome result.answered (AnswersMade attempted.won attempted.ends) }
+    ensures tally { result.tally ≡ attempted.tally }
+    ensures answered { IfSome result.answered (AnswersMade attempted.won attempted.tally.ends) }
     ensures journal { IsFirstWon attempted →
         EntersHandled P.Place board.old board.new session result }
     ensures board { IsBoardAfter P.Place board.old board.new }
 {
-    let Attempted { ends, won } = attempted;
+    let Attempted { tally, won } = attempted;
     let answered = match won {
         Some(won) => publish(alloc, session, won, board),
-        None => fail(alloc, ends.as_slice()),
+        None => fail(alloc, tally.ends.as_slice()),
     };
     Handled {
         answered: or_give_up(alloc, answered),
-        ends,
+        tally,
     }
 }
 
@@ -111,7 +111,8 @@ fn finish<O: Sink>(
         Rose (O.faults output.old) (O.faults output.new) }
 {
     let Ready { request, handled } = ready;
-    let Handled { ends, answered } = handled;
+    let Handled { tally, answered } = handled;
+    let Tally { ends, passes } = tally;
     match answered {
         None => Transcript {
             number,
@@ -122,6 +123,7 @@ fn finish<O: Sink>(
             reply: None,
             receipt: None,
             ends,
+            passes,
         },
         Some(answered) => {
             let Answered {
@@ -144,6 +146,7 @@ fn finish<O: Sink>(
                 reply: Some(reply),
                 receipt,
                 ends,
+                passes,
             }
         }
     }
@@ -178,6 +181,7 @@ fn end_run<O: Sink>(
         reply: None,
         receipt: None,
         ends: Items::new(alloc),
+        passes: Passes::unused(),
     }
 }
 
@@ -194,5 +198,6 @@ fn lost(alloc: Global, number: u32, read: Bytes) -> Transcript
         reply: None,
         receipt: None,
         ends: Items::new(alloc),
+        passes: Passes::unused(),
     }
 }

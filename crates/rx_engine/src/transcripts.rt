@@ -1,12 +1,16 @@
 //! What is kept of a session.
 
 ghost use Rattle.std.specs.Prelude.{◌≡◌};
+ghost use Rattle.rx_engine.specs.Attempts.{no_tally};
 ghost use Rattle.rx_engine.specs.Proxy.{asks_to_end};
+ghost use Rattle.rx_engine.specs.Racing.{unused_passes};
 
 use rx_base::{Bytes, Items};
 use rx_board::Receipt;
+use rx_race::Slip;
 use rx_session::{Reply, Request, SHUTDOWN};
 use rx_world::Ended;
+use std::alloc::Global;
 
 /// How a session ended.
 #[derive(Clone, Copy, Debug, PartialEq, Eq)]
@@ -43,6 +47,52 @@ pub struct Transcript {
     pub receipt: Option<Receipt>,
     /// How each attempt that was started ended: local before remote, but an end that won a race first.
     pub ends: Items<Ended>,
+    /// What became of the passes of the attempts' race.
+    pub passes: Passes,
+}
+
+/// What became of the passes of a session's race. A session that makes no attempt has no race, and uses
+/// none of them.
+#[derive(Clone, Copy, Debug, PartialEq, Eq)]
+pub struct Passes {
+    /// That of the local attempt.
+    pub local: Slip,
+    /// That of the remote attempt.
+    pub remote: Slip,
+    /// The right to cancel.
+    pub cancel: Slip,
+}
+
+impl Passes {
+    /// Those of a race that was never begun.
+    pub(crate) fn unused() -> Passes
+        ensures { result ≡ unused_passes }
+    {
+        Passes {
+            local: Slip::Unused,
+            remote: Slip::Unused,
+            cancel: Slip::Unused,
+        }
+    }
+}
+
+/// How the attempts of a session ended, as its transcript keeps it.
+#[derive(Debug, Drop)]
+pub(crate) struct Tally {
+    pub ends: Items<Ended>,
+    pub passes: Passes,
+}
+
+impl Tally {
+    /// That of a session which made no attempt.
+    pub(crate) fn none(alloc: Global) -> Tally
+        ensures { result ≡ no_tally }
+    {
+        Tally {
+            ends: Items::new(alloc),
+            passes: Passes::unused(),
+        }
+    }
 }
 
 /// Whether the bytes that a session read ask for the end of the run.

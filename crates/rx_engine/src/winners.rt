@@ -2,16 +2,19 @@
 
 ghost use Rattle.std.specs.Prelude.{◌≡◌, ◌≤◌, ◌++◌, [], is_some, vec_capacity};
 ghost use Rattle.rx_engine.specs.Attempts.{IsMadeOf, first_won, in_order, listed, listed_local, listed_remote, won_by, won_remote, whole};
+ghost use Rattle.rx_engine.specs.Racing.{first_by};
 
 use crate::attempts::{Attempted, MOST_ATTEMPTS, Won};
 use crate::ends::let_go;
 use crate::held::Held;
+use crate::transcripts::{Passes, Tally};
 use rx_base::Items;
+use rx_race::{Slip, Verdict};
 use rx_world::{Attempt, Cause, End, Ended, KeptOutcome, Plan, RemoteCause};
 
 /// Whether a remote end may be published: an outcome of code 0 may, and of any code where the plan has
 /// no local attempt.
-pub(crate) fn may_publish(plan: Plan, there: &Option<End<Held, RemoteCause>>) -> bool
+fn may_publish(plan: Plan, there: &Option<End<Held, RemoteCause>>) -> bool
     ensures { result ≡ is_some (won_remote plan (whole there.now)) }
 {
     match there {
@@ -28,25 +31,39 @@ pub(crate) fn may_publish(plan: Plan, there: &Option<End<Held, RemoteCause>>) ->
     }
 }
 
-/// What is kept and published of these ends, where the first attempt's comes before the other's.
+/// What is kept and published of these ends, by what became of the passes of their race.
 pub(crate) fn kept_and_won(
     plan: Plan,
     room: Vec<Ended>,
-    first: Attempt,
+    passes: Passes,
     here: Option<End<Held, Cause>>,
     there: Option<End<Held, RemoteCause>>,
 ) -> Attempted
     requires empty { room.items ≡ [] }
     requires room { MOST_ATTEMPTS ≤ vec_capacity room }
-    ensures { IsMadeOf plan first (whole here) (whole there) result }
+    ensures { IsMadeOf plan passes (whole here) (whole there) result }
 {
+    let first = first_by(passes.remote);
     let may = may_publish(plan, &there);
     let (end_here, won_here) = let_go(here);
     let (end_there, outcome_there) = let_go(there);
     let won_there = if may { outcome_there } else { None };
     Attempted {
-        ends: ends_of(room, first, end_here, end_there),
+        tally: Tally {
+            ends: ends_of(room, first, end_here, end_there),
+            passes,
+        },
         won: won_by(first, won_here, won_there),
+    }
+}
+
+/// The attempt that is published before the other, by what became of the remote one's pass.
+fn first_by(remote: Slip) -> Attempt
+    ensures { result ≡ first_by remote }
+{
+    match remote {
+        Slip::Told(Verdict::Won) => Attempt::Remote,
+        _ => Attempt::Local,
     }
 }
 

@@ -12,7 +12,7 @@ use Rattle.rx_world.specs.declared.outcomes.Outcome.{Outcome}
 use Rattle.rx_world.specs.Toy.{toy_tool}
 use Rattle.rx_world.specs.Causes.{Rose}
 use Rattle.rx_engine.specs.Answers.{asked_of}
-use Rattle.rx_engine.specs.Attempts.{has_remote}
+use Rattle.rx_engine.specs.Plans.{has_remote}
 use Rattle.rx_engine.specs.Honest.{IsCleanFrom, IsHonest, IsSteady, IsTrustedFor, listed_tree}
 use Rattle.rx_engine.specs.Meanings.{Meanings}
 use Rattle.rx_engine.specs.Quiet.{AreApart, CanGather, IsQuiet, KeepsLimitsFrom, MakesFrom}

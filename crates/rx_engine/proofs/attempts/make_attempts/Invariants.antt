@@ -1,8 +1,7 @@
-use Rattle.rx_world.specs.declared.attempts.Plan.TheVariants.{Both}
 use Rattle.rx_engine.proofs.attempts.make_attempts.Given as goal
 
-abbrev pub ghosts-race_both-K-Seats : goal.ghosts-race_both-K-Seats
-ghosts-race_both-K-Seats g a = record { local = a.blanks.local.name; remote = a.blanks.remote.name; cancel = a.blanks.cancel.name }
+abbrev pub ghosts-race-K-Seats : goal.ghosts-race-K-Seats
+ghosts-race-K-Seats g a = record { local = a.blanks.local.name; remote = a.blanks.remote.name; cancel = a.blanks.cancel.name }
 
-abbrev pub ghosts-race_both-K-Contest : goal.ghosts-race_both-K-Contest
-ghosts-race_both-K-Contest g a = record { plan = Both }
+abbrev pub ghosts-race-K-Contest : goal.ghosts-race-K-Contest
+ghosts-race-K-Contest g a = record { plan = a.race.plan }

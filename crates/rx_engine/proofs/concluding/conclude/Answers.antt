@@ -16,10 +16,10 @@ pub returns-clause-concluded : goal.returns-clause-concluded
 returns-clause-concluded g c =
     elim c.match-stage.branch [
       | in-Refused w ↦ rw w.board-is (concluded-refused _ _ _ _ _ _ _ _ _ g.P.Place c.args.parts.now c.args.number c.args.pending c.finish.result
-          c.finish.new.output c.args.board.now _ w.in-Refused.answered w.in-Refused.is w.new.ensures
+          c.finish.new.output c.args.board.now _ w.in-Refused.answered w.in-Refused.is w.none.ensures
           (rw w.handled-is at c.finish.ensures.finished) c.finish.ensures.written c.finish.ensures.sink c.finish.ensures.later)
       | in-Attempted w ↦ rw w.board-is (concluded-attempted _ _ _ _ _ _ _ _ _ g.P.Place c.args.parts.now c.args.number c.args.pending c.finish.result
           c.finish.new.output c.args.board.now w.settle-handled.new.board w.in-Attempted.attempted w.settle-handled.result.answered w.in-Attempted.is
-          w.settle-handled.ensures.answered (rw w.settle-handled.ensures.ends at w.settle-handled.ensures.journal)
-          (rw (w.handled-is, w.settle-handled.ensures.ends) at c.finish.ensures.finished) c.finish.ensures.written c.finish.ensures.sink c.finish.ensures.later)
+          w.settle-handled.ensures.answered (rw w.settle-handled.ensures.tally at w.settle-handled.ensures.journal)
+          (rw (w.handled-is, w.settle-handled.ensures.tally) at c.finish.ensures.finished) c.finish.ensures.written c.finish.ensures.sink c.finish.ensures.later)
     ]

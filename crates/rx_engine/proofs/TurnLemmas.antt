@@ -1,0 +1,186 @@
+-- A race of a plan that hasn't both attempts at once: they came in turn, and nothing stopped them.
+use Rattle.std.proofs.Common.{◌≡◌, ◌∙◌, ◌⊎◌, ◌||◌, Bool, true, false, ap, inl, inr, refl, subst, sym}
+use Rattle.std.specs.Prelude.{IfSome, None, Option, Some, if◌then◌else◌, is_some}
+use Rattle.rx_race.specs.declared.events.Verdict.{Verdict}
+use Rattle.rx_race.specs.declared.events.Verdict.TheVariants.{Late, Noted, Won}
+use Rattle.rx_race.specs.declared.slips.Seat.TheVariants.{Canceller, Of}
+use Rattle.rx_race.specs.declared.slips.Slip.{Slip}
+use Rattle.rx_race.specs.declared.slips.Slip.TheVariants.{Refused, Told, Unused}
+use Rattle.rx_race.specs.Locked.{IsLook, SomeoneWon, slips_of}
+use Rattle.rx_race.specs.Publishing.{is_remote_only, is_zero, may_publish}
+use Rattle.rx_world.specs.declared.attempts.Attempt.{Attempt}
+use Rattle.rx_world.specs.declared.attempts.Attempt.TheVariants.{Local, Remote}
+use Rattle.rx_world.specs.declared.attempts.Cause.{Cause}
+use Rattle.rx_world.specs.declared.attempts.End.{End}
+use Rattle.rx_world.specs.declared.attempts.End.TheVariants as ends
+use Rattle.rx_world.specs.declared.attempts.Plan.{Plan}
+use Rattle.rx_world.specs.declared.attempts.Plan.TheVariants.{Both, Fallback, LocalOnly, RemoteOnly}
+use Rattle.rx_world.specs.declared.decisions.Decision.{Decision}
+use Rattle.rx_world.specs.declared.outcomes.Outcome.{Outcome}
+use Rattle.rx_world.specs.declared.remote_causes.RemoteCause.{RemoteCause}
+use Rattle.rx_engine.specs.declared.attempts.Won.{Won as Winner}
+use Rattle.rx_engine.specs.declared.transcripts.Passes.{Passes}
+use Rattle.rx_engine.specs.Attempts.{AreInTurn, Attempts, won_remote}
+use Rattle.rx_engine.specs.Plans.{has_both, is_noted}
+use Rattle.rx_engine.specs.Racing.{FitsEnd, HaveRaced, IsVerdictOn}
+use Rattle.rx_engine.proofs.Cases.{false-true}
+use Rattle.rx_engine.proofs.RaceLemmas.{refused-told, unused-told, was-told}
+
+late-told : Told Late ≡ Told Won → ⊥
+late-told h = cc
+
+noted-told : Told Noted ≡ Told Won → ⊥
+noted-told h = cc
+
+-- ---- one attempt
+
+-- it wasn't to start, and didn't
+record IsLeftOut {C : Type 0} (told : Option Decision) (ended : Option (End Outcome C)) (slip : Slip) : Type 0 where
+  end_is : ended ≡ None
+  slip_is : slip ≡ Unused
+  told_is : told ≡ None
+
+left-out : {C : Type 0} (plan : Plan) (x : Attempt) (told : Option Decision) (ended : Option (End Outcome C)) (slip : Slip) → FitsEnd plan x false told ended slip → IsLeftOut told ended slip
+left-out plan x told None slip fits = record { end_is = refl; slip_is = fits.0; told_is = fits.1 }
+left-out plan x told (Some end) slip fits = absurd (false-true (was-told plan x false told end slip fits).due_is)
+
+-- it ended without having been told of a decision
+record HasEnded {C : Type 0} (plan : Plan) (x : Attempt) (told : Option Decision) (ended : Option (End Outcome C)) (slip : Slip) : Type 0 where
+  end : End Outcome C
+  verdict : Verdict
+  end_is : ended ≡ Some end
+  slip_is : slip ≡ Told verdict
+  on : IsVerdictOn plan x told end verdict
+  told_is : told ≡ None
+
+untold : (told : Option Decision) (verdict : Verdict) → (verdict ≡ Late → ⊥) → IfSome told (λ decision. verdict ≡ Late) → told ≡ None
+untold None verdict n late = refl
+untold (Some decision) verdict n late = absurd (n late)
+
+has-ended : {C : Type 0} (plan : Plan) (x : Attempt) (told : Option Decision) (ended : Option (End Outcome C)) (slip : Slip) → FitsEnd plan x true told ended slip
+    → (slip ≡ Refused → ⊥) → (slip ≡ Told Late → ⊥) → HasEnded plan x told ended slip
+has-ended plan x told None slip fits look late = absurd (look fits.0)
+has-ended plan x told (Some end) slip fits look late =
+    let was = was-told plan x true told end slip fits in
+    record {
+      end = end;
+      verdict = was.verdict;
+      end_is = refl;
+      slip_is = was.slip_is;
+      on = was.on;
+      told_is = untold told was.verdict (λ e. late (was.slip_is ∙ ap Told e)) was.on.late;
+    }
+
+-- a remote end is published exactly where it may be
+is-some-if : (test : Bool) (won : Winner) → is_some (if test then Some won else None) ≡ test
+is-some-if true won = refl
+is-some-if false won = refl
+
+won-may : (plan : Plan) (end : End Outcome RemoteCause) → is_some (won_remote plan (Some end)) ≡ may_publish plan Remote end
+won-may plan (ends.Failed cause) = refl
+won-may plan (ends.Done outcome origin) = is-some-if (is_zero outcome.exit.code || is_remote_only plan) (record { outcome = outcome; origin = origin })
+
+-- ---- the race of a plan
+
+module _ (plan : Plan) (local : Option (End Outcome Cause)) (remote : Option (End Outcome RemoteCause)) (told_local told_remote : Option Decision) (passes : Passes)
+    (r : HaveRaced plan told_local local told_remote remote passes) where
+  -- an attempt won, since nobody cancelled
+  who-won : SomeoneWon (slips_of passes.local passes.remote passes.cancel) → (passes.local ≡ Told Won) ⊎ (passes.remote ≡ Told Won)
+  who-won (Of Local, won) = inl won
+  who-won (Of Remote, won) = inr won
+  who-won (Canceller, won) = absurd (unused-told Won (sym r.uncancelled ∙ won))
+
+  -- the local attempt was neither refused nor late where the remote one didn't win
+  here-look : (passes.remote ≡ Told Won → ⊥) → passes.local ≡ Refused → ⊥
+  here-look n e = elim (who-won (r.told.look Local (subst IsLook (sym e) tt))) [ inl won ↦ refused-told Won (sym e ∙ won) | inr won ↦ n won ]
+
+  here-late : (passes.remote ≡ Told Won → ⊥) → passes.local ≡ Told Late → ⊥
+  here-late n e = elim (who-won (r.told.late Local e)) [ inl won ↦ late-told (sym e ∙ won) | inr won ↦ n won ]
+
+  -- and so the remote one where the local one didn't
+  there-look : (passes.local ≡ Told Won → ⊥) → passes.remote ≡ Refused → ⊥
+  there-look n e = elim (who-won (r.told.look Remote (subst IsLook (sym e) tt))) [ inl won ↦ n won | inr won ↦ refused-told Won (sym e ∙ won) ]
+
+  there-late : (passes.local ≡ Told Won → ⊥) → passes.remote ≡ Told Late → ⊥
+  there-late n e = elim (who-won (r.told.late Remote e)) [ inl won ↦ n won | inr won ↦ late-told (sym e ∙ won) ]
+
+-- the attempts of a race
+abbrev attempts_of : Option (End Outcome Cause) → Option (End Outcome RemoteCause) → Option Decision → Option Decision → Passes → Attempts
+attempts_of local remote told_local told_remote passes = record { local = local; remote = remote; told_local = told_local; told_remote = told_remote; passes = passes }
+
+module _ (local : Option (End Outcome Cause)) (remote : Option (End Outcome RemoteCause)) (told_local told_remote : Option Decision) (passes : Passes) where
+  local-alone : HaveRaced LocalOnly told_local local told_remote remote passes → AreInTurn LocalOnly (attempts_of local remote told_local told_remote passes)
+  local-alone r =
+      let far = left-out LocalOnly Remote told_remote remote passes.remote r.fits_remote in
+      let lost : passes.remote ≡ Told Won → ⊥ = λ won. unused-told Won (sym far.slip_is ∙ won) in
+      let near = has-ended LocalOnly Local told_local local passes.local r.fits_local
+      (here-look LocalOnly local remote told_local told_remote passes r lost) (here-late LocalOnly local remote told_local told_remote passes r lost) in
+      record {
+        started_here = rw (near.end_is, far.end_is) refl;
+        started_there = rw far.end_is refl;
+        told_local_is = near.told_is;
+        told_remote_is = far.told_is;
+      }
+
+  remote-alone : HaveRaced RemoteOnly told_local local told_remote remote passes → AreInTurn RemoteOnly (attempts_of local remote told_local told_remote passes)
+  remote-alone r =
+      let near = left-out RemoteOnly Local told_local local passes.local r.fits_local in
+      let lost : passes.local ≡ Told Won → ⊥ = λ won. unused-told Won (sym near.slip_is ∙ won) in
+      let far = has-ended RemoteOnly Remote told_remote remote passes.remote r.fits_remote
+      (there-look RemoteOnly local remote told_local told_remote passes r lost) (there-late RemoteOnly local remote told_local told_remote passes r lost) in
+      record {
+        started_here = rw near.end_is refl;
+        started_there = rw far.end_is refl;
+        told_local_is = near.told_is;
+        told_remote_is = far.told_is;
+      }
+
+  module _ (r : HaveRaced Fallback told_local local told_remote remote passes) where
+    -- by what became of the remote pass, whether the local attempt is to start
+    by-remote : (slip : Slip) → passes.remote ≡ slip → FitsEnd Fallback Local (is_noted slip) told_local local passes.local
+    by-remote slip e = subst (λ x. FitsEnd Fallback Local (is_noted x) told_local local passes.local) e r.fits_local
+
+    -- it isn't where that was refused or late, so neither comes to be
+    not-refused : passes.remote ≡ Refused → ⊥
+    not-refused e =
+        let near = left-out Fallback Local told_local local passes.local (by-remote Refused e) in
+        there-look Fallback local remote told_local told_remote passes r (λ won. unused-told Won (sym near.slip_is ∙ won)) e
+
+    not-late : passes.remote ≡ Told Late → ⊥
+    not-late e =
+        let near = left-out Fallback Local told_local local passes.local (by-remote (Told Late) e) in
+        there-late Fallback local remote told_local told_remote passes r (λ won. unused-told Won (sym near.slip_is ∙ won)) e
+
+    after-remote : (end : End Outcome RemoteCause) (verdict : Verdict) → remote ≡ Some end → passes.remote ≡ Told verdict → IsVerdictOn Fallback Remote told_remote end verdict
+        → told_remote ≡ None → AreInTurn Fallback (attempts_of local remote told_local told_remote passes)
+    after-remote end Won is e on none =
+        let near = left-out Fallback Local told_local local passes.local (by-remote (Told Won) e) in
+        record {
+          started_here = rw (near.end_is, is, won-may Fallback end, on.won refl) refl;
+          started_there = rw is refl;
+          told_local_is = near.told_is;
+          told_remote_is = none;
+        }
+    after-remote end Noted is e on none =
+        let lost : passes.remote ≡ Told Won → ⊥ = λ won. noted-told (sym e ∙ won) in
+        let near = has-ended Fallback Local told_local local passes.local (by-remote (Told Noted) e)
+        (here-look Fallback local remote told_local told_remote passes r lost) (here-late Fallback local remote told_local told_remote passes r lost) in
+        record {
+          started_here = rw (near.end_is, is, won-may Fallback end, on.noted refl) refl;
+          started_there = rw is refl;
+          told_local_is = near.told_is;
+          told_remote_is = none;
+        }
+    after-remote end Late is e on none = absurd (not-late e)
+
+    fallen-back : AreInTurn Fallback (attempts_of local remote told_local told_remote passes)
+    fallen-back =
+        let far = has-ended Fallback Remote told_remote remote passes.remote r.fits_remote not-refused not-late in
+        after-remote far.end far.verdict far.end_is far.slip_is far.on far.told_is
+
+pub in-turn : (plan : Plan) (local : Option (End Outcome Cause)) (remote : Option (End Outcome RemoteCause)) (told_local told_remote : Option Decision) (passes : Passes)
+    → HaveRaced plan told_local local told_remote remote passes → has_both plan ≡ false → AreInTurn plan (attempts_of local remote told_local told_remote passes)
+in-turn LocalOnly local remote told_local told_remote passes r f = local-alone local remote told_local told_remote passes r
+in-turn RemoteOnly local remote told_local told_remote passes r f = remote-alone local remote told_local told_remote passes r
+in-turn Fallback local remote told_local told_remote passes r f = fallen-back local remote told_local told_remote passes r
+in-turn Both local remote told_local told_remote passes r f = absurd (false-true (sym f))
