@@ -1,6 +1,6 @@
 //! What rows ask of a run that ended, by their first words.
 
-use crate::ends::show_ends;
+use crate::ends::{show_ends, show_passes};
 use crate::outcomes::{show_benches, show_entry, show_farm, show_files, show_reads, show_session};
 use crate::runs::Finished;
 use rx_rows::{Answer, Row, RowFault};
@@ -35,6 +35,7 @@ pub(crate) fn show_after(
         "frame" => answer.bytes(nth(&run.desks, number)?.output.bytes.as_slice())?,
         "entry" => show_entry(alloc, answer, nth(&run.journal, number)?)?,
         "ends" => show_ends(alloc, answer, &nth(&run.transcripts, number)?.ends)?,
+        "passes" => show_passes(answer, nth(&run.transcripts, number)?.passes)?,
         "reads" => show_reads(answer, nth(&run.desks, number)?)?,
         "calls" => show_farm(alloc, answer, nth(&run.desks, number)?)?,
         _ => show_benches(answer, nth(&run.desks, number)?)?,

@@ -290,9 +290,15 @@ impl Calls for RunCalls {
         match word {
             "request" | "bytes" => self.call_input(word, row, answer),
             "run" | "threads" | "serve" => self.call_runs(word, row, answer),
-            "session" | "frame" | "entry" | "place" | "benches" | "reads" | "ends" | "calls" => {
-                show_after(self.alloc, self.last_run()?, word, row, answer)
-            }
+            "session"
+            | "frame"
+            | "entry"
+            | "place"
+            | "benches"
+            | "reads"
+            | "ends"
+            | "passes"
+            | "calls" => show_after(self.alloc, self.last_run()?, word, row, answer),
             "options" => self.call_options(row, answer),
             _ => {
                 self.call_plans(word, row)?;

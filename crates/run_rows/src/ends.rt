@@ -1,9 +1,11 @@
-//! The ends of a session's attempts, in words.
+//! The ends of a session's attempts, and what became of the passes of their race, in words.
 
 use crate::outcomes::show_listed;
 use crate::replies::show_cause;
 use rx_base::{Items, NoMemory};
+use rx_engine::Passes;
 use rx_farm_values::write_remote_cause;
+use rx_race::{Slip, Verdict};
 use rx_row_values::write_digest;
 use rx_rows::Answer;
 use rx_world::{Cause, End, Ended, KeptOutcome, Origin, RemoteCause};
@@ -80,4 +82,26 @@ fn show_kept(
     write_digest(alloc, answer, &outcome.stdout)?;
     write_digest(alloc, answer, &outcome.stderr)?;
     show_listed(alloc, answer, outcome.files.as_slice())
+}
+
+/// What became of the pass of the local attempt, of that of the remote one, and of the right to cancel.
+pub(crate) fn show_passes(answer: &mut Answer, passes: Passes) -> Result<(), NoMemory> {
+    answer.word("local")?;
+    answer.word(slip_word(passes.local))?;
+    answer.word("remote")?;
+    answer.word(slip_word(passes.remote))?;
+    answer.word("cancel")?;
+    answer.word(slip_word(passes.cancel))
+}
+
+fn slip_word(slip: Slip) -> &'static str {
+    match slip {
+        Slip::Unused => "unused",
+        Slip::Refused => "refused",
+        Slip::Live => "live",
+        Slip::Stopped => "stopped",
+        Slip::Told(Verdict::Won) => "won",
+        Slip::Told(Verdict::Late) => "late",
+        Slip::Told(Verdict::Noted) => "noted",
+    }
 }
