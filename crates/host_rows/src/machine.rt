@@ -61,6 +61,7 @@ impl<H: Hands> Calls for Machine<H> {
             "remove" => self.tree.remove(answer),
             "place" => self.tree.place(row, answer),
             "link" => self.tree.link(row, answer),
+            "move" => self.tree.move_it(row, answer),
             "look" => self.tree.look(row, answer),
             "read" => self.tree.read(row, answer),
             "mark" => self.tree.mark(row, answer),

@@ -70,6 +70,15 @@ impl Tree {
         write_done(symlink(&self.rt, target.as_str(), link), answer)
     }
 
+    /// `move FROM TO`: gives what stands at one path another path, by no adapter.
+    pub(crate) fn move_it(&self, row: &mut Row<'_>, answer: &mut Answer) -> Result<(), RowFault> {
+        let alloc = self.rt.alloc();
+        let (from, to) = (read_string(alloc, row)?, read_string(alloc, row)?);
+        let from = format!(in alloc; "{}/{from}", self.root)?;
+        let to = format!(in alloc; "{}/{to}", self.root)?;
+        write_done(fs::rename(&self.rt, from, to), answer)
+    }
+
     /// `look PATH`: what stands there.
     pub(crate) fn look(&mut self, row: &mut Row<'_>, answer: &mut Answer) -> Result<(), RowFault> {
         let path = read_path(self.rt.alloc(), row)?;

@@ -3,12 +3,9 @@
 
 use rx_base::RelPath;
 use std::fs::{Files, Metadata, OpenFile, OpenOptions, Permissions};
-use std::io::{Error, ErrorKind, Read, Write};
+use std::io::{ErrorKind, Write};
 use std::os::unix::fs::{MetadataExt, OpenOptionsExt, PermissionsExt};
 use std::{fs, io};
-
-/// How often a file is read anew that another one took the place of while it was read.
-const READ_TRIES: u32 = 8;
 
 const EXECUTABLE_MODE: u32 = 0o755;
 
@@ -17,8 +14,10 @@ const PLAIN_MODE: u32 = 0o644;
 /// The files below a directory of the machine.
 #[derive(Drop)]
 pub(crate) struct Below<R> {
-    rt: R,
-    root: String,
+    pub(crate) rt: R,
+    pub(crate) root: String,
+    /// The root's path with no link in it, once it was asked for.
+    pub(crate) real_root: Option<String>,
 }
 
 /// What stands at a path, and the path's text for the system.
@@ -28,24 +27,17 @@ pub(crate) struct Standing {
     pub(crate) metadata: Option<Metadata>,
 }
 
-/// A path with the bytes of its file; anything else has none.
-#[derive(Drop)]
-pub(crate) struct ReadFile {
-    pub(crate) metadata: Option<Metadata>,
-    pub(crate) bytes: Vec<u8>,
-}
-
 impl Standing {
     pub(crate) fn is_dir(&self) -> bool {
         self.metadata.as_ref().is_some_and(|m| m.is_dir())
     }
 
-    fn is_file(&self) -> bool {
+    pub(crate) fn is_file(&self) -> bool {
         self.metadata.as_ref().is_some_and(|m| m.is_file())
     }
 
     /// Whether this is the file that the system told this of.
-    fn is_same(&self, other: &Metadata) -> bool {
+    pub(crate) fn is_same(&self, other: &Metadata) -> bool {
         match &self.metadata {
             Some(metadata) => metadata.dev() == other.dev() && metadata.ino() == other.ino(),
             None => false,
@@ -56,7 +48,11 @@ impl Standing {
 impl<R: Files + AllocGlobal> Below<R> {
     /// The files below this directory, which may itself be named through links.
     pub(crate) fn new(rt: R, root: String) -> Below<R> {
-        Below { rt, root }
+        Below {
+            rt,
+            root,
+            real_root: None,
+        }
     }
 
     pub(crate) fn runtime(&self) -> &R {
@@ -72,13 +68,33 @@ impl<R: Files + AllocGlobal> Below<R> {
 
     /// What stands at a path: nothing, where something above it is no directory.
     pub(crate) fn find(&self, path: &RelPath) -> io::Result<Standing> {
+        if path.is_root() {
+            return self.walk("");
+        }
+        let text = self.text_of(path.as_str())?;
+        let metadata = match told(fs::symlink_metadata(&self.rt, text.as_str())) {
+            Ok(Some(metadata)) => metadata,
+            // (what can be reached name by name is found at once too)
+            Ok(None) => return Ok(Standing {
+                text,
+                metadata: None,
+            }),
+            Err(_) => return self.walk(path.as_str()),
+        };
+        let above = self.walk(parent_of(path.as_str()))?;
+        let metadata = above.is_dir().then_some(metadata);
+        Ok(Standing { text, metadata })
+    }
+
+    /// As `find`, by the names alone: each is asked for, from the root down.
+    fn walk(&self, path: &str) -> io::Result<Standing> {
         let text = String::from_str(self.rt.alloc(), self.root.as_str())?;
         let metadata = told(fs::metadata(&self.rt, text.as_str()))?;
         let mut standing = Standing { text, metadata };
-        if path.is_root() {
+        if path.is_empty() {
             return Ok(standing);
         }
-        for name in path.as_str().split('/') {
+        for name in path.split('/') {
             standing = self.step(standing, name)?;
         }
         Ok(standing)
@@ -95,87 +111,6 @@ impl<R: Files + AllocGlobal> Below<R> {
             None
         };
         Ok(Standing { text, metadata })
-    }
-
-    /// What stands at a path, with the bytes of a regular file. The bytes are those of the file that
-    /// stands there once they are read; what is told of it is told then.
-    pub(crate) fn read(&self, path: &RelPath) -> io::Result<ReadFile> {
-        for _ in 0..READ_TRIES {
-            if let Some(read) = self.try_read(path)? {
-                return Ok(read);
-            }
-        }
-        Err(Error::other("the file was replaced each time it was read"))
-    }
-
-    /// As `read`, but `None` where another file has taken the place of the one that was read.
-    fn try_read(&self, path: &RelPath) -> io::Result<Option<ReadFile>> {
-        let before = self.find(path)?;
-        if !before.is_file() {
-            let bytes = Vec::new(self.rt.alloc());
-            let metadata = before.metadata;
-            return Ok(Some(ReadFile { metadata, bytes }));
-        }
-        let Some((opened, bytes)) = self.read_opened(before.text.as_str())? else {
-            return Ok(None);
-        };
-        let after = self.find(path)?;
-        if !after.is_same(&opened) {
-            return Ok(None);
-        }
-        let metadata = after.metadata;
-        Ok(Some(ReadFile { metadata, bytes }))
-    }
-
-    /// What is told of an opened file, and its bytes; `None` where there is no file to be opened.
-    fn read_opened(&self, text: &str) -> io::Result<Option<(Metadata, Vec<u8>)>> {
-        let Some(mut file) = told(fs::open(&self.rt, text))? else {
-            return Ok(None);
-        };
-        let mut bytes = Vec::new(self.rt.alloc());
-        file.read_to_end(&mut bytes)?;
-        Ok(Some((file.metadata()?, bytes)))
-    }
-
-    /// Makes a directory, and those above it, where they are missing.
-    pub(crate) fn make_dir(&self, path: &RelPath) -> io::Result<()> {
-        self.make_dirs(path.as_str())?;
-        Ok(())
-    }
-
-    /// Makes the directories above a path that are missing, and answers the text of the last.
-    pub(crate) fn make_parent(&self, path: &RelPath) -> io::Result<String> {
-        match path.as_str().rsplit_once('/') {
-            Some((above, _)) => self.make_dirs(above),
-            None => self.make_dirs(""),
-        }
-    }
-
-    fn make_dirs(&self, path: &str) -> io::Result<String> {
-        let mut text = String::from_str(self.rt.alloc(), self.root.as_str())?;
-        if path.is_empty() {
-            return Ok(text);
-        }
-        for name in path.split('/') {
-            push_name(&mut text, name)?;
-            self.make_one(text.as_str())?;
-        }
-        Ok(text)
-    }
-
-    /// Makes one directory, unless it is there. A link to a directory is none.
-    fn make_one(&self, text: &str) -> io::Result<()> {
-        match fs::create_dir(&self.rt, text) {
-            Ok(()) => Ok(()),
-            Err(error) if error.kind() == ErrorKind::AlreadyExists => {
-                if fs::symlink_metadata(&self.rt, text)?.is_dir() {
-                    Ok(())
-                } else {
-                    Err(Error::from(ErrorKind::NotADirectory))
-                }
-            }
-            Err(error) => Err(error),
-        }
     }
 
     /// Writes a file that isn't there yet, with mode 0755 or 0644. Where it fails it leaves none.
@@ -198,9 +133,17 @@ impl<R: Files + AllocGlobal> Below<R> {
     }
 }
 
+/// The path of the directory that a path's last name stands in: that of the root is empty.
+pub(crate) fn parent_of(path: &str) -> &str {
+    match path.rsplit_once('/') {
+        Some((above, _)) => above,
+        None => "",
+    }
+}
+
 /// Adds a name to the text of a directory. The empty text, which is no directory's, never becomes
 /// the root of the machine.
-fn push_name(text: &mut String, name: &str) -> io::Result<()> {
+pub(crate) fn push_name(text: &mut String, name: &str) -> io::Result<()> {
     if !text.is_empty() {
         text.push('/')?;
     }
@@ -215,7 +158,7 @@ fn fill<F: Write + OpenFile>(file: &mut F, bytes: &[u8], mode: u32) -> io::Resul
 }
 
 /// What a call told, or `None` where nothing stands at its path.
-fn told<T: Drop>(answer: io::Result<T>) -> io::Result<Option<T>> {
+pub(crate) fn told<T: Drop>(answer: io::Result<T>) -> io::Result<Option<T>> {
     match answer {
         Ok(value) => Ok(Some(value)),
         Err(error) => match error.kind() {

@@ -8,6 +8,7 @@ ghost use Rattle.rx_world.specs.Causes.{Rose};
 use crate::below::Below;
 use crate::hands::Hands;
 use crate::looks::is_executable;
+use crate::made::MadeDirs;
 use crate::runs::Runner;
 use crate::staged::Staged;
 use crate::tells::tell;
@@ -16,6 +17,7 @@ use rx_base::{Bytes, RelPath, TryClone};
 use rx_streams::Faults;
 use rx_world::{Bench, BenchStep, Command, Exit, Failed, FileOut, Refused};
 use std::alloc::Global;
+use std::fs::{File, Files};
 use std::io::{Error, ErrorKind};
 use std::process::Output;
 use std::sync::Arc;
@@ -25,6 +27,8 @@ use std::{io, process};
 #[derive(Drop)]
 pub struct HostBench<H> {
     tree: Below<HostRuntime>,
+    /// The directories there that were made since the last run.
+    made: MadeDirs,
     runner: Runner<H>,
     pub(crate) faults: Faults,
     /// The step of the last call that failed.
@@ -39,6 +43,7 @@ impl<H: Hands> HostBench<H> {
     {
         HostBench {
             tree: Below::new(runner.rt, root),
+            made: MadeDirs::new(runner.rt.alloc()),
             runner,
             faults: Faults::new(),
             failed: None,
@@ -72,12 +77,6 @@ impl<H: Hands> HostBench<H> {
             self.failed = Some(step);
         }
         refused
-    }
-
-    fn put_at(&self, path: &RelPath, bytes: &[u8], executable: bool) -> io::Result<()> {
-        self.tree.make_parent(path)?;
-        let text = self.tree.text_of(path.as_str())?;
-        self.tree.write_new(text.as_str(), bytes, executable)
     }
 
     /// Runs a command to its end.
@@ -121,20 +120,36 @@ impl<H: Hands> HostBench<H> {
             tell(&self.runner.rt, "run", program.as_str(), error);
         }
     }
+}
 
-    /// The regular file at a path. A link isn't followed.
-    fn take_at(&self, path: &RelPath) -> io::Result<Option<FileOut>>
-        ensures { IfOk result (λ file. IfSome file (λ f. f.path ≡ path.now)) }
-    {
-        let read = self.tree.read(path)?;
-        match read.metadata {
-            Some(metadata) if metadata.is_file() => Ok(Some(FileOut {
-                path: path.try_clone(self.tree.runtime().alloc())?,
-                bytes: Bytes::from_vec(read.bytes),
-                executable: is_executable(&metadata),
-            })),
-            _ => Ok(None),
-        }
+/// Puts a file below a tree, with the directories above it that are missing.
+fn put_into<R: Files + AllocGlobal>(
+    tree: &Below<R>,
+    made: &mut MadeDirs,
+    path: &RelPath,
+    bytes: &[u8],
+    executable: bool,
+) -> io::Result<()> {
+    tree.make_parent(made, path)?;
+    let text = tree.text_of(path.as_str())?;
+    tree.write_new(text.as_str(), bytes, executable)
+}
+
+/// The regular file at a path. A link isn't followed.
+fn take_from<R: Files<File = File> + AllocGlobal>(
+    tree: &mut Below<R>,
+    path: &RelPath,
+) -> io::Result<Option<FileOut>>
+    ensures { IfOk result (λ file. IfSome file (λ f. f.path ≡ path.now)) }
+{
+    let read = tree.read(path)?;
+    match read.metadata {
+        Some(metadata) if metadata.is_file() => Ok(Some(FileOut {
+            path: path.try_clone(tree.runtime().alloc())?,
+            bytes: Bytes::from_vec(read.bytes),
+            executable: is_executable(&metadata),
+        })),
+        _ => Ok(None),
     }
 }
 
@@ -148,8 +163,8 @@ impl<H: Hands> Bench<HostWorld> for HostBench<H> {
     ghost failed_at = { λ s. s.failed };
 
     fn make_dir(&mut self, path: &RelPath) -> Result<(), Failed> {
-        match self.tree.make_dir(path) {
-            Ok(()) => Ok(()),
+        match self.tree.make_dirs(&mut self.made, path.as_str()) {
+            Ok(_) => Ok(()),
             Err(error) => {
                 tell(self.tree.runtime(), "make directory", path.as_str(), &error);
                 Err(self.fault_at(BenchStep::MakeDir, error))
@@ -158,7 +173,7 @@ impl<H: Hands> Bench<HostWorld> for HostBench<H> {
     }
 
     fn put(&mut self, path: &RelPath, bytes: &[u8], executable: bool) -> Result<(), Failed> {
-        match self.put_at(path, bytes, executable) {
+        match put_into(&self.tree, &mut self.made, path, bytes, executable) {
             Ok(()) => Ok(()),
             Err(error) => {
                 tell(self.tree.runtime(), "put", path.as_str(), &error);
@@ -168,6 +183,8 @@ impl<H: Hands> Bench<HostWorld> for HostBench<H> {
     }
 
     fn run(&mut self, command: &Command) -> Result<Exit, Refused> {
+        // (the command may move directories, and put links in their places)
+        self.made = MadeDirs::new(self.tree.runtime().alloc());
         match self.run_at(command) {
             Ok(exit) => Ok(exit),
             Err(error) => {
@@ -178,7 +195,7 @@ impl<H: Hands> Bench<HostWorld> for HostBench<H> {
     }
 
     fn take(&mut self, path: &RelPath) -> Result<Option<FileOut>, Refused> {
-        match self.take_at(path) {
+        match take_from(&mut self.tree, path) {
             Ok(file) => Ok(file),
             Err(error) => {
                 tell(self.tree.runtime(), "take", path.as_str(), &error);

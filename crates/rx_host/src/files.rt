@@ -10,7 +10,7 @@ use crate::world::HostWorld;
 use rx_base::{Bytes, Items, RelPath};
 use rx_streams::Faults;
 use rx_world::{Failed, Found, Look, Refused, Sources};
-use std::fs::{Files, Metadata};
+use std::fs::{File, Files, Metadata};
 use std::io;
 use std::io::Eprint;
 
@@ -18,11 +18,11 @@ use std::io::Eprint;
 /// what is no directory.
 #[derive(Drop)]
 pub struct HostSources<R> {
-    pub(crate) tree: Below<R>,
+    tree: Below<R>,
     faults: Faults,
 }
 
-impl<R: Files + AllocGlobal + Clone + Drop> HostSources<R> {
+impl<R: Files<File = File> + AllocGlobal + Clone + Drop> HostSources<R> {
     /// The files below this directory.
     pub fn new(rt: R, root: String) -> HostSources<R> {
         HostSources {
@@ -30,15 +30,21 @@ impl<R: Files + AllocGlobal + Clone + Drop> HostSources<R> {
             faults: Faults::new(),
         }
     }
+}
 
+impl<R: Files<File = File> + AllocGlobal> Below<R> {
     /// What stands at a path.
-    fn look_at(&self, path: &RelPath) -> io::Result<Look> {
-        let standing = self.tree.find(path)?;
+    fn look_at(&mut self, path: &RelPath) -> io::Result<Look> {
+        let standing = self.find(path)?;
         self.look_of(path, standing.metadata.as_ref())
     }
 
     /// The look of a path that the system tells this of. The content is read only for its mark.
-    pub(crate) fn look_of(&self, path: &RelPath, metadata: Option<&Metadata>) -> io::Result<Look> {
+    pub(crate) fn look_of(
+        &mut self,
+        path: &RelPath,
+        metadata: Option<&Metadata>,
+    ) -> io::Result<Look> {
         match time_mark_of(metadata) {
             Some(mark) => Ok(look_with(metadata, mark)),
             None => Ok(self.read_at(path)?.0),
@@ -46,10 +52,10 @@ impl<R: Files + AllocGlobal + Clone + Drop> HostSources<R> {
     }
 
     /// What stands at a path, with the bytes of a file.
-    fn read_at(&self, path: &RelPath) -> io::Result<(Look, Bytes)>
+    fn read_at(&mut self, path: &RelPath) -> io::Result<(Look, Bytes)>
         ensures { IfOk result (λ read. HasBytes read.0 read.1) }
     {
-        let read = self.tree.read(path)?;
+        let read = self.read(path)?;
         let metadata = read.metadata.as_ref();
         let mark = match time_mark_of(metadata) {
             Some(mark) => mark,
@@ -69,7 +75,7 @@ impl<R: Files + AllocGlobal + Clone + Drop> HostSources<R> {
     fn no_bytes(&self) -> Bytes
         ensures { result ≡ [] }
     {
-        Bytes::new(self.tree.runtime().alloc())
+        Bytes::new(self.runtime().alloc())
     }
 }
 
@@ -81,7 +87,8 @@ fn time_mark_of(metadata: Option<&Metadata>) -> Option<u128> {
     }
 }
 
-impl<R: Files + AllocGlobal + Eprint + Clone + Drop> Sources<HostWorld> for HostSources<R> {
+impl<R: Files<File = File> + AllocGlobal + Eprint + Clone + Drop> Sources<HostWorld>
+    for HostSources<R> {
     ghost listed = { λ s. None };
 
     ghost keeps = { λ s. ⊥ };
@@ -91,7 +98,7 @@ impl<R: Files + AllocGlobal + Eprint + Clone + Drop> Sources<HostWorld> for Host
     ghost faults = { λ s. s.faults.count };
 
     fn look(&mut self, path: &RelPath) -> Result<Look, Failed> {
-        match self.look_at(path) {
+        match self.tree.look_at(path) {
             Ok(look) => Ok(look),
             Err(error) => {
                 tell(self.tree.runtime(), "look at", path.as_str(), &error);
@@ -101,7 +108,7 @@ impl<R: Files + AllocGlobal + Eprint + Clone + Drop> Sources<HostWorld> for Host
     }
 
     fn read(&mut self, path: &RelPath) -> Result<(Look, Bytes), Refused> {
-        match self.read_at(path) {
+        match self.tree.read_at(path) {
             Ok(read) => Ok(read),
             Err(error) => {
                 tell(self.tree.runtime(), "read", path.as_str(), &error);
@@ -111,7 +118,7 @@ impl<R: Files + AllocGlobal + Eprint + Clone + Drop> Sources<HostWorld> for Host
     }
 
     fn list(&mut self, under: &RelPath, most: usize) -> Result<Items<Found>, Refused> {
-        match self.list_at(under, most) {
+        match self.tree.list_at(under, most) {
             Ok(found) => Ok(found),
             Err(error) => {
                 tell(self.tree.runtime(), "list", under.as_str(), &error);

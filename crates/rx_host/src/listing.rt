@@ -1,11 +1,11 @@
 //! The files at or below a path of the host, in the order of their paths' bytes.
 
-use crate::files::HostSources;
+use crate::below::Below;
 use rx_base::{Items, PathFault, RelPath};
 use rx_world::{Found, Look};
 use std::alloc::{AllocError, Global};
 use std::collections::BTreeMap;
-use std::fs::{DirEntry, Files};
+use std::fs::{DirEntry, File, Files};
 use std::io::{Error, ErrorKind};
 use std::{fs, io};
 
@@ -14,10 +14,10 @@ use std::{fs, io};
 /// the directory stands, and what is taken comes in the order of the bytes.
 type Waiting = BTreeMap<String, Look>;
 
-impl<R: Files + AllocGlobal + Clone + Drop> HostSources<R> {
+impl<R: Files<File = File> + AllocGlobal + Clone + Drop> Below<R> {
     /// The files at or below a path: at most one more than `most`.
-    pub(crate) fn list_at(&self, under: &RelPath, most: usize) -> io::Result<Items<Found>> {
-        let alloc = self.tree.runtime().alloc();
+    pub(crate) fn list_at(&mut self, under: &RelPath, most: usize) -> io::Result<Items<Found>> {
+        let alloc = self.runtime().alloc();
         let mut found = Vec::new(alloc);
         let mut waiting = self.begin(alloc, under)?;
         for _ in 0..u64::MAX {
@@ -38,18 +38,23 @@ impl<R: Files + AllocGlobal + Clone + Drop> HostSources<R> {
     }
 
     /// The path at which a list begins.
-    fn begin(&self, alloc: Global, under: &RelPath) -> io::Result<Waiting> {
+    fn begin(&mut self, alloc: Global, under: &RelPath) -> io::Result<Waiting> {
         let mut waiting = BTreeMap::new(alloc);
-        let standing = self.tree.find(under)?;
+        let standing = self.find(under)?;
         let look = self.look_of(under, standing.metadata.as_ref())?;
         add(&mut waiting, text_of(alloc, "", under.as_str())?, look)?;
         Ok(waiting)
     }
 
     /// Adds what stands in a directory, which may be gone again.
-    fn add_entries(&self, alloc: Global, waiting: &mut Waiting, directory: &str) -> io::Result<()> {
-        let text = self.tree.text_of(directory)?;
-        let entries = match fs::read_dir(self.tree.runtime(), text.as_str()) {
+    fn add_entries(
+        &mut self,
+        alloc: Global,
+        waiting: &mut Waiting,
+        directory: &str,
+    ) -> io::Result<()> {
+        let text = self.text_of(directory)?;
+        let entries = match fs::read_dir(self.runtime(), text.as_str()) {
             Ok(entries) => entries,
             Err(error) if error.kind() == ErrorKind::NotFound => return Ok(()),
             Err(error) => return Err(error),
@@ -62,7 +67,7 @@ impl<R: Files + AllocGlobal + Clone + Drop> HostSources<R> {
 
     /// Adds one entry of a directory.
     fn add_entry(
-        &self,
+        &mut self,
         alloc: Global,
         waiting: &mut Waiting,
         directory: &str,

@@ -3,6 +3,7 @@
 ghost use Rattle.std.specs.Prelude.{◌≡◌, None};
 
 use crate::below::Below;
+use crate::made::MadeDirs;
 use crate::names::FreshNames;
 use crate::tells::tell;
 use rx_base::RelPath;
@@ -49,7 +50,9 @@ fn put<R: Files + AllocGlobal>(
     if path.is_root() {
         return Err(Error::from(ErrorKind::IsADirectory));
     }
-    let directory = tree.make_parent(path)?;
+    // (others change the output tree too, so no directory of an earlier file is relied on)
+    let mut made = MadeDirs::new(tree.runtime().alloc());
+    let directory = tree.make_parent(&mut made, path)?;
     let target = tree.text_of(path.as_str())?;
     let beside = write_beside(tree, names, directory.as_str(), bytes, executable)?;
     let renamed = fs::rename(tree.runtime(), beside.as_str(), target.as_str());

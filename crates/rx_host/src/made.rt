@@ -1,0 +1,74 @@
+//! Which directories were made below a directory, or found there, and which directory each was. So one
+//! call tells whether a directory still stands there, in place of a call for each name above it.
+
+use std::alloc::Global;
+use std::collections::BTreeMap;
+use std::fs::Metadata;
+use std::os::unix::fs::MetadataExt;
+use std::time::SystemTime;
+
+/// Which directory it is. Once a directory is gone, another may get its number: the time at which it
+/// was made, where that is told, tells the two from each other.
+#[derive(Clone, Copy, PartialEq, Eq)]
+struct Identity {
+    device: u64,
+    number: u64,
+    made: Option<SystemTime>,
+}
+
+impl Identity {
+    fn of(metadata: &Metadata) -> Identity {
+        Identity {
+            device: metadata.dev(),
+            number: metadata.ino(),
+            made: metadata.created().ok(),
+        }
+    }
+}
+
+/// Directories by their texts for the system.
+#[derive(Drop)]
+pub(crate) struct MadeDirs {
+    by_text: BTreeMap<String, Identity>,
+}
+
+impl MadeDirs {
+    /// None was made yet. It takes no memory.
+    pub(crate) fn new(alloc: Global) -> MadeDirs {
+        MadeDirs {
+            by_text: BTreeMap::new(alloc),
+        }
+    }
+
+    /// Whether this is the directory that was made at this text. It takes no memory.
+    pub(crate) fn is_same(&self, text: &str, metadata: &Metadata) -> bool {
+        match self.by_text.get(text) {
+            Some(identity) => *identity == Identity::of(metadata),
+            None => false,
+        }
+    }
+
+    /// The lowest directory at or above this text that was made, as the first part of the text, or
+    /// `None`. It takes no memory.
+    pub(crate) fn lowest<'a>(&self, text: &'a str) -> Option<&'a str> {
+        let mut lowest = text;
+        for _ in 0..text.len() {
+            if self.by_text.contains_key(lowest) {
+                return Some(lowest);
+            }
+            lowest = lowest.rsplit_once('/')?.0;
+        }
+        None
+    }
+
+    /// Keeps that this directory was made at this text, in place of what was kept of the text. Where
+    /// memory is wanting all stays as it was.
+    pub(crate) fn keep(&mut self, alloc: Global, text: &str, metadata: &Metadata) {
+        if self.is_same(text, metadata) {
+            return;
+        }
+        if let Ok(text) = String::from_str(alloc, text) {
+            let _ = self.by_text.insert(text, Identity::of(metadata));
+        }
+    }
+}

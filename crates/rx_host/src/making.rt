@@ -1,0 +1,63 @@
+//! Directories below a directory, made where they are missing. No link is followed.
+
+use crate::below::{Below, parent_of, push_name};
+use crate::made::MadeDirs;
+use rx_base::RelPath;
+use std::fs::Files;
+use std::io::{Error, ErrorKind};
+use std::{fs, io};
+
+impl<R: Files + AllocGlobal> Below<R> {
+    /// Makes a directory, and those above it, where they are missing, and answers its text. One that
+    /// was made before, and still stands there, isn't made again.
+    pub(crate) fn make_dirs(&self, made: &mut MadeDirs, path: &str) -> io::Result<String> {
+        let mut text = String::from_str(self.rt.alloc(), self.root.as_str())?;
+        if path.is_empty() {
+            return Ok(text);
+        }
+        let whole = self.text_of(path)?;
+        let mut missing = path;
+        if let Some((there, below)) = self.split_at_made(made, whole.as_str()) {
+            text = String::from_str(self.rt.alloc(), there)?;
+            missing = below;
+        }
+        for name in missing.split('/') {
+            if !name.is_empty() {
+                push_name(&mut text, name)?;
+                self.make_one(made, text.as_str())?;
+            }
+        }
+        Ok(text)
+    }
+
+    /// Makes the directories above a path that are missing, and answers the text of the last.
+    pub(crate) fn make_parent(&self, made: &mut MadeDirs, path: &RelPath) -> io::Result<String> {
+        self.make_dirs(made, parent_of(path.as_str()))
+    }
+
+    /// The text of the lowest directory at or above this text that was made, and what follows it, where
+    /// it still stands there: it is no link, and it is the same as then.
+    fn split_at_made<'a>(&self, made: &MadeDirs, text: &'a str) -> Option<(&'a str, &'a str)> {
+        let lowest = made.lowest(text)?;
+        let metadata = fs::symlink_metadata(&self.rt, lowest).ok()?;
+        if !made.is_same(lowest, &metadata) {
+            return None;
+        }
+        Some((lowest, text.strip_prefix(lowest)?))
+    }
+
+    /// Makes one directory, unless it is there. A link to a directory is none.
+    fn make_one(&self, made: &mut MadeDirs, text: &str) -> io::Result<()> {
+        match fs::create_dir(&self.rt, text) {
+            Ok(()) => {}
+            Err(error) if error.kind() == ErrorKind::AlreadyExists => {}
+            Err(error) => return Err(error),
+        }
+        let metadata = fs::symlink_metadata(&self.rt, text)?;
+        if !metadata.is_dir() {
+            return Err(Error::from(ErrorKind::NotADirectory));
+        }
+        made.keep(self.rt.alloc(), text, &metadata);
+        Ok(())
+    }
+}
