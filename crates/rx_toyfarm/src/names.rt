@@ -1,0 +1,19 @@
+//! The texts by which digests are named: `HASH/SIZE`, 64 hexadecimal digits and a decimal number.
+
+use rx_base::{Digest, NoMemory, Text, read_hash};
+use std::alloc::Global;
+
+/// The name of a digest, by which the operation of an action goes.
+pub(crate) fn name_of(alloc: Global, digest: &Digest) -> Result<Text, NoMemory> {
+    let hash = digest.hash_text(alloc)?;
+    let size = digest.size;
+    Ok(Text::from_string(format!(in alloc; "{hash}/{size}")?))
+}
+
+/// The digest of a name.
+pub(crate) fn read_name(name: &str) -> Option<Digest> {
+    let (hash, size) = name.split_once('/')?;
+    let hash = read_hash(hash).ok()?;
+    let size = size.parse::<u64>().ok()?;
+    Some(Digest { hash, size })
+}
