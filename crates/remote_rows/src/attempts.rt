@@ -25,14 +25,14 @@ pub(crate) fn call(
         if row.is_done() {
             break;
         }
-        state = turn(alloc, row, state, answer)?;
+        state = take_turn(alloc, row, state, answer)?;
     }
     Ok(())
 }
 
 /// Makes the step of the next event, or the steps of `states COUNT NAME`. The ask after it is
 /// answered.
-fn turn(
+fn take_turn(
     alloc: Global,
     row: &mut Row<'_>,
     state: RemoteState,

@@ -1,30 +1,15 @@
 -- A frame that is read in pieces: its header, and its payload.
-use Rattle.std.proofs.Common.{◌≡◌, ℕ, ◌+◌, ◌<◌, ◌≤◌, true, false, List, [], ◌∷◌, ◌++◌, length, take, drop, Option, Some, None, refl, sym, ap, ◌∙◌, arith, rules, append_assoc, append-nil, nat_lt, length-append, subst}
+use Rattle.std.proofs.Common.{◌≡◌, ℕ, ◌+◌, ◌<◌, ◌≤◌, true, false, List, [], ◌∷◌, ◌++◌, length, take, drop, Option, Some, None, refl, ap, ◌∙◌, arith, rules, append_assoc, append-nil, nat_lt, length-append}
 use Rattle.std.proofs.lemmas.Bool.{lt-ltb, le-ltb}
 use Rattle.std.proofs.lemmas.List.{take_all}
 use Rattle.std.proofs.Math.Seq.{take-append_seam}
-use Rattle.std.proofs.KnownBytes.{Consumes-trans}
-use Rattle.std.specs.Io.KnownBytes.{Consumes, IsAtEnd}
+use Rattle.std.specs.Io.KnownBytes.{IsAtEnd}
 use Rattle.std.specs.Result.{result_ok}
 use Rattle.std.specs.Str.{bytes_eq}
 use Rattle.rx_session.specs.ReplyReading.{reply_of}
 use Rattle.rx_session.specs.Frames.{shutdown_done}
 use Rattle.rx_session.proofs.FrameLemmas.{payload_is}
-use Rattle.rx_client.specs.Heard.{ReadsOn, first_reply, given_by, is_shutdown_done, reply_len, reply_within, rest_of}
-
--- ---- pieces that were read one after the other
-
-pub reads_join : (a b c : Option (List ℕ)) (x y z : List ℕ) → ReadsOn a b x y → ReadsOn b c y z → ReadsOn a c x z
-reads_join a b c x y z p q = record {
-  bytes = p.bytes ++ q.bytes;
-  grown = q.grown ∙ ap (λ (s : List ℕ). s ++ q.bytes) p.grown ∙ append_assoc x p.bytes q.bytes;
-  consumed = Consumes-trans a b c p.bytes q.bytes p.consumed q.consumed;
-}
-
-pub reads_whole : (a b : Option (List ℕ)) (x y : List ℕ) → x ≡ [] → ReadsOn a b x y → Consumes a b y
-reads_whole a b x y e p =
-    let whole : p.bytes ≡ y = sym (p.grown ∙ ap (λ (s : List ℕ). s ++ p.bytes) e) in
-    subst (λ (s : List ℕ). Consumes a b s) whole p.consumed
+use Rattle.rx_client.specs.Heard.{first_reply, given_by, is_shutdown_done, reply_len, reply_within, rest_of}
 
 -- ---- all that an input gives
 

@@ -1,6 +1,5 @@
 -- What the bytes of a connection's input begin with.
 use Rattle.std.specs.Prelude.{◌≡◌, ℕ, ◌+◌, ◌==◌, not, List, [], ◌∷◌, ◌++◌, Bool, length, take, drop, nat_lt, Option, Some, None, Result, Ok, Err, if◌then◌else◌, slice_index}
-use Rattle.std.specs.Io.KnownBytes.{Consumes}
 use Rattle.std.specs.Option.{option_and_then}
 use Rattle.std.specs.Result.{result_ok}
 use Rattle.std.specs.Str.{bytes_eq}
@@ -57,9 +56,3 @@ Hears (Ok heard) first = first ≡ Some heard
 Hears (Err NoFrame) first = first ≡ None
 Hears (Err Lost) first = Unit {0}
 Hears (Err NoMemory) first = Unit {0}
-
--- what was taken from the source was put at the end of what was read
-pub record ReadsOn (left_old left_new : Option (List ℕ)) (old new : List ℕ) : Type 0 where
-  pub bytes : List ℕ
-  pub grown : new ≡ old ++ bytes
-  pub consumed : Consumes left_old left_new bytes

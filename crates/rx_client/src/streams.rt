@@ -4,7 +4,7 @@ ghost use Rattle.std.specs.Prelude.{◌≡◌, ◌≤◌, ◌<◌, ◌+◌, max,
 ghost use Rattle.std.specs.Io.KnownBytes.{IsAtEnd};
 ghost use Rattle.rx_world.specs.declared.failures.Refused.TheVariants.{Failed as failed};
 ghost use Rattle.rx_world.specs.Causes.{HasCauseOf};
-ghost use Rattle.rx_client.specs.Heard.{ReadsOn};
+ghost use Rattle.rx_session.specs.Streams.{ReadsOn};
 
 use rx_world::{Refused, Source};
 

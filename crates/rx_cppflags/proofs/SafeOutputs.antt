@@ -14,9 +14,9 @@ use Rattle.rx_cppflags.specs.Meanings.{same, names_output}
 use Rattle.rx_cppflags.specs.Places.{is_writable, kept, path_from, path_of}
 use Rattle.rx_cppflags.specs.Rows.{Row, row_for, own_value, takes_next}
 use Rattle.rx_cppflags.specs.Pieces.{Saying, said_by, saying, sayings_after, uses_next, with_next}
-use Rattle.rx_cppflags.specs.Found.{is_apart, is_in_table, outputs_of, outside_of, path_for, paths_of, says, says_once, sources_of}
+use Rattle.rx_cppflags.specs.Found.{has_meaning, has_meaning_once, is_apart, is_in_table, outputs_of, outside_of, path_for, paths_of, sources_of}
 use Rattle.rx_cppflags.specs.Variables.{first_variable}
-use Rattle.rx_cppflags.specs.Readings.{IsSafeOutput, HasSafeOutputs, compiled, counted, first_word, judged, only, reading_of, unless_variable}
+use Rattle.rx_cppflags.specs.Readings.{HasSafeOutputs, IsSafeOutput, compile_from, compile_of, first_word, only_path, reading_of, reading_unless, unless_variable}
 use Rattle.rx_cppflags.proofs.Lists.{each, none_passes, with_option, of_sorted}
 use Rattle.rx_base.proofs.Lists.{All-append, All-back, All-front, All-weaken}
 
@@ -117,15 +117,15 @@ safe command inputs named path w =
 -- ---- the reading
 
 unless_safe : (command : Command) (inputs : List (List ℕ)) (said : List Saying) (source : List ℕ) → AllByRecursion (IsSafeOutput command inputs (sorted_paths (outputs_of said))) (sorted_paths (outputs_of said))
-    → (o : Option (List ℕ)) → HasSafeOutputs command inputs (unless_variable o (compiled said source))
+    → (o : Option (List ℕ)) → HasSafeOutputs command inputs (unless_variable o (compile_of said source))
 unless_safe command inputs said source p None = p
 unless_safe command inputs said source p (Some name) = tt
 
-counted_safe : (command : Command) (inputs : List (List ℕ)) (said : List Saying) → AllByRecursion (IsSafeOutput command inputs (sorted_paths (outputs_of said))) (sorted_paths (outputs_of said))
-    → (o : Option (List ℕ)) → HasSafeOutputs command inputs (counted command said o)
-counted_safe command inputs said p None = tt
-counted_safe command inputs said p (Some source) =
-    cond_both (says CompileOnly said && says_once Output said) (unless_variable (first_variable command.environment) (compiled said source)) (LocalOnly (first_word command.words)) (λ reading. HasSafeOutputs command inputs reading)
+compile_safe : (command : Command) (inputs : List (List ℕ)) (said : List Saying) → AllByRecursion (IsSafeOutput command inputs (sorted_paths (outputs_of said))) (sorted_paths (outputs_of said))
+    → (o : Option (List ℕ)) → HasSafeOutputs command inputs (compile_from command said o)
+compile_safe command inputs said p None = tt
+compile_safe command inputs said p (Some source) =
+    cond_both (has_meaning CompileOnly said && has_meaning_once Output said) (unless_variable (first_variable command.environment) (compile_of said source)) (LocalOnly (first_word command.words)) (λ reading. HasSafeOutputs command inputs reading)
     (λ _. unless_safe command inputs said source p (first_variable command.environment))
     (λ _. tt)
 
@@ -133,7 +133,7 @@ outputs_safe : (command : Command) (inputs : List (List ℕ)) (said : List Sayin
     → outside_of command.outputs said ≡ None
     → AllByRecursion (IsSafeOutput command inputs (sorted_paths (outputs_of said))) (sorted_paths (outputs_of said))
 outputs_safe command inputs said p e =
-    let has_file : Bool = says DependencyFile said in
+    let has_file : Bool = has_meaning DependencyFile said in
     let outputs : List (List ℕ) = command.outputs ++ outputs_of said in
     let inside : AllByRecursion (λ s. is_in_table has_file outputs s ≡ true) said = none_outside (is_in_table has_file outputs) said e in
     let all_written : AllByRecursion (IsWritten command.working_directory inputs outputs) (outputs_of said) =
@@ -145,17 +145,17 @@ outputs_safe command inputs said p e =
     (each (IsWritten command.working_directory inputs outputs) (IsWritten command.working_directory inputs outputs) (IsSafeOutput command inputs (sorted_paths (outputs_of said)))
     (λ path w _. safe command inputs (outputs_of said) path w) (outputs_of said) all_written all_written)
 
-judged_safe : (command : Command) (inputs : List (List ℕ)) (said : List Saying) → AllByRecursion (λ s. s.path ≡ path_of command.working_directory inputs s.meaning s.text) said
-    → (o : Option (List ℕ)) → outside_of command.outputs said ≡ o → HasSafeOutputs command inputs (judged command said o)
-judged_safe command inputs said p None e = counted_safe command inputs said (outputs_safe command inputs said p e) (only (sources_of said))
-judged_safe command inputs said p (Some word) e = tt
+safe_unless : (command : Command) (inputs : List (List ℕ)) (said : List Saying) → AllByRecursion (λ s. s.path ≡ path_of command.working_directory inputs s.meaning s.text) said
+    → (o : Option (List ℕ)) → outside_of command.outputs said ≡ o → HasSafeOutputs command inputs (reading_unless command said o)
+safe_unless command inputs said p None e = compile_safe command inputs said (outputs_safe command inputs said p e) (only_path (sources_of said))
+safe_unless command inputs said p (Some word) e = tt
 
 -- the outputs of each reading are safe
 pub reading_safe : (command : Command) (inputs : List (List ℕ)) → HasSafeOutputs command inputs (reading_of command inputs)
 unfolding reading_of
 reading_safe command inputs =
     let said : List Saying = sayings_after command.working_directory inputs false (drop 1 command.words) in
-    judged_safe command inputs said (placed command.working_directory inputs false (drop 1 command.words)) (outside_of command.outputs said) refl
+    safe_unless command inputs said (placed command.working_directory inputs false (drop 1 command.words)) (outside_of command.outputs said) refl
 
 pub told_safe : {E : Type 0} (command : Command) (inputs : List (List ℕ)) (result : Result Reading E) → IfOk result (λ reading. reading ≡ reading_of command inputs) → IfOk result (λ reading. HasSafeOutputs command inputs reading)
 told_safe command inputs (Ok reading) e = subst (λ (found : Reading). HasSafeOutputs command inputs found) (sym e) (reading_safe command inputs)

@@ -11,7 +11,7 @@ use Rattle.rx_cppflags.specs.declared.readings.Reading.{Reading}
 use Rattle.rx_cppflags.specs.Places.{is_writable, kept, path_from, path_of}
 use Rattle.rx_cppflags.specs.Rows.{Row, row_for, own_value, takes_next}
 use Rattle.rx_cppflags.specs.Pieces.{Saying, said_by, saying, sayings_after, uses_next, with_next}
-use Rattle.rx_cppflags.specs.Found.{first_outside, is_apart_output, is_in_table, outputs_of, outside_of, says}
+use Rattle.rx_cppflags.specs.Found.{first_outside, has_meaning, is_apart_output, is_in_table, outputs_of, outside_of}
 use Rattle.rx_cppflags.specs.Readings.{reading_from, reading_of}
 use Rattle.rx_base.proofs.Members.{list_any-same_members}
 
@@ -74,7 +74,7 @@ outside_same has_file xs ys said same =
     ap (λ (found : Option Saying). option_map (λ s. s.word) found) (find_same (is_in_table has_file xs) (is_in_table has_file ys) said (λ s. table_same has_file xs ys s same))
 
 pub told_outside : (outputs all sorted slice : List (List ℕ)) (said : List Saying) (has_file : Bool) (word : Option (List ℕ)) → all ≡ outputs ++ outputs_of said → HasSameMembers all sorted → slice ≡ sorted
-    → has_file ≡ says DependencyFile said → word ≡ first_outside has_file slice said → word ≡ outside_of outputs said
+    → has_file ≡ has_meaning DependencyFile said → word ≡ first_outside has_file slice said → word ≡ outside_of outputs said
 told_outside outputs all sorted slice said has_file word a same s h w =
     w ∙ ap (λ (given : List (List ℕ)). first_outside has_file given said) s ∙ sym (outside_same has_file all sorted said same)
     ∙ ap (λ (given : List (List ℕ)). first_outside has_file given said) a ∙ ap (λ (b : Bool). first_outside b (outputs ++ outputs_of said) said) h

@@ -9,12 +9,12 @@ use Rattle.rx_cppflags.specs.Meanings.{same, names_output, names_path}
 use Rattle.rx_cppflags.specs.Pieces.{Saying}
 
 -- whether something of this meaning is said
-abbrev pub says : Meaning → List Saying → Bool
-says meaning said = list_any (λ s. same s.meaning meaning) said
+abbrev pub has_meaning : Meaning → List Saying → Bool
+has_meaning meaning said = list_any (λ s. same s.meaning meaning) said
 
 -- whether exactly one word has this meaning
-abbrev pub says_once : Meaning → List Saying → Bool
-says_once meaning said = count_by (λ s. same s.meaning meaning) said == 1
+abbrev pub has_meaning_once : Meaning → List Saying → Bool
+has_meaning_once meaning said = count_by (λ s. same s.meaning meaning) said == 1
 
 abbrev pub path_for : Meaning → Saying → Option (List ℕ)
 path_for meaning s = if same s.meaning meaning then s.path else None
@@ -55,4 +55,4 @@ first_outside has_file outputs said = option_map (λ s. s.word) (find (λ s. not
 
 -- the first word that is no compile word, in a command that has these outputs besides those that its words name
 abbrev pub outside_of : List (List ℕ) → List Saying → Option (List ℕ)
-outside_of outputs said = first_outside (says DependencyFile said) (outputs ++ outputs_of said) said
+outside_of outputs said = first_outside (has_meaning DependencyFile said) (outputs ++ outputs_of said) said

@@ -8,7 +8,7 @@ use Rattle.rx_cppflags.specs.declared.meanings.Meaning.TheVariants.{CSource, Quo
 use Rattle.rx_cppflags.specs.declared.readings.Reading.{Reading}
 use Rattle.rx_cppflags.specs.declared.readings.Reading.TheVariants.{Compile, LocalOnly}
 use Rattle.rx_cppflags.specs.Pieces.{Saying, sayings}
-use Rattle.rx_cppflags.specs.Found.{says, says_once, paths_of, texts_of, sources_of, outputs_of, outside_of}
+use Rattle.rx_cppflags.specs.Found.{has_meaning, has_meaning_once, outputs_of, outside_of, paths_of, sources_of, texts_of}
 use Rattle.rx_cppflags.specs.Variables.{first_variable}
 
 -- the compiler; a command without words has the empty text for it
@@ -17,8 +17,8 @@ first_word [] = []
 first_word (word ∷ others) = word
 
 -- a compile command with this source
-abbrev pub compiled : List Saying → List ℕ → Reading
-compiled said source =
+abbrev pub compile_of : List Saying → List ℕ → Reading
+compile_of said source =
     Compile
     source
     (paths_of QuoteDir said)
@@ -26,7 +26,7 @@ compiled said source =
     (texts_of Forced said)
     (paths_of Sysroot said)
     (sorted_paths (outputs_of said))
-    (says CSource said)
+    (has_meaning CSource said)
 
 -- unless its environment has one of these variables
 abbrev pub unless_variable : Option (List ℕ) → Reading → Reading
@@ -34,26 +34,26 @@ unless_variable None reading = reading
 unless_variable (Some name) reading = LocalOnly name
 
 -- the one path of a list that has one
-abbrev pub only : List (List ℕ) → Option (List ℕ)
-only [] = None
-only (path ∷ []) = Some path
-only (path ∷ other ∷ others) = None
+abbrev pub only_path : List (List ℕ) → Option (List ℕ)
+only_path [] = None
+only_path (path ∷ []) = Some path
+only_path (path ∷ other ∷ others) = None
 
 -- where the words say that it compiles, and have one source and one output
-abbrev pub counted : Command → List Saying → Option (List ℕ) → Reading
-counted command said None = LocalOnly (first_word command.words)
-counted command said (Some source) =
-    if says CompileOnly said && says_once Output said
-    then unless_variable (first_variable command.environment) (compiled said source)
+abbrev pub compile_from : Command → List Saying → Option (List ℕ) → Reading
+compile_from command said None = LocalOnly (first_word command.words)
+compile_from command said (Some source) =
+    if has_meaning CompileOnly said && has_meaning_once Output said
+    then unless_variable (first_variable command.environment) (compile_of said source)
     else LocalOnly (first_word command.words)
 
 -- where each of them is a compile word
-abbrev pub judged : Command → List Saying → Option (List ℕ) → Reading
-judged command said None = counted command said (only (sources_of said))
-judged command said (Some word) = LocalOnly word
+abbrev pub reading_unless : Command → List Saying → Option (List ℕ) → Reading
+reading_unless command said None = compile_from command said (only_path (sources_of said))
+reading_unless command said (Some word) = LocalOnly word
 
 abbrev pub reading_from : Command → List Saying → Reading
-reading_from command said = judged command said (outside_of command.outputs said)
+reading_from command said = reading_unless command said (outside_of command.outputs said)
 
 -- How a command with these declared inputs is read.
 unfoldable pub reading_of : Command → List (List ℕ) → Reading

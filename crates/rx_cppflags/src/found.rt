@@ -2,7 +2,7 @@
 
 ghost use Rattle.std.specs.Prelude.{◌≡◌, ◌++◌, IfOk, option_map};
 ghost use Rattle.rx_base.specs.SortedPaths.{AreSorted};
-ghost use Rattle.rx_cppflags.specs.Found.{first_outside, is_in_table, outputs_of, path_for, paths_of, says, says_once, sources_of, texts_of};
+ghost use Rattle.rx_cppflags.specs.Found.{first_outside, has_meaning, has_meaning_once, is_in_table, outputs_of, path_for, paths_of, sources_of, texts_of};
 
 use crate::meanings::Meaning;
 use crate::pieces::Piece;
@@ -11,8 +11,8 @@ use rx_base::{Items, NoMemory, RelPath, Text, TryClone};
 use std::alloc::Global;
 
 /// Whether something of this meaning is said.
-pub(crate) fn says(pieces: &[Piece], meaning: Meaning) -> bool
-    ensures { result ≡ says meaning pieces.now }
+pub(crate) fn has_meaning(pieces: &[Piece], meaning: Meaning) -> bool
+    ensures { result ≡ has_meaning meaning pieces.now }
 {
     pieces.iter().any(|piece| piece.meaning.is(meaning))
 }
@@ -83,8 +83,8 @@ pub(crate) fn outputs_of(
 }
 
 /// Whether exactly one word has this meaning.
-pub(crate) fn says_once(pieces: &[Piece], meaning: Meaning) -> bool
-    ensures { result ≡ says_once meaning pieces.now }
+pub(crate) fn has_meaning_once(pieces: &[Piece], meaning: Meaning) -> bool
+    ensures { result ≡ has_meaning_once meaning pieces.now }
 {
     pieces
         .iter()

@@ -4,9 +4,11 @@
 ghost use Rattle.std.specs.Prelude.{◌≡◌, ◌++◌, IfOk, drop, option_map};
 ghost use Rattle.rx_base.specs.SortedPaths.{AreSorted};
 ghost use Rattle.rx_cppflags.specs.Found.{outside_of, sources_of};
-ghost use Rattle.rx_cppflags.specs.Readings.{HasSafeOutputs, compiled, counted, first_word, only, reading_from, reading_of};
+ghost use Rattle.rx_cppflags.specs.Readings.{HasSafeOutputs, compile_from, compile_of, first_word, only_path, reading_from, reading_of};
 
-use crate::found::{first_outside, outputs_of, paths_of, says, says_once, sources_of, texts_of};
+use crate::found::{
+    first_outside, has_meaning, has_meaning_once, outputs_of, paths_of, sources_of, texts_of,
+};
 use crate::meanings::Meaning;
 use crate::pieces::{Piece, Site, cut};
 use crate::searches::{are_sorted, copy_paths};
@@ -122,7 +124,7 @@ fn outside_of(
     ensures { IfOk result (λ word. word ≡ outside_of outputs.now pieces.now) }
 {
     let outputs = sort_paths(outputs_of(alloc, pieces, outputs.try_clone(alloc)?)?)?;
-    let has_file = says(pieces, Meaning::DependencyFile);
+    let has_file = has_meaning(pieces, Meaning::DependencyFile);
     match first_outside(has_file, outputs.as_slice(), pieces) {
         Some(word) => Ok(Some(Text::copy_of(alloc, word)?)),
         None => Ok(None),
@@ -132,12 +134,12 @@ fn outside_of(
 /// The reading of compile words.
 fn count(alloc: Global, command: &Command, pieces: &[Piece]) -> Result<Reading, NoMemory>
     ensures { IfOk result (λ reading. reading
-        ≡ counted command.now pieces.now (only (sources_of pieces.now))) }
+        ≡ compile_from command.now pieces.now (only_path (sources_of pieces.now))) }
 {
-    let Some(source) = only(sources_of(alloc, pieces)?) else {
+    let Some(source) = only_path(sources_of(alloc, pieces)?) else {
         return local_only(alloc, first_word(command.words.as_slice()));
     };
-    if !says(pieces, Meaning::CompileOnly) || !says_once(pieces, Meaning::Output) {
+    if !has_meaning(pieces, Meaning::CompileOnly) || !has_meaning_once(pieces, Meaning::Output) {
         return local_only(alloc, first_word(command.words.as_slice()));
     }
     match first_variable(command.environment.as_slice()) {
@@ -148,7 +150,7 @@ fn count(alloc: Global, command: &Command, pieces: &[Piece]) -> Result<Reading, 
 
 /// The reading of a compile command with this source.
 fn compile(alloc: Global, pieces: &[Piece], source: RelPath) -> Result<Reading, NoMemory>
-    ensures { IfOk result (λ reading. reading ≡ compiled pieces.now source) }
+    ensures { IfOk result (λ reading. reading ≡ compile_of pieces.now source) }
 {
     let dirs = paths_of(alloc, pieces, Meaning::Dir, Items::new(alloc))?;
     let dirs = paths_of(alloc, pieces, Meaning::SystemDir, dirs)?;
@@ -159,7 +161,7 @@ fn compile(alloc: Global, pieces: &[Piece], source: RelPath) -> Result<Reading, 
         forced: texts_of(alloc, pieces, Meaning::Forced)?,
         sysroots: paths_of(alloc, pieces, Meaning::Sysroot, Items::new(alloc))?,
         outputs: sort_paths(outputs_of(alloc, pieces, Items::new(alloc))?)?,
-        is_c: says(pieces, Meaning::CSource),
+        is_c: has_meaning(pieces, Meaning::CSource),
     })
 }
 
@@ -172,8 +174,8 @@ fn local_only(alloc: Global, word: &str) -> Result<Reading, NoMemory>
 }
 
 /// The one path of a list that has one.
-fn only(paths: Items<RelPath>) -> Option<RelPath>
-    ensures { result ≡ only paths }
+fn only_path(paths: Items<RelPath>) -> Option<RelPath>
+    ensures { result ≡ only_path paths }
 {
     let mut paths = paths.into_vec();
     let last = paths.pop();

@@ -66,14 +66,14 @@ pub(crate) fn conclude<W: World, D: Desk<W>, P: Place>(
             tally: Tally::none(alloc),
             answered,
         },
-        Stage::Attempted { attempted } => settle(alloc, number, attempted, board),
+        Stage::Attempted { attempted } => publish_or_fail(alloc, number, attempted, board),
     };
     let ready = Ready { request, handled };
     finish(alloc, number, read, ready, &mut parts.output)
 }
 
 /// Publishes the outcome that won, and makes the answer ready.
-fn settle<P: Place>(
+fn publish_or_fail<P: Place>(
     alloc: Global,
     session: u32,
     attempted: Attempted,

@@ -1,2 +1,2 @@
 pub mod ExchangedLemmas
-mod ScriptLemmas
+pub mod ScriptLemmas

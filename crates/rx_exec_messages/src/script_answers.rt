@@ -92,7 +92,7 @@ pub(crate) fn may_answer(fault: CallFault, digests: &[Digest]) -> bool
 }
 
 /// The one text of a list.
-pub(crate) fn only(texts: Items<Bytes>) -> Bytes
+pub(crate) fn only_text(texts: Items<Bytes>) -> Bytes
     requires { length texts ≡ 1 }
     ensures { texts ≡ result ∷ [] }
 {

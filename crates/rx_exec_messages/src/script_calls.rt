@@ -5,7 +5,7 @@ ghost use Rattle.rx_exec_messages.specs.Calls.{AgreesWithAll, AreBlobs, HasCallC
 ghost use Rattle.rx_exec_messages.specs.Dialects.{dialect_of};
 ghost use Rattle.rx_exec_messages.specs.Scripts.{IsGenuine, Keeps, Vouches, running_of};
 
-use crate::script_answers::{all_go_by, digests_of, missing_of, only, texts_of};
+use crate::script_answers::{all_go_by, digests_of, missing_of, only_text, texts_of};
 use crate::script_lines::Running;
 use crate::script_state::ScriptState;
 use crate::{Ask, Capabilities, NamedBlob, Operation, ScriptLine};
@@ -153,7 +153,7 @@ impl ScriptState {
         ensures cause { HasCallCause self.old.faults self.new.faults result }
     {
         let texts = self.give::<W>(Ok(Ask::ReadStream(*digest)), &[*digest])?;
-        Ok(only(texts))
+        Ok(only_text(texts))
     }
 
     /// An answer to `execute`. A line for another action doesn't fit.

@@ -93,7 +93,7 @@ impl<K: Contents> MemorySources<K> {
     }
 
     /// Swaps the change in where it is due behind a call, which was a look at a path or another one.
-    fn turn(&mut self, looked: Option<&RelPath>)
+    fn swap_change_due(&mut self, looked: Option<&RelPath>)
         ensures given { self.new.given ≡ self.old.given }
         ensures script { self.new.script ≡ self.old.script }
         ensures kept { self.old.change ≡ None →
@@ -166,19 +166,19 @@ impl<K: Contents> Sources<Toy<K>> for MemorySources<K> {
 
     fn look(&mut self, path: &RelPath) -> Result<Look, Failed> {
         let answer = self.look_now(path);
-        self.turn(Some(path));
+        self.swap_change_due(Some(path));
         answer
     }
 
     fn read(&mut self, path: &RelPath) -> Result<(Look, Bytes), Refused> {
         let answer = self.read_now(path);
-        self.turn(None);
+        self.swap_change_due(None);
         answer
     }
 
     fn list(&mut self, under: &RelPath, most: usize) -> Result<Items<Found>, Refused> {
         let answer = self.list_now(under, most);
-        self.turn(None);
+        self.swap_change_due(None);
         answer
     }
 }

@@ -7,14 +7,14 @@ use Rattle.rx_grpc.specs.declared.answer.Answer.TheVariants.{Message, Status, Co
 use Rattle.rx_grpc.specs.Heard.{Heard}
 
 -- of messages with status 0: one that is whole, and nothing else
-abbrev pub only : List (List ℕ) → List ℕ → Answer
-only (message ∷ []) [] = Message message
-only _ _ = BadMessage
+abbrev pub only_message : List (List ℕ) → List ℕ → Answer
+only_message (message ∷ []) [] = Message message
+only_message _ _ = BadMessage
 
 abbrev pub unary_by : Option End → Bool → Heard → Option Answer
 unary_by None false h = None
 unary_by None true h = Some NoStatus
-unary_by (Some (Ends.Status code)) ended h = Some (if code == 0 then only h.messages h.rest else Status code)
+unary_by (Some (Ends.Status code)) ended h = Some (if code == 0 then only_message h.messages h.rest else Status code)
 unary_by (Some Ends.Compressed) ended h = Some Compressed
 unary_by (Some Ends.TooLarge) ended h = Some TooLarge
 unary_by (Some Ends.NoStatus) ended h = Some NoStatus

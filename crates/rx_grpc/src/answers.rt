@@ -4,7 +4,7 @@ ghost use Rattle.std.specs.Prelude.{not, ◌==◌, ◌≡◌, List, ℕ, length,
 ghost use Rattle.percent_encoding.specs.Percent.{percent_decode};
 ghost use Rattle.rx_h2conn.specs.Event.{event_view};
 ghost use Rattle.rx_h2conn.specs.Session.{Event};
-ghost use Rattle.rx_grpc.specs.Answer.{after_answer, only, unary};
+ghost use Rattle.rx_grpc.specs.Answer.{after_answer, only_message, unary};
 ghost use Rattle.rx_grpc.specs.Heard.{nothing, step};
 ghost use Rattle.rx_grpc.specs.Item.{after_item, item, item_at_end, item_behind};
 ghost use Rattle.rx_grpc.specs.Seen.{HandsOut};
@@ -118,8 +118,8 @@ impl Answers {
     }
 
     /// The one message that was heard, where nothing stands beside it.
-    fn only(&mut self) -> Answer
-        ensures answer { result ≡ only self.old.messages self.old.rest }
+    fn only_message(&mut self) -> Answer
+        ensures answer { result ≡ only_message self.old.messages self.old.rest }
         ensures after { self.new ≡ after_answer (Some result) self.old }
     {
         if self.is_cut() || self.reader.messages.len() != 1 {
@@ -139,7 +139,7 @@ impl Answers {
     {
         match self.reader.end {
             None => { if ended { Some(Answer::NoStatus) } else { None } }
-            Some(End::Status(0)) => Some(self.only()),
+            Some(End::Status(0)) => Some(self.only_message()),
             Some(End::Status(code)) => Some(Answer::Status(code)),
             Some(End::Compressed) => Some(Answer::Compressed),
             Some(End::TooLarge) => Some(Answer::TooLarge),

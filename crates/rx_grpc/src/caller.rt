@@ -125,7 +125,7 @@ impl<D: Dial + Drop> GrpcCaller<D> {
     }
 
     /// Counts the fault of an answer, unless it is want of memory.
-    pub fn counted<T: Drop>(&mut self, answer: Result<T, CallFault>) -> Result<T, CallFault>
+    pub fn count_fault<T: Drop>(&mut self, answer: Result<T, CallFault>) -> Result<T, CallFault>
         ensures same { result ≡ answer }
         ensures cause { HasCallCause self.old.faults self.new.faults result }
         ensures rest { self.new ≡ record self.old { faults = self.new.faults } }

@@ -41,7 +41,7 @@ impl Came {
 }
 
 /// What is shown is the answer, and else a broken rule is the fault. `None` where more may come.
-pub fn judge<T: Drop>(shown: Option<T>, came: Came) -> Option<Result<T, TransferFault>>
+pub fn answer_or_fault<T: Drop>(shown: Option<T>, came: Came) -> Option<Result<T, TransferFault>>
     ensures { result ≡ judged shown came }
 {
     match shown {

@@ -30,7 +30,7 @@ impl<D: Dial + Drop> GrpcCaller<D> {
     {
         self.streaming = false;
         let answer = ask_capabilities(self.alloc, &mut self.channel, &self.instance);
-        self.counted(answer)
+        self.count_fault(answer)
     }
 
     /// The result that the action cache has for an action, or none.
@@ -46,7 +46,7 @@ impl<D: Dial + Drop> GrpcCaller<D> {
     {
         self.streaming = false;
         let answer = ask_result(self.alloc, &mut self.channel, &self.instance, action);
-        self.counted(answer)
+        self.count_fault(answer)
     }
 
     /// Which of these blobs the farm lacks.
@@ -61,7 +61,7 @@ impl<D: Dial + Drop> GrpcCaller<D> {
     {
         self.streaming = false;
         let answer = ask_missing(self.alloc, &mut self.channel, &self.instance, digests);
-        self.counted(answer)
+        self.count_fault(answer)
     }
 
     /// Stores these blobs in one batch.
@@ -76,7 +76,7 @@ impl<D: Dial + Drop> GrpcCaller<D> {
     {
         self.streaming = false;
         let answer = ask_update(self.alloc, &mut self.channel, &self.instance, blobs);
-        self.counted(answer)
+        self.count_fault(answer)
     }
 
     /// The bytes of these blobs in one batch.
@@ -93,6 +93,6 @@ impl<D: Dial + Drop> GrpcCaller<D> {
     {
         self.streaming = false;
         let answer = ask_read(self.alloc, &mut self.channel, &self.instance, digests);
-        self.counted(answer)
+        self.count_fault(answer)
     }
 }

@@ -99,7 +99,7 @@ impl<D: Dial + Drop> GrpcCaller<D> {
             return Err(CallFault::NoMemory);
         };
         let answer = self.start(Begun::Executed(*action), Method::Execute, &question);
-        self.counted(answer)
+        self.count_fault(answer)
     }
 
     /// Waits for the execution of this name.
@@ -116,7 +116,7 @@ impl<D: Dial + Drop> GrpcCaller<D> {
             return Err(CallFault::NoMemory);
         };
         let answer = self.start(Begun::Waited(kept), Method::WaitExecution, &question);
-        self.counted(answer)
+        self.count_fault(answer)
     }
 
     /// The next state of the execution that was begun or waited for last.
@@ -139,7 +139,7 @@ impl<D: Dial + Drop> GrpcCaller<D> {
         if let Ok(operation) = &answer {
             self.streaming = operation.done.is_none();
         }
-        self.counted(answer)
+        self.count_fault(answer)
     }
 
     /// The bytes of one blob, as a stream.
@@ -156,7 +156,7 @@ impl<D: Dial + Drop> GrpcCaller<D> {
     {
         self.streaming = false;
         let answer = read_blob(self.alloc, &mut self.channel, &self.instance, digest);
-        self.counted(answer)
+        self.count_fault(answer)
     }
 
     /// Stores one blob as a stream.
@@ -175,6 +175,6 @@ impl<D: Dial + Drop> GrpcCaller<D> {
             return Err(CallFault::NoMemory);
         };
         let answer = write_blob(self.alloc, &mut self.channel, name, bytes);
-        self.counted(answer)
+        self.count_fault(answer)
     }
 }

@@ -18,11 +18,11 @@ ghost use Rattle.rx_grpc.specs.declared.transfer_fault.TransferFault.TheVariants
 
 use crate::answer::Answer;
 use crate::body::{Body, NoBody};
-use crate::came::judge;
+use crate::came::answer_or_fault;
 use crate::open_call::OpenCall;
 use crate::stream_item::StreamItem;
 use crate::transfer_fault::TransferFault;
-use crate::turn::turn;
+use crate::turn::take_turn;
 use rx_h2conn::Conn;
 use rx_world::Link;
 use std::alloc::Global;
@@ -60,9 +60,9 @@ pub fn answer_of<L: Link, B: Body>(
     ensures cause { HasCauseOf lost (L.faults link.old) (L.faults link.new) result }
 {
     while opened.room > 0 {
-        turn(alloc, link, conn, opened, body)?;
+        take_turn(alloc, link, conn, opened, body)?;
         let shown = opened.call.answers.unary(opened.came.is_end());
-        if let Some(done) = judge(shown, opened.came) {
+        if let Some(done) = answer_or_fault(shown, opened.came) {
             return done;
         }
     }
@@ -95,9 +95,9 @@ fn item_behind_turns<L: Link>(
     ensures cause { HasCauseOf lost (L.faults link.old) (L.faults link.new) result }
 {
     while opened.room > 0 {
-        turn(alloc, link, conn, opened, &mut NoBody {})?;
+        take_turn(alloc, link, conn, opened, &mut NoBody {})?;
         let shown = opened.call.next_item(opened.came.is_end());
-        if let Some(done) = judge(shown, opened.came) {
+        if let Some(done) = answer_or_fault(shown, opened.came) {
             return done;
         }
     }
@@ -128,7 +128,7 @@ pub fn item_of<L: Link>(
         return Err(TransferFault::Protocol(CALM));
     }
     let shown = opened.call.next_item(opened.came.is_end());
-    if let Some(done) = judge(shown, opened.came) {
+    if let Some(done) = answer_or_fault(shown, opened.came) {
         return done;
     }
     item_behind_turns(alloc, link, conn, opened)

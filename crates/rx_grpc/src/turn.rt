@@ -108,7 +108,7 @@ fn hear<L: Link>(link: &mut L, conn: &mut Conn, opened: &mut OpenCall) -> Result
 }
 
 /// Sends what is due of the request and of its body, takes in one piece, and hears its events.
-pub fn turn<L: Link, B: Body>(
+pub fn take_turn<L: Link, B: Body>(
     alloc: Global,
     link: &mut L,
     conn: &mut Conn,

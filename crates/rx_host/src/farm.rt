@@ -122,7 +122,7 @@ impl<H: Hands> Caller<HostWorld> for HostFarm<H> {
     fn next_operation(&mut self) -> Result<Operation, CallFault> {
         if !self.caller.is_streaming() {
             self.streaming = false;
-            return self.caller.counted(Err(CallFault::Cut));
+            return self.caller.count_fault(Err(CallFault::Cut));
         }
         let answer = self.caller.hear_operation();
         self.streaming = self.caller.is_streaming();

@@ -2,7 +2,7 @@ mod EndLemmas
 mod FollowLemmas
 pub mod KnownLemmas
 pub mod LeftLemmas
-mod NextLemmas
+pub mod NextLemmas
 pub mod OpenedLemmas
 mod PassLemmas
 mod ProgressLemmas

@@ -39,7 +39,7 @@ popped-apart path p mid w r a = λ x k h. a x (subst (λ xs. Contains xs x) (sym
 pub popped-new : (p : Progress) (path : List ℕ) (rest : List (List ℕ)) → p.waiting ≡ path ∷ rest → AreApart p → Contains (paths_of p.read) path → ⊥
 popped-new p path rest w a h = a path (subst (λ xs. Contains xs path) (sym w) (Contains-head path rest)) h
 
-led-file : (scene : Scene) (search : Search) (files : List (List ℕ)) (path : List ℕ) → LeadsTo scene search files path → is_file (scene.look path) ≡ true
+pub led-file : (scene : Scene) (search : Search) (files : List (List ℕ)) (path : List ℕ) → LeadsTo scene search files path → is_file (scene.look path) ≡ true
 led-file scene search [] path (inl h) = h.1
 led-file scene search [] path (inr h) = h.2.file
 led-file scene search (before ∷ others) path h = h.1.2.file

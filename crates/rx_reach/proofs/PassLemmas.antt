@@ -22,9 +22,10 @@ Names = List (List ℕ)
 abbrev HasShort : Step → Type 0
 HasShort step = length step.path ≤ longest
 
-All-right : (xs ys : List Step) → AreShort (xs ++ ys) → AreShort ys
-All-right [] ys h = h
-All-right (x ∷ xs) ys h = All-right xs ys (All-tail HasShort x (xs ++ ys) h)
+-- the second of two stretches that are short together
+pub short-right : (xs ys : List Step) → AreShort (xs ++ ys) → AreShort ys
+short-right [] ys h = h
+short-right (x ∷ xs) ys h = short-right xs ys (All-tail HasShort x (xs ++ ys) h)
 
 -- ---- one part, and the others
 
@@ -98,8 +99,8 @@ part-long all names final names0 before before0 i part t leads short some long s
     let r = bind_ok (with_part names part) (λ next. with_parts next (drop (i + 1) all)) final (sym (with_parts-drop all names i part t) ∙ leads) in
     let next = with_part-next names r.0 part some r.1 in
     let whole = subst AreShort (sym same) (All-append HasShort before0 (steps names0 all) h k) in
-    let rest = All-right before (steps names (drop i all)) whole in
-    let after = All-right (steps names (part ∷ [])) (steps r.0 (drop (i + 1) all)) (subst AreShort (part-steps all names r.0 i part t r.1) rest) in
+    let rest = short-right before (steps names (drop i all)) whole in
+    let after = short-right (steps names (part ∷ [])) (steps r.0 (drop (i + 1) all)) (subst AreShort (part-steps all names r.0 i part t r.1) rest) in
     long-ends r.0 final (drop (i + 1) all) r.2 short (subst (λ ns. longest < length (joined ns)) (sym next) long) after
 
 -- ---- a name in a directory
@@ -159,9 +160,6 @@ way-is dir name at e = steps-append [] (names_of at) (parts dir) (parts name) e
 pub short-left : (xs ys : List Step) → AreShort (xs ++ ys) → AreShort xs
 short-left [] ys h = All-nil HasShort
 short-left (x ∷ xs) ys h = All-cons HasShort x xs (All-head HasShort x (xs ++ ys) h) (short-left xs ys (All-tail HasShort x (xs ++ ys) h))
-
-pub short-right : (xs ys : List Step) → AreShort (xs ++ ys) → AreShort ys
-short-right xs ys h = All-right xs ys h
 
 -- the first of them, whatever the name
 pub way-front : (dir name : List ℕ) → IsPath dir → AreShort (way (record { dir = dir; name = name })) → AreShort (steps [] (parts dir))

@@ -14,7 +14,7 @@ ghost use Rattle.rx_remote.specs.Runs.{EndsAfter, EndsOr, HasBegun, HasRun, HasT
 use crate::RemoteJob;
 use crate::begins::{Begun, begin};
 use crate::jobs::{Action, blobs_of, task_of};
-use crate::turns::{Going, turn};
+use crate::turns::{Going, take_turn};
 use rx_action::action_of;
 use rx_blobs::batch_limit;
 use rx_exec_messages::Caller;
@@ -137,7 +137,7 @@ fn run_on<W: World, C: Caller<W>, S: Sources<W>, T: Stop, R: Wait>(
 {
     let mut going = going;
     loop {
-        match turn::<W, C, S, T, R>(rt, alloc, action, caller, sources, stop, going) {
+        match take_turn::<W, C, S, T, R>(rt, alloc, action, caller, sources, stop, going) {
             Err(end) => return end,
             Ok(next) => going = next,
         }

@@ -43,7 +43,7 @@ pub(crate) fn no_memory() -> End<Outcome, RemoteCause>
 }
 
 /// One turn: the attempt goes on, or this is its end.
-pub(crate) fn turn<W: World, C: Caller<W>, S: Sources<W>, T: Stop, R: Wait>(
+pub(crate) fn take_turn<W: World, C: Caller<W>, S: Sources<W>, T: Stop, R: Wait>(
     rt: &R,
     alloc: Global,
     action: &Action<'_>,

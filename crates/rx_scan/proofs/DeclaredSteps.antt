@@ -35,7 +35,7 @@ use Rattle.rx_scan.proofs.InputSteps.{taken}
 abbrev Sights : Type 0
 Sights = List (List ℕ × Look)
 
-all-of : (P : List ℕ → Type 0) (xs : List (List ℕ)) → ((x : List ℕ) → Contains xs x → P x) → All P xs
+pub all-of : (P : List ℕ → Type 0) (xs : List (List ℕ)) → ((x : List ℕ) → Contains xs x → P x) → All P xs
 all-of P xs f = λ k d lt. f (get_or xs k d) (Contains-get_or xs k d lt)
 
 pub many-so : (P Q : List ℕ → Type 0) → ((x : List ℕ) → P x → Q x) → HasTooMany P → HasTooMany Q
@@ -138,11 +138,11 @@ of_declared scene inputs roots first looked path h l (t, inl (input, c, inr b)) 
 pub any-contains : (p : List ℕ → Bool) (xs : List (List ℕ)) (x : List ℕ) → Contains xs x → p x ≡ true → list_any p xs ≡ true
 any-contains p xs x c t = list_any_at p xs c.0 x c.1 (subst (λ y. p y ≡ true) (sym c.2) t)
 
-false_not : (b : Bool) → not b ≡ true → b ≡ false
+pub false_not : (b : Bool) → not b ≡ true → b ≡ false
 false_not true e = absurd (true≢false (sym e))
 false_not false e = refl
 
-not_true : (b : Bool) → (b ≡ true → ⊥) → b ≡ false
+pub not_true : (b : Bool) → (b ≡ true → ⊥) → b ≡ false
 not_true true f = absurd (f refl)
 not_true false f = refl
 

@@ -19,13 +19,14 @@ use Rattle.rx_reach.specs.Candidates.{is_dir}
 use Rattle.rx_reach.specs.FileTables.{paths_of}
 use Rattle.rx_scan.specs.Inputs.{IsDeclaredBy}
 use Rattle.rx_scan.specs.Limits.{check_of}
-use Rattle.rx_reach.specs.Reach.{IsHard, IsLeastPath, IsLeft, IsReached, LeadsTo}
+use Rattle.rx_reach.specs.Reach.{IsHard, IsLeastPath, IsLeft, IsReached}
 use Rattle.rx_scan.specs.Scanned.{IsDirBy, IsPathsOf, IsReachOf, IsReachedBy, IsScanListBy, IsScanOf, IsScannedBy}
 use Rattle.rx_reach.specs.Scenes.{AreRight, Scene}
 use Rattle.rx_scan.specs.SeenDirs.{is_dir_seen}
 use Rattle.rx_scan.specs.SeenFiles.{file_seen}
 use Rattle.rx_reach.specs.Sights.{IsKnownAt, seen_at}
 use Rattle.rx_reach.proofs.LeftLemmas.{left-dir}
+use Rattle.rx_reach.proofs.NextLemmas.{led-file}
 use Rattle.rx_scan.proofs.PathSteps.{in-filter}
 use Rattle.rx_scan.proofs.WholeTaken.{IsKnown, same-looks, same-paths, sorted-seen}
 
@@ -98,14 +99,9 @@ paths-of scene inputs meaning declared reached files dirs d r few fs ds = record
 
 -- ---- they are files and directories
 
-leads-file : (scene : Scene) (search : Search) (files : List (List ℕ)) (path : List ℕ) → LeadsTo scene search files path → is_file (scene.look path) ≡ true
-leads-file scene search [] path (inl h) = h.1
-leads-file scene search [] path (inr h) = h.2.file
-leads-file scene search (before ∷ others) path h = h.1.2.file
-
 scanned-file : (scene : Scene) (inputs : List (List ℕ)) (meaning : WordMeaning) (path : List ℕ) → IsScannedBy scene inputs meaning path → is_file (scene.look path) ≡ true
 scanned-file scene inputs meaning path (inl d) = d.0
-scanned-file scene inputs meaning path (inr r) = leads-file scene r.0 r.2.0 path r.2.1
+scanned-file scene inputs meaning path (inr r) = led-file scene r.0 r.2.0 path r.2.1
 
 dir-is : (scene : Scene) (inputs : List (List ℕ)) (meaning : WordMeaning) (path : List ℕ) → IsDirBy scene inputs meaning path → is_dir (scene.look path) ≡ true
 dir-is scene inputs meaning path (some, inl e) = e.1

@@ -1,5 +1,5 @@
 -- What a whole list leaves of a scene: its files but the outputs, as they were seen.
-use Rattle.std.proofs.Common.{◌≡◌, ◌≢◌, ℕ, ◌≤◌, ◌||◌, Bool, true, false, cond, not, List, [], ◌∷◌, ◌++◌, Less, bytes_eq, filter, filter_map, length, get_or, map, nat_cmp, ltb, refl, sym, ap, subst, ◌∙◌, arith, true≢false}
+use Rattle.std.proofs.Common.{◌≡◌, ◌≢◌, ℕ, ◌≤◌, ◌||◌, Bool, true, false, cond, not, List, [], ◌∷◌, ◌++◌, Less, bytes_eq, filter, filter_map, length, map, nat_cmp, ltb, refl, sym, ap, subst, ◌∙◌, arith, true≢false}
 use Rattle.std.specs.Prelude.{All, Contains, Err, None, Ok, Option, Result, Some}
 use Rattle.std.specs.Cmp.Lexicographic.{nat_list_cmp_total, slice_cmp}
 use Rattle.std.specs.FinMap.{nat_cmp-IsAntisymmetric, slice_cmp-IsAntisymmetric}
@@ -7,7 +7,7 @@ use Rattle.std.specs.List.{AllByRecursion, cons_option, list_any}
 use Rattle.std.specs.List.Sorted.{IsStrictlySortedBy}
 use Rattle.std.proofs.lemmas.Bool.{lt-ltb, ltb-false}
 use Rattle.std.proofs.lemmas.List.{length-map}
-use Rattle.std.proofs.lemmas.List.Elements.{All-cons, All-filter, All-from_recursion, All-head, All-nil, All-tail, Contains-get_or, recursion_from_All}
+use Rattle.std.proofs.lemmas.List.Elements.{All-cons, All-filter, All-from_recursion, All-head, All-nil, All-tail, recursion_from_All}
 use Rattle.std.proofs.lemmas.List.Folds.{list_any_at, list_any_none}
 use Rattle.std.proofs.lemmas.List.Kept.{IsStrictlySortedBy-filter}
 use Rattle.std.proofs.lemmas.Slice.Eq.{bytes_eq-Decides}
@@ -37,6 +37,7 @@ use Rattle.rx_reach.specs.Scenes.{Scene}
 use Rattle.rx_scan.specs.SeenFiles.{file_of_seen, file_seen}
 use Rattle.rx_reach.specs.Sights.{Notes, seen_at}
 use Rattle.rx_scan.specs.Whole.{BlamesWhole, IsListOf, IsSeenIn, IsWholeBy, without}
+use Rattle.rx_scan.proofs.DeclaredSteps.{all-of, false_not, not_true}
 use Rattle.rx_scan.proofs.Learning.{fails-after, fails-always, fails-so, learns-so}
 
 abbrev Sights : Type 0
@@ -150,9 +151,6 @@ known-found : (sights : Sights) (scene : Scene) (found : List Found) → AllByRe
 known-found sights scene [] l s t = tt
 known-found sights scene (f ∷ fs) l s t = ((s.0 ∙ ap (λ look. Some look) l.0, t.0), known-found sights scene fs l.1 s.1 t.1)
 
-all-of : (P : List ℕ → Type 0) (xs : List (List ℕ)) → ((x : List ℕ) → Contains xs x → P x) → All P xs
-all-of P xs f = λ k d lt. f (get_or xs k d) (Contains-get_or xs k d lt)
-
 -- what was found and noted is known
 pub record IsKnownList (sights : Sights) (scene : Scene) (paths : List (List ℕ)) : Type 0 where
   pub sorted : AreSorted paths
@@ -194,14 +192,6 @@ list-of sights scene paths h =
 
 any-is : (xs : List (List ℕ)) (path : List ℕ) → Contains xs path → list_any (λ other. bytes_eq path other) xs ≡ true
 any-is xs path c = list_any_at (λ other. bytes_eq path other) xs c.0 path c.1 (subst (λ y. bytes_eq path y ≡ true) (sym c.2) ((bytes_eq-Decides path path).1 refl))
-
-false_not : (b : Bool) → not b ≡ true → b ≡ false
-false_not true e = absurd (true≢false (sym e))
-false_not false e = refl
-
-not_true : (b : Bool) → (b ≡ true → ⊥) → b ≡ false
-not_true true f = absurd (f refl)
-not_true false f = refl
 
 none-is : (xs : List (List ℕ)) (path : List ℕ) → (Contains xs path → ⊥) → list_any (λ other. bytes_eq path other) xs ≡ false
 none-is xs path f = list_any_none (λ other. bytes_eq path other) xs (all-of (λ other. bytes_eq path other ≡ false) xs (λ other c. not_true (bytes_eq path other) (λ e. f (subst (λ p. Contains xs p) (sym ((bytes_eq-Decides path other).0 e)) c))))

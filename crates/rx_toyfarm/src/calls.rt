@@ -32,7 +32,7 @@ impl<K: Contents> Caller<Toy<K>> for ToyFarm {
 
     fn get_result(&mut self, action: &Digest) -> Result<Option<ActionResult>, CallFault> {
         let answer = self.cached_result(action);
-        self.counted(answer)
+        self.count_fault(answer)
     }
 
     fn find_missing(&mut self, digests: &[Digest]) -> Result<Items<Digest>, CallFault> {
@@ -44,36 +44,36 @@ impl<K: Contents> Caller<Toy<K>> for ToyFarm {
 
     fn update(&mut self, blobs: &[NamedBlob]) -> Result<(), CallFault> {
         let answer = self.take_all(blobs);
-        self.counted(answer)
+        self.count_fault(answer)
     }
 
     fn read(&mut self, digests: &[Digest]) -> Result<Items<Bytes>, CallFault> {
         let answer = self.give_all(digests);
-        self.counted(answer)
+        self.count_fault(answer)
     }
 
     fn write_stream(&mut self, digest: &Digest, bytes: &[u8]) -> Result<(), CallFault> {
         let answer = self.take(digest, bytes);
-        self.counted(answer)
+        self.count_fault(answer)
     }
 
     fn read_stream(&mut self, digest: &Digest) -> Result<Bytes, CallFault> {
         let answer = self.give(digest);
-        self.counted(answer)
+        self.count_fault(answer)
     }
 
     fn execute(&mut self, action: &Digest, skip_cache: bool) -> Result<(), CallFault> {
         let answer = self.begin(action, skip_cache);
-        self.counted(answer)
+        self.count_fault(answer)
     }
 
     fn wait(&mut self, name: &str) -> Result<(), CallFault> {
         let answer = self.resume(name);
-        self.counted(answer)
+        self.count_fault(answer)
     }
 
     fn next_operation(&mut self) -> Result<Operation, CallFault> {
         let answer = self.go_on();
-        self.counted(answer)
+        self.count_fault(answer)
     }
 }

@@ -68,7 +68,10 @@ impl ToyFarm {
     }
 
     /// Counts the fault of an answer, unless it is want of memory.
-    pub(crate) fn counted<T: Drop>(&mut self, answer: Result<T, CallFault>) -> Result<T, CallFault>
+    pub(crate) fn count_fault<T: Drop>(
+        &mut self,
+        answer: Result<T, CallFault>,
+    ) -> Result<T, CallFault>
         ensures same { result ≡ answer }
         ensures cause { HasCallCause self.old.faults self.new.faults result }
         ensures rest { self.new ≡ record self.old { faults = self.new.faults } }

@@ -1,6 +1,6 @@
 use Rattle.std.proofs.Common.{◌≤◌, ◌-◌, vec_len}
 use Rattle.std.specs.Prelude.{max}
-use Rattle.rx_client.specs.Heard.{ReadsOn}
+use Rattle.rx_session.specs.Streams.{ReadsOn}
 use Rattle.rx_client.proofs.streams.read_up_to.Given as goal
 
 abbrev pub invariant-pieces : goal.invariant-pieces

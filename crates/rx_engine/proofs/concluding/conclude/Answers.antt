@@ -19,7 +19,7 @@ returns-clause-concluded g c =
           c.finish.new.output c.args.board.now _ w.in-Refused.answered w.in-Refused.is w.none.ensures
           (rw w.handled-is at c.finish.ensures.finished) c.finish.ensures.written c.finish.ensures.sink c.finish.ensures.later)
       | in-Attempted w ↦ rw w.board-is (concluded-attempted _ _ _ _ _ _ _ _ _ g.P.Place c.args.parts.now c.args.number c.args.pending c.finish.result
-          c.finish.new.output c.args.board.now w.settle-handled.new.board w.in-Attempted.attempted w.settle-handled.result.answered w.in-Attempted.is
-          w.settle-handled.ensures.answered (rw w.settle-handled.ensures.tally at w.settle-handled.ensures.journal)
-          (rw (w.handled-is, w.settle-handled.ensures.tally) at c.finish.ensures.finished) c.finish.ensures.written c.finish.ensures.sink c.finish.ensures.later)
+          c.finish.new.output c.args.board.now w.publish_or_fail-handled.new.board w.in-Attempted.attempted w.publish_or_fail-handled.result.answered w.in-Attempted.is
+          w.publish_or_fail-handled.ensures.answered (rw w.publish_or_fail-handled.ensures.tally at w.publish_or_fail-handled.ensures.journal)
+          (rw (w.handled-is, w.publish_or_fail-handled.ensures.tally) at c.finish.ensures.finished) c.finish.ensures.written c.finish.ensures.sink c.finish.ensures.later)
     ]

@@ -9,23 +9,23 @@ loop-opened-init g c = talking_starts unary _ (g.L.Link.rule c.args.link.now) _ 
 
 pub returns-in-Some-clause-fault : goal.returns-in-Some-clause-fault
 returns-in-Some-clause-fault g c =
-    judged_breaks unary unary 0 _ _ _ (g.L.Link.rule c.turn.new.link) _ _ c.turn.new.opened c.unary-shown.result c.in-Some.done _ unary_look c.in_ok-turn.ensures.opened (c.in_ok-turn.ensures.place ∙ (c.loop-opened.invariant.place_is ∙ c.requires.place)) (c.in_ok-turn.ensures.id ∙ c.loop-opened.invariant.same) (c.unary-shown.ensures.answer ∙ ap (λ b. unary b c.turn.new.opened.call.answers) c.is_end.ensures) (sym c.judge.ensures ∙ c.in-Some.is)
+    judged_breaks unary unary 0 _ _ _ (g.L.Link.rule c.take_turn.new.link) _ _ c.take_turn.new.opened c.unary-shown.result c.in-Some.done _ unary_look c.in_ok-take_turn.ensures.opened (c.in_ok-take_turn.ensures.place ∙ (c.loop-opened.invariant.place_is ∙ c.requires.place)) (c.in_ok-take_turn.ensures.id ∙ c.loop-opened.invariant.same) (c.unary-shown.ensures.answer ∙ ap (λ b. unary b c.take_turn.new.opened.call.answers) c.is_end.ensures) (sym c.answer_or_fault.ensures ∙ c.in-Some.is)
 
 pub returns-in-Some-clause-over : goal.returns-in-Some-clause-over
 returns-in-Some-clause-over g c =
-    judged_over unary unary 0 _ (g.L.Link.rule c.turn.new.link) _ _ c.turn.new.opened c.unary-shown.result c.in-Some.done _ unary_look c.in_ok-turn.ensures.opened (c.in_ok-turn.ensures.place ∙ (c.loop-opened.invariant.place_is ∙ c.requires.place)) (c.in_ok-turn.ensures.id ∙ c.loop-opened.invariant.same) (c.unary-shown.ensures.answer ∙ ap (λ b. unary b c.turn.new.opened.call.answers) c.is_end.ensures) (sym c.judge.ensures ∙ c.in-Some.is)
+    judged_over unary unary 0 _ (g.L.Link.rule c.take_turn.new.link) _ _ c.take_turn.new.opened c.unary-shown.result c.in-Some.done _ unary_look c.in_ok-take_turn.ensures.opened (c.in_ok-take_turn.ensures.place ∙ (c.loop-opened.invariant.place_is ∙ c.requires.place)) (c.in_ok-take_turn.ensures.id ∙ c.loop-opened.invariant.same) (c.unary-shown.ensures.answer ∙ ap (λ b. unary b c.take_turn.new.opened.call.answers) c.is_end.ensures) (sym c.answer_or_fault.ensures ∙ c.in-Some.is)
 
 pub loop-opened-preserved : goal.loop-opened-preserved
 loop-opened-preserved g c =
-    talking_judged unary unary 0 _ _ _ (g.L.Link.rule c.args.link.now) (g.L.Link.rule c.loop-opened.link) (g.L.Link.rule c.turn.new.link) _ _ _ _ _ c.args.opened.now c.loop-opened.opened c.turn.new.opened _ c.unary-shown.result _ _ _ _ _ (g.B.Body.messages c.turn.new.body) unary_look c.loop-opened.invariant c.in_ok-turn.ensures.opened (c.unary-shown.ensures.answer ∙ ap (λ b. unary b c.turn.new.opened.call.answers) c.is_end.ensures) (sym c.judge.ensures ∙ c.in_default.is) (λ none. record { id = refl; answers = c.unary-shown.ensures.after ∙ ap (λ x. after_answer x c.turn.new.opened.call.answers) none; place = refl; away = refl; request = refl; room = refl; came = refl }) c.in_ok-turn.ensures.carries c.in_ok-turn.ensures.id c.in_ok-turn.ensures.place c.in_ok-turn.ensures.rule c.in_ok-turn.ensures.cause.later c.in_ok-turn.ensures.asks
+    talking_judged unary unary 0 _ _ _ (g.L.Link.rule c.args.link.now) (g.L.Link.rule c.loop-opened.link) (g.L.Link.rule c.take_turn.new.link) _ _ _ _ _ c.args.opened.now c.loop-opened.opened c.take_turn.new.opened _ c.unary-shown.result _ _ _ _ _ (g.B.Body.messages c.take_turn.new.body) unary_look c.loop-opened.invariant c.in_ok-take_turn.ensures.opened (c.unary-shown.ensures.answer ∙ ap (λ b. unary b c.take_turn.new.opened.call.answers) c.is_end.ensures) (sym c.answer_or_fault.ensures ∙ c.in_default.is) (λ none. record { id = refl; answers = c.unary-shown.ensures.after ∙ ap (λ x. after_answer x c.take_turn.new.opened.call.answers) none; place = refl; away = refl; request = refl; room = refl; came = refl }) c.in_ok-take_turn.ensures.carries c.in_ok-take_turn.ensures.id c.in_ok-take_turn.ensures.place c.in_ok-take_turn.ensures.rule c.in_ok-take_turn.ensures.cause.later c.in_ok-take_turn.ensures.asks
 
 pub returns-clause-fault : goal.returns-clause-fault
 returns-clause-fault g c = inr (refl, talking_fills unary unary 0 _ _ (g.L.Link.rule c.args.link.now) (g.L.Link.rule c.loop-opened.link) _ _ _ c.args.opened.now c.loop-opened.opened _ _ _ _ unary_look c.requires.place c.loop-opened.invariant (search rules))
 
 pub returns-in-Some-clause-carries : goal.returns-in-Some-clause-carries
 returns-in-Some-clause-carries g c =
-    carries_done _ _ _ _ _ _ c.in-Some.done (carries_trans _ _ _ _ _ _ _ _ _ c.loop-opened.invariant.carries c.in_ok-turn.ensures.carries)
+    carries_done _ _ _ _ _ _ c.in-Some.done (carries_trans _ _ _ _ _ _ _ _ _ c.loop-opened.invariant.carries c.in_ok-take_turn.ensures.carries)
 
 pub returns-in-Some-clause-asked : goal.returns-in-Some-clause-asked
 returns-in-Some-clause-asked g c =
-    judged_concludes unary unary 0 (g.L.Link.wire c.args.link.now) _ (g.L.Link.rule c.args.link.now) (g.L.Link.rule c.turn.new.link) _ _ _ c.args.opened.now c.turn.new.opened c.unary-shown.result c.in-Some.done (g.B.Body.messages c.args.body.now) (g.B.Body.messages c.turn.new.body) unary_look c.in_ok-turn.ensures.opened (c.in_ok-turn.ensures.place ∙ (c.loop-opened.invariant.place_is ∙ c.requires.place)) (c.in_ok-turn.ensures.id ∙ c.loop-opened.invariant.same) (c.unary-shown.ensures.answer ∙ ap (λ b. unary b c.turn.new.opened.call.answers) c.is_end.ensures) (sym c.judge.ensures ∙ c.in-Some.is) (λ fields messages given a. c.in_ok-turn.ensures.asks fields messages given (c.loop-opened.invariant.asks fields messages given a))
+    judged_concludes unary unary 0 (g.L.Link.wire c.args.link.now) _ (g.L.Link.rule c.args.link.now) (g.L.Link.rule c.take_turn.new.link) _ _ _ c.args.opened.now c.take_turn.new.opened c.unary-shown.result c.in-Some.done (g.B.Body.messages c.args.body.now) (g.B.Body.messages c.take_turn.new.body) unary_look c.in_ok-take_turn.ensures.opened (c.in_ok-take_turn.ensures.place ∙ (c.loop-opened.invariant.place_is ∙ c.requires.place)) (c.in_ok-take_turn.ensures.id ∙ c.loop-opened.invariant.same) (c.unary-shown.ensures.answer ∙ ap (λ b. unary b c.take_turn.new.opened.call.answers) c.is_end.ensures) (sym c.answer_or_fault.ensures ∙ c.in-Some.is) (λ fields messages given a. c.in_ok-take_turn.ensures.asks fields messages given (c.loop-opened.invariant.asks fields messages given a))

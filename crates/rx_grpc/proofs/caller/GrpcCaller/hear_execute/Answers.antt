@@ -19,10 +19,10 @@ returns-clause-heard g c =
     let asked =
     ap (λ (question : ExecuteRequest). one Execute (fields_bytes (execute_request_fields question))) c.in-Ok.ensures
     ∙ ap (λ x. asks_execute x.instance c.args.action.now c.args.skip_cache) c.self.view_is in
-    rw (c.counted.ensures.same, c.counted.ensures.rest) (items-same g.D.Dial.faults g.D.Dial.rule g.D.L.Link _ _ _ _ _ asked c.start-answer.ensures.heard)
+    rw (c.count_fault.ensures.same, c.count_fault.ensures.rest) (items-same g.D.Dial.faults g.D.Dial.rule g.D.L.Link _ _ _ _ _ asked c.start-answer.ensures.heard)
 
 pub returns-clause-stays : goal.returns-clause-stays
-returns-clause-stays g c = rw c.counted.ensures.rest (counted-honest g.D.Dial.rule _ c.start-answer.new.self _ c.start-answer.ensures.stays)
+returns-clause-stays g c = rw c.count_fault.ensures.rest (counted-honest g.D.Dial.rule _ c.start-answer.new.self _ c.start-answer.ensures.stays)
 
 pub start-answer-requires : goal.start-answer-requires
 start-answer-requires g c = (

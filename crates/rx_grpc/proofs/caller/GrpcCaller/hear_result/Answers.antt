@@ -4,7 +4,7 @@ use Rattle.rx_grpc.proofs.caller.GrpcCaller.hear_result.Goals as goal
 
 pub returns-clause-agrees : goal.returns-clause-agrees
 returns-clause-agrees g c =
-    rw (← c.self.view_is, c.counted.ensures.same) (result-honest g.D.Dial.faults g.D.Dial.rule g.D.L.Link (record { channel = c.self.inside.channel; instance = c.self.inside.instance; begun = c.self.inside.begun; first = c.self.inside.first; streaming = c.self.inside.streaming; faults = c.self.inside.faults }) c.ask_result-answer.new.channel c.args.action.now c.ask_result-answer.result c.ask_result-answer.ensures)
+    rw (← c.self.view_is, c.count_fault.ensures.same) (result-honest g.D.Dial.faults g.D.Dial.rule g.D.L.Link (record { channel = c.self.inside.channel; instance = c.self.inside.instance; begun = c.self.inside.begun; first = c.self.inside.first; streaming = c.self.inside.streaming; faults = c.self.inside.faults }) c.ask_result-answer.new.channel c.args.action.now c.ask_result-answer.result c.ask_result-answer.ensures)
 
 pub returns-clause-stays : goal.returns-clause-stays
-returns-clause-stays g c = rw (← c.self.view_is, c.counted.ensures.rest) (stays-honest g.D.Dial.rule _ _ c.ask_result-answer.ensures.keeps refl)
+returns-clause-stays g c = rw (← c.self.view_is, c.count_fault.ensures.rest) (stays-honest g.D.Dial.rule _ _ c.ask_result-answer.ensures.keeps refl)

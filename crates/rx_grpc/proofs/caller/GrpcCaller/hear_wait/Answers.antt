@@ -17,10 +17,10 @@ returns-in_default-clause-heard g c =
 pub returns-clause-heard : goal.returns-clause-heard
 returns-clause-heard g c =
     let asked = ap (λ (question : WaitExecutionRequest). one WaitExecution (fields_bytes (wait_execution_request_fields question))) c.in-Ok.ensures.asks in
-    rw (c.counted.ensures.same, c.counted.ensures.rest) (items-same g.D.Dial.faults g.D.Dial.rule g.D.L.Link _ _ _ _ _ asked c.start-answer.ensures.heard)
+    rw (c.count_fault.ensures.same, c.count_fault.ensures.rest) (items-same g.D.Dial.faults g.D.Dial.rule g.D.L.Link _ _ _ _ _ asked c.start-answer.ensures.heard)
 
 pub returns-clause-stays : goal.returns-clause-stays
-returns-clause-stays g c = rw c.counted.ensures.rest (counted-honest g.D.Dial.rule _ c.start-answer.new.self _ c.start-answer.ensures.stays)
+returns-clause-stays g c = rw c.count_fault.ensures.rest (counted-honest g.D.Dial.rule _ c.start-answer.new.self _ c.start-answer.ensures.stays)
 
 pub start-answer-requires : goal.start-answer-requires
 start-answer-requires g c =

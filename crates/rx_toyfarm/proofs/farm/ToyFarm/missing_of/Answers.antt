@@ -1,4 +1,4 @@
-use Rattle.rx_toyfarm.proofs.PartLemmas.{part-keeps, part-passes}
+use Rattle.rx_exec_messages.proofs.ScriptLemmas.{part-keeps, part-passes}
 use Rattle.rx_toyfarm.proofs.farm.ToyFarm.missing_of.Goals as goal
 use Rattle.rx_toyfarm.proofs.farm.ToyFarm.missing_of.Goals.{else-not-has, then-not-has+in_ok-push}
 

@@ -12,7 +12,7 @@ use Rattle.rx_remote.proofs.ReadLemmas.{own-end, read-are}
 use Rattle.rx_remote.proofs.RunEnds.{under-ends, under-on}
 use Rattle.rx_remote.proofs.RunLemmas.{next-is, not-ended}
 use Rattle.rx_remote.proofs.StopTold.{end-tells, memory-tells, on-tells}
-use Rattle.rx_remote.proofs.turns.turn.Goals as goal
+use Rattle.rx_remote.proofs.turns.take_turn.Goals as goal
 
 pub listen-heard-requires-clause-on : goal.listen-heard-requires-clause-on
 listen-heard-requires-clause-on g c = c.requires.begun.under.running.on

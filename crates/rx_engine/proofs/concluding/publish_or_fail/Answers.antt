@@ -1,8 +1,8 @@
 use Rattle.std.proofs.Common.{refl}
 use Rattle.rx_engine.proofs.Entries.{published-enters, unpublished-enters}
 use Rattle.rx_engine.proofs.Unpublished.{failed}
-use Rattle.rx_engine.proofs.concluding.settle.Goals as goal
-use Rattle.rx_engine.proofs.concluding.settle.Goals.{in-None, in-Some}
+use Rattle.rx_engine.proofs.concluding.publish_or_fail.Goals as goal
+use Rattle.rx_engine.proofs.concluding.publish_or_fail.Goals.{in-None, in-Some}
 
 pub returns-clause-journal : goal.returns-clause-journal
 returns-clause-journal g c = λ first.
