@@ -1,6 +1,6 @@
 //! Calls on a farm over links in memory, by the names of `remote_execution.proto`.
 
-use crate::farms::read_answer;
+use crate::farms::{read_answer, read_refusal};
 use rx_base::{Bytes, Digest, Items, Text};
 use rx_exec_messages::{Capabilities, NamedBlob, Operation};
 use rx_fakes::{Ahead, MemoryDial, Script};
@@ -228,6 +228,7 @@ fn call_farm(
             Err(fault) => write_fault(fault, answer),
         },
         "faults" => answer.number(caller.faults()),
+        "text" => answer.text(caller.status_text()),
         "hang_up" => {
             caller.hang_up();
             write_done(answer)
@@ -258,12 +259,27 @@ impl Callers {
         answer: &mut Answer,
     ) -> Result<(), RowFault> {
         let bytes = read_answer(self.alloc, row, lacking)?;
+        Ok(self.link(bytes, answer)?)
+    }
+
+    /// `refuse STATUS TEXT`: one more link.
+    pub(crate) fn refuse(
+        &mut self,
+        row: &mut Row<'_>,
+        answer: &mut Answer,
+    ) -> Result<(), RowFault> {
+        let bytes = read_refusal(self.alloc, row)?;
+        Ok(self.link(bytes, answer)?)
+    }
+
+    /// One more link that sends these bytes.
+    fn link(&mut self, bytes: Vec<u8>, answer: &mut Answer) -> Result<(), AllocError> {
         self.ahead.push_back(Ahead {
             bytes,
             most: MOST,
             fails: Vec::new(self.alloc),
         })?;
-        Ok(answer.word("ok")?)
+        answer.word("ok")
     }
 
     /// `client INSTANCE`: a client of the farm that makes these links.

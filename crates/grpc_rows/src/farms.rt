@@ -25,6 +25,9 @@ const SUCCESS: &[u8; 1] = b"\x88";
 /// A literal without indexing (RFC 7541 6.2.2), of the name `grpc-status`.
 const STATUS: &[u8; 13] = b"\x00\x0bgrpc-status";
 
+/// The same of the name `grpc-message`.
+const TEXT: &[u8; 14] = b"\x00\x0cgrpc-message";
+
 /// GOAWAY (6.8) after stream 1, without an error.
 const GONE: &[u8; 17] = b"\x00\x00\x08\x07\x00\x00\x00\x00\x00\x00\x00\x00\x01\x00\x00\x00\x00";
 
@@ -63,12 +66,26 @@ fn push_message(
     push_frame(bytes, DATA, 0, 1, &body)
 }
 
-/// Adds the trailers of stream 1.
-fn push_status(alloc: Global, bytes: &mut Vec<u8>, status: &[u8]) -> Result<(), AllocError> {
-    let mut body = Vec::from_slice(alloc, STATUS)?;
-    body.extend_from_slice(&[(status.len() % 128) as u8])?;
-    body.extend_from_slice(status)?;
-    push_frame(bytes, HEADERS, END_HEADERS + END_STREAM, 1, &body)
+/// Adds a string literal of less than 127 bytes (RFC 7541 5.2).
+fn push_string(block: &mut Vec<u8>, string: &[u8]) -> Result<(), AllocError> {
+    block.extend_from_slice(&[(string.len() % 128) as u8])?;
+    block.extend_from_slice(string)
+}
+
+/// Adds the trailers of stream 1: a status and, unless it is empty, the text with it.
+fn push_status(
+    alloc: Global,
+    bytes: &mut Vec<u8>,
+    status: &[u8],
+    text: &[u8],
+) -> Result<(), AllocError> {
+    let mut block = Vec::from_slice(alloc, STATUS)?;
+    push_string(&mut block, status)?;
+    if !text.is_empty() {
+        block.extend_from_slice(TEXT)?;
+        push_string(&mut block, text)?;
+    }
+    push_frame(bytes, HEADERS, END_HEADERS + END_STREAM, 1, &block)
 }
 
 /// `STATUS MESSAGE ..`: what a link sends that serves one call. Where the status is empty it ends behind the messages. Each message
@@ -90,8 +107,20 @@ pub(crate) fn read_answer(
         push_message(alloc, &mut bytes, &message, lacking)?;
     }
     if !status.is_empty() {
-        push_status(alloc, &mut bytes, &status)?;
+        push_status(alloc, &mut bytes, &status, &[])?;
         bytes.extend_from_slice(GONE)?;
     }
+    Ok(bytes)
+}
+
+/// `STATUS TEXT`: what a link sends that refuses one call.
+pub(crate) fn read_refusal(alloc: Global, row: &mut Row<'_>) -> Result<Vec<u8>, RowFault> {
+    let status = row.text(alloc)?;
+    let text = row.text(alloc)?;
+    let mut bytes = Vec::new(alloc);
+    push_frame(&mut bytes, SETTINGS, 0, 0, &[])?;
+    push_frame(&mut bytes, HEADERS, END_HEADERS, 1, SUCCESS)?;
+    push_status(alloc, &mut bytes, &status, &text)?;
+    bytes.extend_from_slice(GONE)?;
     Ok(bytes)
 }

@@ -120,6 +120,7 @@ impl Calls for Grpc {
             "frames" => self.links.sent(false, answer),
             "dials" => self.links.dials(answer),
             "answer" => self.callers.answer(row, 0, answer),
+            "refuse" => self.callers.refuse(row, answer),
             "cut_answer" => self.callers.answer(row, 1, answer),
             "client" => self.callers.client(row, answer),
             "farm" => self.callers.call(row, answer),

@@ -11,6 +11,7 @@ pub mod ShownLemmas
 pub mod ConversationLemmas
 pub mod TurnLemmas
 pub mod TalkLemmas
+pub mod TextLemmas
 pub mod HandLemmas
 pub mod GiveLemmas
 pub mod StreamLemmas

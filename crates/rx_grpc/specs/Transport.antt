@@ -31,6 +31,7 @@ pub record TransportOf (L : Type 0) : Type 0 where
   pub alive : Bool  -- another call can be made on it
   pub opened : Option Opened
   pub call : Option OpenCall  -- the same, with all that it keeps
+  pub text : List ℕ  -- that came with the status of the last answer, as far as that was heard
 
 -- a stream can be opened
 abbrev pub takes : {L : Type 0} → TransportOf L → Bool

@@ -5,6 +5,7 @@ ghost use Rattle.rx_world.specs.declared.call_faults.CallFault.TheVariants.{NoMe
 ghost use Rattle.rx_world.specs.Causes.{Rose};
 ghost use Rattle.rx_exec_messages.specs.Calls.{HasCallCause};
 ghost use Rattle.rx_grpc.specs.Caller.{hung_up};
+ghost use Rattle.rx_grpc.specs.StatusText.{text_in};
 ghost use Rattle.rx_grpc.specs.declared.caller.Begun.TheVariants.{Executed as executed};
 
 use crate::channel::Channel;
@@ -106,6 +107,14 @@ impl<D: Dial + Drop> GrpcCaller<D> {
         ensures { result ≡ self.now.streaming }
     {
         self.streaming
+    }
+
+    /// What the farm said with the status of the last answer ("Status-Message"), where its escapes are bytes: why it refused, in
+    /// words for people. It is empty where it said nothing.
+    pub fn status_text(&self) -> &[u8]
+        ensures { result.now ≡ text_in self.now.channel.transport }
+    {
+        self.channel.status_text()
     }
 
     /// The channel.

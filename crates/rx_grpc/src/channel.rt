@@ -9,6 +9,7 @@ ghost use Rattle.rx_grpc.specs.Channel.{Answers, Fails, HasCauseOn, IsLinkOf, Is
 ghost use Rattle.rx_grpc.specs.Faults.{IsOther};
 ghost use Rattle.rx_grpc.specs.Request.{request_fields};
 ghost use Rattle.rx_grpc.specs.Sent.{AnsweredOn, AskedOn, AsksOn, NextAsksOn, SendsOn};
+ghost use Rattle.rx_grpc.specs.StatusText.{KeepsText, KeepsTextOn, text_in};
 ghost use Rattle.rx_grpc.specs.Streamed.{Begins, NextCause, NextFailsOn, NextsOn, is_answering};
 ghost use Rattle.rx_grpc.specs.declared.transfer_fault.TransferFault.TheVariants.{NoMemory as starved};
 
@@ -87,6 +88,17 @@ impl<D: Dial + Drop> Channel<D> {
         }
     }
 
+    /// The text that came with the status of the last answer ("Status-Message"), where its escapes are bytes. It is empty where
+    /// none came yet, and where another link was made since.
+    pub fn status_text(&self) -> &[u8]
+        ensures { result.now ≡ text_in self.now.transport }
+    {
+        match &self.transport {
+            Some(transport) => transport.status_text(),
+            None => &[],
+        }
+    }
+
     /// Whether a streamed answer is open.
     pub fn is_answering(&self) -> bool
         ensures { result ≡ is_answering self.now.transport }
@@ -125,6 +137,8 @@ impl<D: Dial + Drop> Channel<D> {
         ensures asks { IfOk result (AnsweredOn unary D.L.wire D.L.rule D.L.ended
             self.new.transport (stream_for self.old.transport)
             (request_fields path.now self.old.authority) (message.now ∷ []) []) }
+        ensures text { OnOk result (KeepsText D.L.wire D.L.rule self.new.transport
+            (stream_for self.old.transport)) }
         ensures closed { OnOk result (is_answering self.new.transport ≡ false) }
     {
         let headers = request_headers(self.alloc, path, &self.authority)?;
@@ -155,6 +169,8 @@ impl<D: Dial + Drop> Channel<D> {
         ensures asks { IfOk result (AnsweredOn unary D.L.wire D.L.rule D.L.ended
             self.new.transport (stream_for self.old.transport)
             (request_fields path.now self.old.authority) (B.messages body.old) []) }
+        ensures text { OnOk result (KeepsText D.L.wire D.L.rule self.new.transport
+            (stream_for self.old.transport)) }
         ensures closed { OnOk result (is_answering self.new.transport ≡ false) }
     {
         let headers = request_headers(self.alloc, path, &self.authority)?;
@@ -205,6 +221,8 @@ impl<D: Dial + Drop> Channel<D> {
         ensures shows { IfOk result (NextsOn D.L.wire D.L.rule D.L.ended self.old.transport
             self.new.transport) }
         ensures asks { IfOk result (NextAsksOn D.L.wire D.L.rule D.L.ended self.old.transport
+            self.new.transport) }
+        ensures text { OnOk result (KeepsTextOn D.L.wire D.L.rule self.old.transport
             self.new.transport) }
         ensures fails { IfErr result (NextFailsOn D.L.wire D.L.rule self.old.transport
             self.new.transport) }

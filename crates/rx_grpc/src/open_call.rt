@@ -1,6 +1,7 @@
 //! A call whose stream was opened: what it has heard, what is left of its request, and what came last.
 
-ghost use Rattle.std.specs.Prelude.{◌≡◌, false, IfSome};
+ghost use Rattle.std.specs.Prelude.{◌≡◌, false, IfOk, IfSome};
+ghost use Rattle.percent_encoding.specs.Percent.{percent_decode};
 ghost use Rattle.rx_grpc.specs.Conversation.{alive_of};
 ghost use Rattle.rx_grpc.specs.Heard.{nothing};
 ghost use Rattle.rx_grpc.specs.declared.came.Came.TheVariants.{Piece};
@@ -8,6 +9,7 @@ ghost use Rattle.rx_grpc.specs.declared.came.Came.TheVariants.{Piece};
 use crate::call::Call;
 use crate::came::Came;
 use crate::request::Request;
+use rx_base::NoMemory;
 use std::alloc::Global;
 
 /// The most bytes that one call takes from its link.
@@ -52,6 +54,14 @@ impl OpenCall {
         } else {
             false
         }
+    }
+
+    /// The text that came with the status, where its escapes are bytes.
+    pub fn status_text(&self, alloc: Global) -> Result<Vec<u8>, NoMemory>
+        ensures { IfOk result (λ text.
+            text.items ≡ percent_decode self.now.call.answers.status_text) }
+    {
+        self.call.answers.status_text(alloc)
     }
 
     /// Its stream, where one side of it is open yet.

@@ -11,6 +11,7 @@ ghost use Rattle.rx_grpc.specs.Heard.{nothing};
 ghost use Rattle.rx_grpc.specs.Moves.{Carries};
 ghost use Rattle.rx_grpc.specs.Sent.{Concludes, Handing};
 ghost use Rattle.rx_grpc.specs.Shown.{IsOver};
+ghost use Rattle.rx_grpc.specs.StatusText.{HasText};
 ghost use Rattle.rx_grpc.specs.Item.{item, item_behind};
 ghost use Rattle.rx_grpc.specs.Streamed.{Hands, NextFault};
 ghost use Rattle.rx_grpc.specs.Transport.{opened_by};
@@ -54,6 +55,8 @@ pub fn answer_of<L: Link, B: Body>(
     ensures id { OnOk result (opened.new.call.id ≡ opened.old.call.id) }
     ensures carries { OnOk result (Carries (L.wire link.old) (L.wire link.new) conn.old
         conn.new opened.old.room opened.new.room) }
+    ensures text { OnOk result (HasText (L.wire link.new) (L.rule link.new) conn.new
+        opened.new.call.id opened.new.call.answers.status_text) }
     ensures fault { IfErr result (λ fault. FaultIs unary opened.old.room fault (L.wire link.old)
         (L.wire link.new) (L.rule link.new) conn.new opened.old.call.id) }
     ensures rule { SameRule (L.rule link.old) (L.rule link.new) }
@@ -88,6 +91,8 @@ fn item_behind_turns<L: Link>(
         opened.old []) }
     ensures asks { IfOk result (Handing (L.wire link.old) (L.wire link.new) (L.rule link.old)
         (L.rule link.new) conn.old conn.new opened.old opened.new) }
+    ensures text { OnOk result (HasText (L.wire link.new) (L.rule link.new) conn.new
+        opened.new.call.id opened.new.call.answers.status_text) }
     ensures fault { IfErr result (λ fault. FaultIs (item_behind opened.old.call.place)
         opened.old.room fault (L.wire link.old) (L.wire link.new) (L.rule link.new) conn.new
         opened.old.call.id) }
@@ -119,6 +124,8 @@ pub fn item_of<L: Link>(
         opened.old []) }
     ensures asks { IfOk result (Handing (L.wire link.old) (L.wire link.new) (L.rule link.old)
         (L.rule link.new) conn.old conn.new opened.old opened.new) }
+    ensures text { OnOk result (HasText (L.wire link.new) (L.rule link.new) conn.new
+        opened.new.call.id opened.new.call.answers.status_text) }
     ensures fault { IfErr result (λ fault. NextFault (opened_by opened.old) fault (L.wire link.old)
         (L.wire link.new) (L.rule link.new) conn.new) }
     ensures rule { SameRule (L.rule link.old) (L.rule link.new) }

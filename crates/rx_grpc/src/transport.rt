@@ -12,6 +12,7 @@ ghost use Rattle.rx_grpc.specs.Answer.{unary};
 ghost use Rattle.rx_grpc.specs.Faults.{FaultIs};
 ghost use Rattle.rx_grpc.specs.Shown.{IsOver};
 ghost use Rattle.rx_grpc.specs.Sent.{AsksBy, IsAnswered, IsAsked, IsToSend, NextAsks};
+ghost use Rattle.rx_grpc.specs.StatusText.{IsTextOf, KeepsTextOf};
 ghost use Rattle.rx_grpc.specs.Streamed.{NextFails, Nexts};
 ghost use Rattle.rx_grpc.specs.Transport.{IsStarted, takes};
 ghost use Rattle.rx_grpc.specs.declared.transfer_fault.TransferFault.TheVariants.{Link as lost, NoMemory as starved};
@@ -41,6 +42,8 @@ pub struct Transport<L: Link + Drop> {
     unfinished: Option<u32>,
     /// The call whose streamed answer is open.
     opened: Option<OpenCall>,
+    /// The text that came with the status of the last answer, as far as that was heard.
+    text: Vec<u8>,
 }
 
 impl<L: Link + Drop> Model for Transport<L> {
@@ -56,6 +59,7 @@ impl<L: Link + Drop> Model for Transport<L> {
       alive = t.alive;
       opened = opened_of t.opened;
       call = t.opened;
+      text = t.text.items;
     } };
 
     ghost invariant = { λ t. (t.alive ≡ true
@@ -79,6 +83,7 @@ impl<L: Link + Drop> Transport<L> {
             alive: true,
             unfinished: None,
             opened: None,
+            text: Vec::new(alloc),
         })
     }
 
@@ -87,6 +92,13 @@ impl<L: Link + Drop> Transport<L> {
         ensures { result.now ≡ self.now.link }
     {
         &self.link
+    }
+
+    /// The text that came with the status of the last answer, as far as that was heard.
+    pub fn status_text(&self) -> &[u8]
+        ensures { result.now ≡ self.now.text }
+    {
+        &self.text
     }
 
     /// Whether a streamed answer is open.
@@ -147,11 +159,15 @@ impl<L: Link + Drop> Transport<L> {
             → IsToSend request (B.messages body.old) messages
             → IsAnswered unary (L.wire self.new.link) (L.rule self.new.link)
             (L.ended self.new.link) self.new.conn id fields messages [] answer) }
+        ensures text { OnOk result (IsTextOf (L.wire self.new.link) (L.rule self.new.link)
+            self.new.conn id self.new.text) }
         ensures rule { SameRule (L.rule self.old.link) (L.rule self.new.link) }
         ensures cause { HasCauseOf lost (L.faults self.old.link) (L.faults self.new.link) result }
     {
         let mut opened = OpenCall::new(alloc, id, request);
         let answer = answer_of(alloc, &mut self.link, &mut self.conn, &mut opened, body)?;
+        let text = opened.status_text(alloc)?;
+        self.text = text;
         self.alive = opened.is_alive();
         self.unfinished = opened.stream_left();
         Ok(answer)
@@ -173,6 +189,7 @@ impl<L: Link + Drop> Transport<L> {
             fields messages [] }
     {
         self.opened = Some(OpenCall::new(alloc, id, request));
+        self.text = Vec::new(alloc);
         self.unfinished = Some(id);
         self.alive = true;
     }
@@ -183,6 +200,7 @@ impl<L: Link + Drop> Transport<L> {
         ensures next { IfOk result (Nexts L.wire L.rule L.ended self.old.opened self.old
             self.new) }
         ensures asks { IfOk result (NextAsks L.wire L.rule L.ended self.old self.new) }
+        ensures text { OnOk result (KeepsTextOf L.wire L.rule self.old.opened self.new) }
         ensures fails { IfErr result (NextFails L.wire L.rule self.old.opened self.old self.new) }
         ensures failed { OnErr result (self.new.alive ≡ false) }
         ensures closed { OnErr result (self.new.opened ≡ None) }
@@ -194,6 +212,8 @@ impl<L: Link + Drop> Transport<L> {
             unreachable!()
         };
         let item = item_of(alloc, &mut self.link, &mut self.conn, &mut opened)?;
+        let text = opened.status_text(alloc)?;
+        self.text = text;
         self.alive = opened.is_alive();
         self.unfinished = opened.stream_left();
         if item.is_message() {

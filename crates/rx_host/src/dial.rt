@@ -51,6 +51,16 @@ impl<H: Hands> HostDial<H> {
         self.halting.let_go_of_farm(&self.hands);
     }
 
+    /// Tells that the farm refused a call with this status, and what it said of it, if anything.
+    pub(crate) fn tell_status(&self, code: u32, text: &[u8]) {
+        if text.is_empty() {
+            return;
+        }
+        if let (Some(address), Ok(text)) = (&self.address, str::from_utf8(text)) {
+            let _ = eprintln!(self.rt; "reproxy: farm {address}: status {code}: {text:?}");
+        }
+    }
+
     /// A connection, which a thread of its own makes, so that it can be halted meanwhile.
     fn connect(&self) -> io::Result<HostLink>
         ensures ended { IfOk result (λ link. link.ended ≡ false) }

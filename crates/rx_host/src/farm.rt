@@ -48,6 +48,16 @@ impl<H: Hands> HostFarm<H> {
         }
     }
 
+    /// Tells on standard error what the farm said where it refused a call.
+    fn tell_refusal<T>(&self, answer: &Result<T, CallFault>) {
+        if let Err(CallFault::Status(code)) = answer {
+            self.caller
+                .channel()
+                .dial()
+                .tell_status(*code, self.caller.status_text());
+        }
+    }
+
     /// Closes the connection, if there is one. What is told of the client stays; its next call makes another connection.
     pub fn hang_up(self) -> HostFarm<H>
         ensures { result ≡ self }
@@ -80,41 +90,57 @@ impl<H: Hands> Caller<HostWorld> for HostFarm<H> {
     ghost faults = { λ c. c.faults };
 
     fn capabilities(&mut self) -> Result<Capabilities, CallFault> {
-        self.caller.hear_capabilities()
+        let answer = self.caller.hear_capabilities();
+        self.tell_refusal(&answer);
+        answer
     }
 
     fn get_result(&mut self, action: &Digest) -> Result<Option<ActionResult>, CallFault> {
-        self.caller.hear_result(action)
+        let answer = self.caller.hear_result(action);
+        self.tell_refusal(&answer);
+        answer
     }
 
     fn find_missing(&mut self, digests: &[Digest]) -> Result<Items<Digest>, CallFault> {
-        self.caller.hear_missing(digests)
+        let answer = self.caller.hear_missing(digests);
+        self.tell_refusal(&answer);
+        answer
     }
 
     fn update(&mut self, blobs: &[NamedBlob]) -> Result<(), CallFault> {
-        self.caller.hear_update(blobs)
+        let answer = self.caller.hear_update(blobs);
+        self.tell_refusal(&answer);
+        answer
     }
 
     fn read(&mut self, digests: &[Digest]) -> Result<Items<Bytes>, CallFault> {
-        self.caller.hear_read(digests)
+        let answer = self.caller.hear_read(digests);
+        self.tell_refusal(&answer);
+        answer
     }
 
     fn write_stream(&mut self, digest: &Digest, bytes: &[u8]) -> Result<(), CallFault> {
-        self.caller.hear_write(digest, bytes)
+        let answer = self.caller.hear_write(digest, bytes);
+        self.tell_refusal(&answer);
+        answer
     }
 
     fn read_stream(&mut self, digest: &Digest) -> Result<Bytes, CallFault> {
-        self.caller.hear_blob(digest)
+        let answer = self.caller.hear_blob(digest);
+        self.tell_refusal(&answer);
+        answer
     }
 
     fn execute(&mut self, action: &Digest, skip_cache: bool) -> Result<(), CallFault> {
         let answer = self.caller.hear_execute(action, skip_cache);
+        self.tell_refusal(&answer);
         self.streaming = answer.is_ok();
         answer
     }
 
     fn wait(&mut self, name: &str) -> Result<(), CallFault> {
         let answer = self.caller.hear_wait(name);
+        self.tell_refusal(&answer);
         self.streaming = answer.is_ok();
         answer
     }
@@ -125,6 +151,7 @@ impl<H: Hands> Caller<HostWorld> for HostFarm<H> {
             return self.caller.count_fault(Err(CallFault::Cut));
         }
         let answer = self.caller.hear_operation();
+        self.tell_refusal(&answer);
         self.streaming = self.caller.is_streaming();
         answer
     }

@@ -2,6 +2,7 @@ use Rattle.std.proofs.Common.{rules, false, refl, inr, ap, sym, ◌∙◌}
 use Rattle.rx_grpc.specs.Answer.{unary, after_answer}
 use Rattle.rx_grpc.proofs.ItemLemmas.{unary_look}
 use Rattle.rx_grpc.proofs.TalkLemmas.{carries_done, carries_trans, talking_starts, talking_judged, talking_fills, judged_breaks, judged_concludes, judged_over}
+use Rattle.rx_grpc.proofs.TextLemmas.{answer_leaves, on_done, text_heard}
 use Rattle.rx_grpc.proofs.talk.answer_of.Goals as goal
 
 pub loop-opened-init : goal.loop-opened-init
@@ -29,3 +30,7 @@ returns-in-Some-clause-carries g c =
 pub returns-in-Some-clause-asked : goal.returns-in-Some-clause-asked
 returns-in-Some-clause-asked g c =
     judged_concludes unary unary 0 (g.L.Link.wire c.args.link.now) _ (g.L.Link.rule c.args.link.now) (g.L.Link.rule c.take_turn.new.link) _ _ _ c.args.opened.now c.take_turn.new.opened c.unary-shown.result c.in-Some.done (g.B.Body.messages c.args.body.now) (g.B.Body.messages c.take_turn.new.body) unary_look c.in_ok-take_turn.ensures.opened (c.in_ok-take_turn.ensures.place ∙ (c.loop-opened.invariant.place_is ∙ c.requires.place)) (c.in_ok-take_turn.ensures.id ∙ c.loop-opened.invariant.same) (c.unary-shown.ensures.answer ∙ ap (λ b. unary b c.take_turn.new.opened.call.answers) c.is_end.ensures) (sym c.answer_or_fault.ensures ∙ c.in-Some.is) (λ fields messages given a. c.in_ok-take_turn.ensures.asks fields messages given (c.loop-opened.invariant.asks fields messages given a))
+
+pub returns-in-Some-clause-text : goal.returns-in-Some-clause-text
+returns-in-Some-clause-text g c =
+    on_done c.in-Some.done (text_heard _ (g.L.Link.rule c.take_turn.new.link) _ _ c.take_turn.new.opened _ _ c.in_ok-take_turn.ensures.opened refl (ap (λ h. h.status_text) c.unary-shown.ensures.after ∙ answer_leaves c.unary-shown.result c.take_turn.new.opened.call.answers))

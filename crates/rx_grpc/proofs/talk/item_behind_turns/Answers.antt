@@ -3,6 +3,7 @@ use Rattle.rx_grpc.specs.Item.{item, item_behind, after_item, place_after}
 use Rattle.rx_grpc.proofs.ItemLemmas.{item_look}
 use Rattle.rx_grpc.proofs.TalkLemmas.{carries_trans, talking_starts, talking_judged, talking_fills, judged_breaks, judged_concludes}
 use Rattle.rx_grpc.proofs.HandLemmas.{hands_asks, hands_item}
+use Rattle.rx_grpc.proofs.TextLemmas.{item_leaves, on_done, text_heard}
 use Rattle.rx_grpc.proofs.talk.item_behind_turns.Goals as goal
 
 pub loop-opened-init : goal.loop-opened-init
@@ -30,3 +31,7 @@ returns-in-Some-clause-asked g c =
 pub returns-in-Some-clause-asks : goal.returns-in-Some-clause-asks
 returns-in-Some-clause-asks g c =
     hands_asks (g.L.Link.wire c.args.link.now) _ (g.L.Link.rule c.args.link.now) (g.L.Link.rule c.take_turn.new.link) _ _ c.args.opened.now c.take_turn.new.opened _ c.next_item-shown.result c.in-Some.done (c.next_item-shown.ensures.item ∙ ap (λ b. item b c.take_turn.new.opened.call.answers) c.is_end.ensures) (sym c.answer_or_fault.ensures ∙ c.in-Some.is) (record { id = c.next_item-shown.ensures.id; answers = c.next_item-shown.ensures.answers; place = c.next_item-shown.ensures.place; away = c.next_item-shown.ensures.away; request = refl; room = refl; came = refl }) (λ fields messages given a. c.in_ok-take_turn.ensures.asks fields messages given (c.loop-opened.invariant.asks fields messages given a))
+
+pub returns-in-Some-clause-text : goal.returns-in-Some-clause-text
+returns-in-Some-clause-text g c =
+    on_done c.in-Some.done (text_heard _ (g.L.Link.rule c.take_turn.new.link) _ _ c.take_turn.new.opened _ _ c.in_ok-take_turn.ensures.opened c.next_item-shown.ensures.id (ap (λ h. h.status_text) c.next_item-shown.ensures.answers ∙ item_leaves c.next_item-shown.result c.take_turn.new.opened.call.answers))

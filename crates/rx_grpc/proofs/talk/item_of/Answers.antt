@@ -5,6 +5,7 @@ use Rattle.rx_grpc.proofs.TurnLemmas.{open_like}
 use Rattle.rx_grpc.proofs.AskingLemmas.{asking_none, concludes_like, handing_like}
 use Rattle.rx_grpc.proofs.TalkLemmas.{carries_none, judged_breaks, judged_concludes, judged_none}
 use Rattle.rx_grpc.proofs.HandLemmas.{hands_asks, hands_item, next_faults, none_handed}
+use Rattle.rx_grpc.proofs.TextLemmas.{item_leaves, on_done, text_heard}
 use Rattle.rx_grpc.proofs.talk.item_of.Goals as goal
 
 pub returns-in-Some-clause-next : goal.returns-in-Some-clause-next
@@ -34,3 +35,7 @@ returns-clause-asked g c =
 pub returns-clause-asks : goal.returns-clause-asks
 returns-clause-asks g c =
     handing_like _ _ (g.L.Link.rule c.args.link.now) (g.L.Link.rule c.item_behind_turns.new.link) _ _ c.args.opened.now _ c.item_behind_turns.new.opened c.item_behind_turns.result (none_handed c.args.opened.now _ c.next_item-shown.result (record { id = c.next_item-shown.ensures.id; answers = c.next_item-shown.ensures.answers; place = c.next_item-shown.ensures.place; away = c.next_item-shown.ensures.away; request = refl; room = refl; came = refl }) (judged_none c.next_item-shown.result c.args.opened.now.came (sym c.answer_or_fault.ensures ∙ c.in_default.is))) c.item_behind_turns.ensures.asks
+
+pub returns-in-Some-clause-text : goal.returns-in-Some-clause-text
+returns-in-Some-clause-text g c =
+    on_done c.in-Some.done (text_heard _ (g.L.Link.rule c.args.link.now) _ _ c.args.opened.now _ _ c.requires c.next_item-shown.ensures.id (ap (λ h. h.status_text) c.next_item-shown.ensures.answers ∙ item_leaves c.next_item-shown.result c.args.opened.now.call.answers))
