@@ -3,6 +3,10 @@
 use rx_base::{Digest, NoMemory, Text, read_hash};
 use std::alloc::Global;
 
+/// What stands before the digest in the name of a stream of bytes (`remote_execution.proto`, service
+/// ContentAddressableStorage).
+const BLOBS: &str = "blobs/";
+
 /// The name of a digest, by which the operation of an action goes.
 pub(crate) fn name_of(alloc: Global, digest: &Digest) -> Result<Text, NoMemory> {
     let hash = digest.hash_text(alloc)?;
@@ -16,4 +20,10 @@ pub(crate) fn read_name(name: &str) -> Option<Digest> {
     let hash = read_hash(hash).ok()?;
     let size = size.parse::<u64>().ok()?;
     Some(Digest { hash, size })
+}
+
+/// The digest in the name of a stream of bytes: `..blobs/HASH/SIZE`.
+pub(crate) fn read_resource(name: &str) -> Option<Digest> {
+    let (_, digest) = name.split_once(BLOBS)?;
+    read_name(digest)
 }

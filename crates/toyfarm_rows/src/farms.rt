@@ -1,6 +1,6 @@
 //! The calls of the rows, and the farm that they share.
 
-use crate::{attempts, blobs, executions};
+use crate::{attempts, blobs, connections, executions};
 use rx_blobs::Presence;
 use rx_exec_messages::{Caller, Capabilities};
 use rx_farm_values::read_capabilities;
@@ -55,6 +55,7 @@ impl<'a, R: Wait> Calls for FarmCalls<'a, R> {
             "skipping" => executions::execute(alloc, farm, row, true, answer)?,
             "wait" => executions::wait(alloc, farm, row, answer)?,
             "next" => executions::next(alloc, farm, answer)?,
+            "serve" => connections::serve(alloc, farm, row, answer)?,
             "run" => attempts::call(self.rt, alloc, farm, row, true, answer)?,
             "refusing" => attempts::call(self.rt, alloc, farm, row, false, answer)?,
             _ => return Err(RowFault::NoCall),

@@ -5,6 +5,7 @@ mod answers;
 mod attempts;
 mod blobs;
 mod commands;
+mod connections;
 mod executions;
 mod farms;
 
