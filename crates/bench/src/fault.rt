@@ -6,6 +6,7 @@ use rx_h2conn::ConnFault;
 use rx_hpack::HpackFault;
 use rx_scan::GatherFault;
 use rx_tree::TreeFault;
+use rx_world::CallFault;
 use std::alloc::{AllocError, AllocFailed};
 use std::io;
 use thiserror::Error;
@@ -30,6 +31,8 @@ pub enum Fault {
     Tree,
     #[error("the command is refused")]
     Command,
+    #[error("the farm: {0}")]
+    Farm(CallFault),
     #[error("the clock or an output failed")]
     Io,
     #[error("out of memory")]
@@ -69,6 +72,12 @@ impl From<ActionFault> for Fault {
 impl From<GatherFault> for Fault {
     fn from(_fault: GatherFault) -> Fault {
         Fault::Command
+    }
+}
+
+impl From<CallFault> for Fault {
+    fn from(fault: CallFault) -> Fault {
+        Fault::Farm(fault)
     }
 }
 

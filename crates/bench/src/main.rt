@@ -1,11 +1,12 @@
-//! What the scripts of `bench/` time: `bench lex|h2|tree|gather WORD..`, as the head of each module says, and `bench all`
-//! for each of these on next to no work.
+//! What the scripts of `bench/` time: `bench lex|h2|tree|gather|grpc WORD..`, as the head of each module says, and `bench
+//! all` for each of these on next to no work, but for `grpc`, which wants a farm.
 #![tactic(auto)]
 
 mod fault;
 mod gather;
 mod gather_headers;
 mod gather_works;
+mod grpc;
 mod h2;
 mod h2_works;
 mod lex;
@@ -14,6 +15,7 @@ mod tree_command;
 mod tree_files;
 
 use crate::fault::Fault;
+use rx_host::Hands;
 use std::process::ExitCode;
 use std::sync::Wait;
 use std::{env, io};
@@ -35,9 +37,9 @@ fn run_all(rt: &HostRuntime, waits: &impl Wait) -> Result<(), Fault> {
 }
 
 /// Runs what the first word names. `None` is a word that names nothing.
-fn run(
+fn run<H: Hands>(
     rt: &HostRuntime,
-    waits: &impl Wait,
+    hands: H,
     name: &str,
     words: &[String],
 ) -> Option<Result<(), Fault>> {
@@ -45,8 +47,9 @@ fn run(
         "lex" => Some(lex::run(rt)),
         "h2" => Some(h2::run(rt, words)),
         "tree" => Some(tree::run(rt, words)),
-        "gather" => Some(gather::run(rt, waits, words)),
-        "all" => Some(run_all(rt, waits)),
+        "gather" => Some(gather::run(rt, &hands, words)),
+        "grpc" => Some(grpc::run(*rt, hands, words)),
+        "all" => Some(run_all(rt, &hands)),
         _ => None,
     }
 }
@@ -64,7 +67,7 @@ fn tell(rt: &HostRuntime, name: &str, ran: Option<Result<(), Fault>>) -> ExitCod
             ExitCode::FAILURE
         }
         None => {
-            let _ = eprintln!(rt; "usage: bench lex|h2|tree|gather|all WORD..");
+            let _ = eprintln!(rt; "usage: bench lex|h2|tree|gather|grpc|all WORD..");
             ExitCode::from(BAD_WORDS)
         }
     }
@@ -75,7 +78,7 @@ fn main(rt: HostRuntime) -> ExitCode {
         return tell(&rt, "", None);
     };
     match words.as_slice() {
-        [name, rest @ ..] => tell(&rt, name.as_str(), run(&rt, &rt, name.as_str(), rest)),
+        [name, rest @ ..] => tell(&rt, name.as_str(), run(&rt, rt, name.as_str(), rest)),
         [] => tell(&rt, "", None),
     }
 }
