@@ -6,14 +6,14 @@ use crate::desk::{Host, HostParts, parts_over};
 use crate::halts::HostHalt;
 use rx_engine::{Desk, Front, Options, Parts};
 use rx_host::{
-    Halting, Hands, HostBenches, HostFarm, HostListener, HostSources, HostWorld, SocketSink,
-    SocketSource, draw_seed,
+    Halting, Hands, HostBenches, HostFarm, HostListener, HostSources, HostWorld, PatientSink,
+    SocketSink, SocketSource, draw_seed,
 };
 use rx_world::Failed;
 use std::io;
 
 /// The parts of a client's session.
-pub(crate) type ClientParts<H> = HostParts<H, SocketSource, SocketSink>;
+pub(crate) type ClientParts<H> = HostParts<H, SocketSource, PatientSink<H>>;
 
 /// The desk of a client. Where it is put together again, at the end of its session, its connections
 /// are closed: to the client, and to the farm.
@@ -26,7 +26,7 @@ pub(crate) struct ClientDesk<H: Hands> {
 impl<H: Hands + Send + Sync> Desk<HostWorld> for ClientDesk<H> {
     type I = SocketSource;
 
-    type O = SocketSink;
+    type O = PatientSink<H>;
 
     type T = HostSources<HostRuntime>;
 
@@ -113,6 +113,7 @@ fn desk_over<H: Hands>(
 ) -> io::Result<ClientDesk<H>> {
     let seed = draw_seed(&host.rt)?;
     let halting = Halting::new(host.rt.alloc())?;
+    let output = PatientSink::new(host.rt, host.hands, output, host.children.share()?);
     let parts = parts_over(host, options, seed, &halting, input, output)?;
     let halt = HostHalt::new(host.hands, halting);
     Ok(ClientDesk { parts, halt })

@@ -20,7 +20,7 @@ pub(crate) struct Host<H> {
     pub(crate) rt: HostRuntime,
     /// Starts threads and waits.
     pub(crate) hands: H,
-    /// The programs that run, over all sessions.
+    /// The programs that run, and the replies that are written, over all sessions.
     pub(crate) children: Children,
 }
 

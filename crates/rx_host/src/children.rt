@@ -1,18 +1,18 @@
-//! How many programs run that were started here.
+//! How many programs run that were started here, and how many replies are being written.
 
 use std::alloc::{AllocError, Global};
 use std::sync::atomic::{AtomicU64, Ordering};
 use std::sync::{Arc, Wait};
 
-/// The programs of all sessions of a process that run. Those of halted attempts run on, and each one's directory is removed
-/// at its end: so whoever ends the process waits for all.
+/// The programs of all sessions of a process that run, and the replies that threads of their own write. Programs of halted
+/// attempts run on, and each one's directory is removed at its end: so whoever ends the process waits for all.
 #[derive(Drop)]
 pub struct Children {
     count: Arc<AtomicU64, Global>,
 }
 
 impl Children {
-    /// No program runs yet.
+    /// None yet.
     pub fn new(alloc: Global) -> Result<Children, AllocError> {
         Ok(Children {
             count: Arc::new(alloc, AtomicU64::new(0))?,

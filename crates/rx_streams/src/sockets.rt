@@ -7,7 +7,7 @@ use crate::faults::Faults;
 use crate::pieces::{read_some, write_some};
 use rx_world::{Failed, Sink, Source};
 use std::io;
-use std::io::{Error, ErrorKind};
+use std::io::{Error, ErrorKind, Write};
 use std::marker::Model;
 use std::net::{Ipv4Addr, Net, Shutdown, SocketAddr, TcpStream};
 use std::os::unix::net::UnixStream;
@@ -95,6 +95,14 @@ impl Socket {
             Socket::Tcp { stream } => write_some(stream, piece),
         }
     }
+
+    /// Takes all of a piece.
+    fn write_all(&mut self, piece: &[u8]) -> io::Result<()> {
+        match self {
+            Socket::Unix { stream } => stream.write_all(piece),
+            Socket::Tcp { stream } => stream.write_all(piece),
+        }
+    }
 }
 
 /// What comes in over a connection, until it is closed here.
@@ -176,6 +184,30 @@ impl SocketSink {
         ensures { IsTrue result ↔ (0 < self.now) }
     {
         self.faults.count > 0
+    }
+
+    /// Another handle of this direction, which has no faults.
+    pub fn share(&self) -> io::Result<SocketSink>
+        ensures { IfOk result (λ sink. sink ≡ 0) }
+    {
+        let socket = match &self.socket {
+            Some(socket) => socket.try_clone()?,
+            None => return Err(closed()),
+        };
+        Ok(SocketSink {
+            socket: Some(socket),
+            faults: Faults::new(),
+        })
+    }
+
+    /// Writes all of a piece, and waits for it. A failure is told, and not counted.
+    pub fn write_all(&mut self, piece: &[u8]) -> io::Result<()>
+        ensures { self.new ≡ self.old }
+    {
+        match &mut self.socket {
+            Some(socket) => socket.write_all(piece),
+            None => Err(closed()),
+        }
     }
 
     /// Closes this direction. What is told of it stays.
