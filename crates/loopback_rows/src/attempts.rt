@@ -1,0 +1,146 @@
+//! A whole remote attempt of a program of this machine, over a connection to a farm.
+
+ghost use Rattle.std.specs.Prelude.{IfOk};
+ghost use Rattle.rx_remote.specs.Actions.{AreNamed};
+
+use crate::commands::command;
+use rx_base::{Items, RelPath, Text, digest_of};
+use rx_blobs::Presence;
+use rx_farm_values::write_remote_cause;
+use rx_grpc::GrpcCaller;
+use rx_host::{Halting, Hands, HostDial, HostFarm, HostSources, HostWorld};
+use rx_remote::{RemoteJob, run_remote};
+use rx_row_values::path_of;
+use rx_rows::{Answer, RowFault};
+use rx_tree::{Built, TreeFault, build};
+use rx_world::{Attempt, End, InputFile, Look, Origin, Outcome, RemoteCause, Sources, Unstopped};
+use std::alloc::Global;
+use std::fs;
+
+/// The most blobs that are remembered as present.
+const PRESENT: usize = 1000;
+
+/// The most bytes of an address.
+const MOST_ADDRESS: usize = 100;
+
+/// What an attempt is about.
+#[derive(Drop)]
+pub(crate) struct Job {
+    /// The directory of its one input `a`.
+    pub(crate) root: String,
+    /// The farm's address.
+    pub(crate) address: String,
+    /// What `a` holds.
+    pub(crate) text: Vec<u8>,
+    /// Whether a result of the farm's action cache is taken.
+    pub(crate) accept_cached: bool,
+}
+
+/// How an attempt ends. Its connection is closed then.
+pub(crate) fn run<H: Hands>(
+    rt: HostRuntime,
+    hands: H,
+    job: Job,
+) -> Result<End<Outcome, RemoteCause>, RowFault> {
+    let alloc = rt.alloc();
+    let path = format!(in alloc; "{}/a", job.root)?;
+    if fs::write(&rt, path.as_str(), job.text.as_slice()).is_err() {
+        return Err(RowFault::BadCall);
+    }
+    let mut sources = HostSources::new(rt, job.root);
+    let mut files = Items::new(alloc);
+    files.push(input(&mut sources, path_of(alloc, "a")?, &job.text)?)?;
+    let tree = tree_of(alloc, files.as_slice())?;
+    let mut farm = client(rt, hands, job.address)?;
+    let job = RemoteJob {
+        command: &command(alloc)?,
+        accept_cached: job.accept_cached,
+        tree: &tree,
+        files: files.as_slice(),
+        presence: &Presence::new(alloc, PRESENT),
+    };
+    let mut stop = Unstopped {
+        attempt: Attempt::Remote,
+    };
+    let end = run_remote::<HostWorld, HostFarm<H>, HostSources<HostRuntime>, Unstopped, _>(
+        &hands,
+        alloc,
+        &job,
+        &mut farm,
+        &mut sources,
+        &mut stop,
+    );
+    let _closed = farm.hang_up();
+    Ok(end)
+}
+
+/// A client of the farm at an address. The names of its uploads are drawn from one seed.
+fn client<H: Hands>(rt: HostRuntime, hands: H, address: String) -> Result<HostFarm<H>, RowFault> {
+    let alloc = rt.alloc();
+    let authority = Vec::from_slice(alloc, address.as_bytes())?;
+    if authority.len() > MOST_ADDRESS {
+        return Err(RowFault::BadCall);
+    }
+    let dial = HostDial::new(rt, hands, Some(address), Halting::new(alloc)?);
+    let instance = Text::new(alloc);
+    let caller = GrpcCaller::new(alloc, dial, authority, instance, [7; 32]);
+    Ok(HostFarm::new(caller))
+}
+
+/// The input at a path, as it is looked at.
+fn input(
+    sources: &mut HostSources<HostRuntime>,
+    path: RelPath,
+    text: &[u8],
+) -> Result<InputFile, RowFault> {
+    match sources.look(&path) {
+        Ok(Look::File { stamp, executable }) => Ok(InputFile {
+            path,
+            digest: digest_of(text),
+            stamp,
+            executable,
+        }),
+        _ => Err(RowFault::BadCall),
+    }
+}
+
+/// The tree of these files.
+fn tree_of(alloc: Global, files: &[InputFile]) -> Result<Built, RowFault>
+    ensures { IfOk result (λ tree. AreNamed tree.blobs) }
+{
+    match build(alloc, files, &[]) {
+        Ok(tree) => Ok(tree),
+        Err(TreeFault::NoMemory) => Err(RowFault::NoMemory),
+        Err(_) => Err(RowFault::BadCall),
+    }
+}
+
+/// Writes an end: `Done` with the outcome, or `Failed` with the cause.
+pub(crate) fn write_end(
+    alloc: Global,
+    end: &End<Outcome, RemoteCause>,
+    answer: &mut Answer,
+) -> Result<(), RowFault> {
+    match end {
+        End::Done { outcome, origin } => write_done(outcome, *origin, answer),
+        End::Failed { cause } => {
+            answer.word("Failed")?;
+            write_remote_cause(alloc, cause, answer)?;
+            Ok(())
+        }
+    }
+}
+
+/// Writes where an outcome comes from, its code and texts, and each file.
+fn write_done(outcome: &Outcome, origin: Origin, answer: &mut Answer) -> Result<(), RowFault> {
+    answer.word("Done")?;
+    answer.value(&origin)?;
+    answer.value(&outcome.exit.code)?;
+    answer.text(outcome.exit.stdout.as_slice())?;
+    answer.text(outcome.exit.stderr.as_slice())?;
+    for file in outcome.files.as_slice() {
+        answer.text(file.path.as_str().as_bytes())?;
+        answer.text(file.bytes.as_slice())?;
+    }
+    Ok(())
+}
