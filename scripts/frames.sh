@@ -103,6 +103,7 @@ reply_in_words() {
         reasons[1] = "CutShort TooLong BadKind BadMessage UnknownVersion WrongRoot BadField Trailing NotBuilt"
         reasons[2] = "word path"
         reasons[6] = "ScanFiles FileBytes ScanBytes ListFiles ListBytes"
+        reasons[8] = "Asked Ended OtherBytes Lost"
         name_values("ends attempt", 1, "local remote")
         name_values("fault", 1, "status link http2 compressed too-large no-status bad-message cut blob-refused")
         within["ends"] = "attempt cause value path first second faults bytes"

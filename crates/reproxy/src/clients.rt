@@ -113,6 +113,7 @@ fn desk_over<H: Hands>(
 ) -> io::Result<ClientDesk<H>> {
     let seed = draw_seed(&host.rt)?;
     let halting = Halting::new(host.rt.alloc())?;
+    halting.keep_client(&host.hands, input.share_end()?);
     let output = PatientSink::new(host.rt, host.hands, output, host.children.share()?);
     let parts = parts_over(host, options, seed, &halting, input, output)?;
     let halt = HostHalt::new(host.hands, halting);

@@ -62,7 +62,8 @@ pub(crate) fn parts_over<H: Hands, I: Source + Drop, O: Sink + Drop>(
     })
 }
 
-/// The one desk of `exec`.
+/// The one desk of `exec`. What comes in by a reader can't be halted: a client that may cancel is waited for until its
+/// input ends or says something.
 #[derive(Drop)]
 pub(crate) struct HostDesk<H: Hands, I, O> {
     pub(crate) parts: HostParts<H, HostSource<I>, HostSink<O>>,

@@ -1,11 +1,12 @@
-//! How the attempts of a session over the machine are halted.
+//! How the attempts of a session over the machine are halted, and the wait for its client.
 
 use rx_engine::Halt;
 use rx_host::Halting;
 use rx_world::Attempt;
 use std::sync::Wait;
 
-/// Halts an attempt that lost its race, or nothing, where it has no session.
+/// Halts an attempt that lost its race, and the wait for a client with a connection; or nothing, where it has no
+/// session.
 #[derive(Drop)]
 pub(crate) struct HostHalt<H> {
     of: Option<(H, Halting)>,
@@ -43,6 +44,18 @@ impl<H: Wait> Halt for HostHalt<H> {
                 Attempt::Local => halting.halt_runs(hands),
                 Attempt::Remote => halting.halt_farm(hands),
             }
+        }
+    }
+
+    fn allow_silence(&self) {
+        if let Some((hands, halting)) = &self.of {
+            halting.allow_silence(hands);
+        }
+    }
+
+    fn halt_input(&self) {
+        if let Some((hands, halting)) = &self.of {
+            halting.halt_input(hands);
         }
     }
 }

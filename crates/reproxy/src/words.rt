@@ -7,6 +7,7 @@ ghost use Rattle.reproxy.specs.Words.{is_help};
 pub(crate) const USAGE: &str = "usage: reproxy exec --root PATH [OPTION]..
        reproxy serve --root PATH --listen ADDRESS [OPTION]..
 exec serves one request: its frame comes from standard input, the reply goes to standard output.
+The reply to a request that watches waits until standard input has ended or said something more.
 serve serves the clients that connect, many at once, until one asks for its end (rewrapper
 -shutdown_proxy) or a signal ends it.
   --root PATH         the source tree, and the place for outputs; PATH begins with a slash

@@ -2,9 +2,8 @@
 
 ghost use Rattle.std.specs.Prelude.{◌≡◌, IfOk, None};
 
-use crate::replies::ReplySource;
 use rx_client::Connect;
-use rx_streams::{Faults, Socket, SocketSink, ends_of};
+use rx_streams::{Faults, Socket, SocketSink, SocketSource, ends_of};
 use rx_world::Failed;
 use rx_wrap::Address;
 use std::io;
@@ -13,7 +12,8 @@ use std::net::{Net, TcpStream};
 
 /// Connects to Unix sockets and to ports of 127.0.0.1. Nothing is told of connections. Why the first
 /// can't be made, or that one failed, is told on standard error. There is no limit of time: a command
-/// may run for as long as it needs, and a proxy that ends closes its connections.
+/// may run for as long as it needs, and a proxy that ends closes its connections. Both directions stay
+/// open until the connection is handed back, since the end of what comes from here cancels the session.
 #[derive(Drop)]
 pub(crate) struct HostConnect<R> {
     rt: R,
@@ -35,15 +35,14 @@ impl<R> HostConnect<R> {
 fn connect_to<R: Net<Stream = TcpStream>>(
     rt: &R,
     address: &Address,
-) -> io::Result<(ReplySource, SocketSink)>
+) -> io::Result<(SocketSource, SocketSink)>
     ensures { IfOk result (λ ends. (ends.0 ≡ 0) × (ends.1 ≡ 0)) }
 {
     let socket = match address {
         Address::Unix(path) => Socket::connect_file(rt, path.as_str())?,
         Address::Port(port) => Socket::connect_port(rt, *port)?,
     };
-    let (source, sink) = ends_of(socket)?;
-    Ok((ReplySource::new(source), sink))
+    ends_of(socket)
 }
 
 /// Tells why there is no connection.
@@ -58,7 +57,7 @@ fn tell(rt: &impl Eprint, address: &Address, error: &io::Error) {
 }
 
 impl<R: Net<Stream = TcpStream> + Eprint> Connect for HostConnect<R> {
-    type In = ReplySource;
+    type In = SocketSource;
 
     type Out = SocketSink;
 
@@ -70,7 +69,7 @@ impl<R: Net<Stream = TcpStream> + Eprint> Connect for HostConnect<R> {
 
     ghost faults = { λ c. c.faults.count };
 
-    fn connect(&mut self, address: &Address) -> Result<(ReplySource, SocketSink), Failed> {
+    fn connect(&mut self, address: &Address) -> Result<(SocketSource, SocketSink), Failed> {
         match connect_to(&self.rt, address) {
             Ok(ends) => {
                 self.has_connected = true;
@@ -85,7 +84,7 @@ impl<R: Net<Stream = TcpStream> + Eprint> Connect for HostConnect<R> {
         }
     }
 
-    fn done(&mut self, input: ReplySource, output: SocketSink) {
+    fn done(&mut self, input: SocketSource, output: SocketSink) {
         if input.has_failed() || output.has_failed() {
             let _ = eprintln!(self.rt; "rewrapper: the connection failed");
             self.faults.raise();

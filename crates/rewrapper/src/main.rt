@@ -4,7 +4,6 @@
 
 mod configs;
 mod connect;
-mod replies;
 mod run;
 mod surroundings;
 mod words;

@@ -10,9 +10,8 @@ ghost use Rattle.rx_client.specs.declared.answers.Answer.TheVariants.{Config as 
 
 use crate::configs::HostConfigs;
 use crate::connect::HostConnect;
-use crate::replies::ReplySource;
 use rx_client::{Configs, Connect, Invocation, Wrapped, wrap};
-use rx_streams::{HostSink, SocketSink};
+use rx_streams::{HostSink, SocketSink, SocketSource};
 use rx_world::{Sink, Source};
 use std::alloc::Global;
 use std::io::Print;
@@ -29,7 +28,7 @@ pub(crate) fn run<O: Print, E: Print>(
 ) -> Wrapped
     ensures status { result.status ≡ status_of result.answer }
     // What was asked for was said to the proxy, what was heard is told, and the answer says which.
-    ensures wraps { Wraps ⟦<ReplySource as Source>⟧ ⟦<SocketSink as Sink>⟧
+    ensures wraps { Wraps ⟦<SocketSource as Source>⟧ ⟦<SocketSink as Sink>⟧
         (⟦<HostConfigs<HostRuntime> as Configs>⟧.held configs.old) invocation.now
         (connections ⟦<HostConnect<HostRuntime> as Connect>⟧ connect.old)
         (connections ⟦<HostConnect<HostRuntime> as Connect>⟧ connect.new)

@@ -17,9 +17,14 @@ pub(crate) fn words_in(alloc: Global, row: &mut Row<'_>) -> Result<Vec<String>, 
     Ok(words)
 }
 
-/// The next word, a digest as answers have it: `HASH/SIZE`.
+/// The next word, a digest.
 pub(crate) fn read_digest(row: &mut Row<'_>) -> Result<Digest, RowFault> {
-    let Some((hash, size)) = row.word()?.split_once('/') else {
+    digest_in(row.word()?)
+}
+
+/// The digest of a word, as answers have it: `HASH/SIZE`.
+pub(crate) fn digest_in(word: &str) -> Result<Digest, RowFault> {
+    let Some((hash, size)) = word.split_once('/') else {
         return Err(RowFault::BadBytes);
     };
     match (read_hash(hash), size.parse::<u64>()) {
@@ -70,9 +75,14 @@ pub(crate) fn sized_in(alloc: Global, row: &mut Row<'_>) -> Result<Node, RowFaul
     })
 }
 
-/// The part of a word.
+/// The part that the next word names.
 pub(crate) fn part_in(row: &mut Row<'_>) -> Result<Part, RowFault> {
-    match row.word()? {
+    part_of(row.word()?)
+}
+
+/// The part of a word.
+pub(crate) fn part_of(word: &str) -> Result<Part, RowFault> {
+    match word {
         "input" => Ok(Part::Input),
         "output" => Ok(Part::Output),
         "tree" => Ok(Part::Tree),
@@ -80,6 +90,7 @@ pub(crate) fn part_in(row: &mut Row<'_>) -> Result<Part, RowFault> {
         "remote" => Ok(Part::TreeRemote),
         "benches" => Ok(Part::Benches),
         "bench" => Ok(Part::Bench),
+        "farm" => Ok(Part::Farm),
         "place" => Ok(Part::Place),
         "front" => Ok(Part::Front),
         _ => Err(RowFault::BadCall),

@@ -3,16 +3,17 @@
 use crate::after::show_after;
 use crate::arguments::{file_in, part_in, sized_in, words_in};
 use crate::farms::read_line;
+use crate::meets::plan_meeting;
+use crate::options::show_options;
 use crate::plans::{DeskPlan, FailingCall, Node, Part, PlannedPath, PlannedTree};
 use crate::replies::show_number;
 use crate::requests::request_frame;
 use crate::runs::{Finished, run, run_threads, serve};
+use crate::seats::Hands;
 use rx_base::RelPath;
-use rx_engine::options_in;
 use rx_row_values::read_path;
 use rx_rows::{Answer, Calls, Row, RowFault};
 use std::alloc::Global;
-use std::sync::Wait;
 use std::thread::Threads;
 
 /// A run that a row asks for.
@@ -118,6 +119,7 @@ impl RunCalls {
         let call = FailingCall { part, number };
         match part {
             Part::Place | Part::Front => self.failing.push(call)?,
+            Part::Farm => return Err(RowFault::BadCall),
             _ => self.desk()?.failing.push(call)?,
         }
         Ok(())
@@ -226,7 +228,7 @@ impl RunCalls {
     /// Runs what the last row asked for. Whether it asked for a run, so that it is to be read again.
     pub(crate) fn run_asked(
         &mut self,
-        rt: &(impl Threads + Wait + Sync),
+        rt: &(impl Hands + Threads + Send + Sync),
     ) -> Result<bool, RowFault> {
         let Some(errand) = self.asked.take() else {
             return Ok(false);
@@ -246,28 +248,6 @@ impl RunCalls {
         Ok(true)
     }
 
-    /// `options WORDS`: what the words of a command line ask for.
-    fn call_options(&self, row: &mut Row<'_>, answer: &mut Answer) -> Result<(), RowFault> {
-        let words = words_in(self.alloc, row)?;
-        let Some(options) = options_in(&words) else {
-            answer.word("none")?;
-            return Ok(());
-        };
-        answer.text(options.root.as_bytes())?;
-        match options.remote {
-            Some(remote) => answer.text(remote.as_bytes())?,
-            None => answer.word("none")?,
-        }
-        answer.text(options.instance.as_bytes())?;
-        answer.text(options.scratch.as_bytes())?;
-        answer.number(u64::from(options.sessions))?;
-        answer.number(u64::from(options.slots))?;
-        if let Some(listen) = options.listen {
-            answer.text(listen.as_bytes())?;
-        }
-        Ok(())
-    }
-
     /// Rows that say something of a run that is still to begin.
     fn call_plans(&mut self, word: &str, row: &mut Row<'_>) -> Result<(), RowFault> {
         match word {
@@ -278,6 +258,9 @@ impl RunCalls {
             "local" | "remote" | "later" => self.call_trees(word, row)?,
             "farm" => self.add_line(row)?,
             "file" | "sized" | "dir" | "other" => self.call_paths(word, row)?,
+            "meet" | "waits" | "patience" | "starves" | "withholds" => {
+                plan_meeting(self.alloc, word, row, &mut self.desk()?.meeting)?
+            }
             _ => return Err(RowFault::NoCall),
         }
         Ok(())
@@ -299,7 +282,7 @@ impl Calls for RunCalls {
             | "ends"
             | "passes"
             | "calls" => show_after(self.alloc, self.last_run()?, word, row, answer),
-            "options" => self.call_options(row, answer),
+            "options" => show_options(self.alloc, row, answer),
             _ => {
                 self.call_plans(word, row)?;
                 answer.word("ok")?;

@@ -1,17 +1,21 @@
 //! Desks in memory, and a front that gives them.
 
-ghost use Rattle.std.specs.Prelude.{Some};
+ghost use Rattle.std.specs.Prelude.{◌≡◌, Some};
 
-use rx_engine::{Desk, Front, Log, Parts, Transcript};
-use rx_exec_messages::Script as FarmScript;
+use crate::benches::MeetingBenches;
+use crate::clients::MeetingClient;
+use crate::inputs::MeetingInput;
+use crate::plans::Part;
+use crate::seats::{Hands, Seat};
+use crate::sources::MeetingSources;
+use crate::worlds::RowWorld;
+use rx_engine::{Desk, Front, Halt, Log, Parts, Transcript};
+use rx_exec_messages::{Caller, Script as FarmScript};
 use rx_fakes::{MemorySink, MemorySource, MemorySources, Script, ToyBenches};
-use rx_world::{Failed, Toy};
+use rx_world::{Attempt, Failed};
 use std::marker::Brand;
 
-/// The world of the rows: its tool is computed.
-pub(crate) type ToyWorld = Toy<Brand>;
-
-/// A desk whose parts are in memory.
+/// The parts of a desk in memory, after a run.
 pub(crate) type MemoryDesk = Parts<
     MemorySource,
     MemorySink,
@@ -22,8 +26,110 @@ pub(crate) type MemoryDesk = Parts<
     FarmScript,
 >;
 
-/// A front in memory.
-pub(crate) type MemoryFront = ListFront<MemoryDesk>;
+/// Such parts with any client of a farm, each with its seat in the meeting of the desk.
+pub(crate) type MeetingParts<C, H> = Parts<
+    MeetingInput<H>,
+    MemorySink,
+    MeetingSources<H>,
+    MeetingSources<H>,
+    MeetingBenches<H>,
+    MeetingSources<H>,
+    MeetingClient<C, H>,
+>;
+
+/// A desk in memory whose parts may wait for each other.
+#[derive(Drop)]
+pub(crate) struct MeetingDesk<C, H> {
+    pub parts: MeetingParts<C, H>,
+}
+
+/// Such a desk whose farm's client is a script.
+pub(crate) type ScriptedDesk<H> = MeetingDesk<FarmScript, H>;
+
+impl<H: Hands> MeetingDesk<FarmScript, H> {
+    /// The parts without their meeting.
+    pub(crate) fn apart(self) -> MemoryDesk {
+        let Parts {
+            input,
+            output,
+            tree,
+            tree_local,
+            benches,
+            tree_remote,
+            farm,
+        } = self.parts;
+        Parts {
+            input: input.source,
+            output,
+            tree: tree.tree,
+            tree_local: tree_local.tree,
+            benches: benches.benches,
+            tree_remote: tree_remote.tree,
+            farm: farm.client,
+        }
+    }
+}
+
+impl<C: Caller<RowWorld> + Send + Drop, H: Hands + Send + Sync> Desk<RowWorld>
+    for MeetingDesk<C, H> {
+    type I = MeetingInput<H>;
+
+    type O = MemorySink;
+
+    type T = MeetingSources<H>;
+
+    type L = MeetingSources<H>;
+
+    type B = MeetingBenches<H>;
+
+    type R = MeetingSources<H>;
+
+    type C = MeetingClient<C, H>;
+
+    type H = MeetingHalt<H>;
+
+    ghost parts = { λ desk. desk.parts };
+
+    fn halter(&self) -> MeetingHalt<H> {
+        MeetingHalt {
+            seat: self.parts.benches.seat.beside(Part::Benches).ok(),
+        }
+    }
+
+    fn split(self) -> MeetingParts<C, H> {
+        self.parts
+    }
+
+    fn unite(of: MeetingParts<C, H>) -> MeetingDesk<C, H>
+        ensures { result.parts ≡ of }
+    {
+        MeetingDesk { parts: of }
+    }
+}
+
+/// Lets a meeting know which attempt is to end, and that the client is waited for no longer. Without a seat, for want of
+/// memory, it does nothing.
+#[derive(Drop)]
+pub(crate) struct MeetingHalt<H> {
+    seat: Option<Seat<H>>,
+}
+
+impl<H: Hands> Halt for MeetingHalt<H> {
+    fn halt(&self, attempt: Attempt) {
+        if let Some(seat) = &self.seat {
+            seat.halt(attempt);
+        }
+    }
+
+    // (each wait of a meeting has an end of its own)
+    fn allow_silence(&self) {}
+
+    fn halt_input(&self) {
+        if let Some(seat) = &self.seat {
+            seat.halt_input();
+        }
+    }
+}
 
 /// Gives desks, the first of them first.
 #[derive(Drop)]
@@ -32,7 +138,7 @@ pub(crate) struct ListFront<D> {
     pub script: Script,
 }
 
-impl<D: Desk<ToyWorld> + Send + Drop> Front<ToyWorld> for ListFront<D> {
+impl<D: Desk<RowWorld> + Send + Drop> Front<RowWorld> for ListFront<D> {
     type D = D;
 
     ghost coming = { λ f. Some f.desks.items };

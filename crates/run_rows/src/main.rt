@@ -4,23 +4,32 @@
 
 mod after;
 mod arguments;
+mod benches;
 mod calls;
+mod clients;
 mod desks;
 mod ends;
 mod farms;
+mod inputs;
+mod meetings;
+mod meets;
+mod options;
 mod outcomes;
 mod plans;
 mod replies;
 mod requests;
 mod results;
 mod runs;
+mod seats;
+mod sources;
 mod trees;
+mod worlds;
 
 use crate::calls::RunCalls;
+use crate::seats::Hands;
 use rx_rows::{TableFault, answer_rows};
 use std::alloc::Global;
 use std::io::{self, BufRead, BufReader, Write};
-use std::sync::Wait;
 use std::thread::Threads;
 
 fn main(rt: HostRuntime) -> Result<(), TableFault> {
@@ -31,7 +40,7 @@ fn main(rt: HostRuntime) -> Result<(), TableFault> {
 
 /// Answers the rows of the input one by one, and writes each with its answer.
 fn answer_all<R: BufRead + Drop, W: Write>(
-    rt: &(impl Threads + Wait + Sync),
+    rt: &(impl Hands + Threads + Send + Sync),
     alloc: Global,
     input: R,
     output: &mut W,
@@ -56,7 +65,7 @@ fn answer_all<R: BufRead + Drop, W: Write>(
 
 /// What is written for a line. Where it asks for a run, it is read again after that.
 fn answer_one(
-    rt: &(impl Threads + Wait + Sync),
+    rt: &(impl Hands + Threads + Send + Sync),
     alloc: Global,
     row: &[u8],
     calls: &mut RunCalls,

@@ -2,6 +2,7 @@
 
 ghost use Rattle.std.specs.Prelude.{◌≡◌, IfOk};
 
+use crate::meetings::MeetingPlan;
 use rx_base::{Bytes, NoMemory, RelPath};
 use rx_exec_messages::ScriptLine;
 use rx_fakes::Script;
@@ -54,6 +55,8 @@ pub(crate) enum Part {
     Benches,
     /// Each bench.
     Bench,
+    /// The farm's client.
+    Farm,
     Place,
     Front,
 }
@@ -85,6 +88,8 @@ pub(crate) struct DeskPlan {
     pub output_piece: usize,
     /// What the farm's client answers, call by call.
     pub lines: Vec<ScriptLine>,
+    /// Which calls wait for others, and what benches and memory lack.
+    pub meeting: MeetingPlan,
 }
 
 impl DeskPlan {
@@ -101,6 +106,7 @@ impl DeskPlan {
             input_piece: usize::MAX,
             output_piece: usize::MAX,
             lines: Vec::new(alloc),
+            meeting: MeetingPlan::new(alloc),
         }
     }
 }

@@ -4,7 +4,7 @@ use rx_base::{NoMemory, RelPath};
 use rx_farm_values::write_remote_cause;
 use rx_row_values::write_changed;
 use rx_rows::Answer;
-use rx_session::Reply;
+use rx_session::{CancelReason, Reply};
 use rx_world::{Cause, ChangedInput, Failure, LocalCause};
 use std::alloc::Global;
 
@@ -112,6 +112,12 @@ fn show_done(answer: &mut Answer, reply: &Reply) -> Result<(), NoMemory> {
     show_number(answer, "placed", *placed)
 }
 
+/// Why a request was cancelled.
+fn show_cancelled(answer: &mut Answer, reason: CancelReason) -> Result<(), NoMemory> {
+    answer.word("Cancelled")?;
+    answer.value(&reason)
+}
+
 /// A reply: its name, and what it tells.
 pub(crate) fn show_reply(
     alloc: Global,
@@ -139,6 +145,7 @@ pub(crate) fn show_reply(
             }
         }
         Reply::AllFailed { failures } => show_failures(alloc, answer, failures.as_slice()),
+        Reply::Cancelled { reason } => show_cancelled(answer, *reason),
         Reply::PlaceFault { receipt, placed } => {
             answer.word("PlaceFault")?;
             show_number(answer, "receipt", *receipt)?;

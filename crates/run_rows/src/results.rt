@@ -1,8 +1,8 @@
 //! Results of a farm, as rows tell them: see the headings of `stdin`.
 
-use crate::arguments::read_digest;
-use rx_base::{Bytes, Items, Text};
-use rx_messages::{ActionResult, OutputFile};
+use crate::arguments::digest_in;
+use rx_base::{Bytes, Digest, Items, Text};
+use rx_messages::{ActionResult, OutputDirectory, OutputFile, OutputSymlink};
 use rx_row_values::read_string;
 use rx_rows::{Row, RowFault};
 use std::alloc::Global;
@@ -49,12 +49,20 @@ fn code_alone(alloc: Global, exit_code: i32) -> ActionResult {
     }
 }
 
-/// `stdout TEXT`, `stderr TEXT` or `output FILE`.
+/// `stdout TEXT`, `stderr TEXT`, `output FILE`, `link PATH` or `directory PATH`.
 fn add_part(alloc: Global, row: &mut Row<'_>, given: &mut ActionResult) -> Result<(), RowFault> {
     match row.word()? {
         "stdout" => given.stdout_raw = Bytes::from_vec(row.text(alloc)?),
         "stderr" => given.stderr_raw = Bytes::from_vec(row.text(alloc)?),
         "output" => given.output_files.push(read_file(alloc, row)?)?,
+        "link" => given.output_symlinks.push(OutputSymlink {
+            path: Text::from_string(read_string(alloc, row)?),
+            target: Text::new(alloc),
+        })?,
+        "directory" => given.output_directories.push(OutputDirectory {
+            path: Text::from_string(read_string(alloc, row)?),
+            tree_digest: None,
+        })?,
         _ => return Err(RowFault::BadCall),
     }
     Ok(())
@@ -69,13 +77,21 @@ fn read_executable(row: &mut Row<'_>) -> Result<bool, RowFault> {
     }
 }
 
+/// The next word, a digest, or `none`.
+fn read_if_any(row: &mut Row<'_>) -> Result<Option<Digest>, RowFault> {
+    match row.word()? {
+        "none" => Ok(None),
+        word => Ok(Some(digest_in(word)?)),
+    }
+}
+
 /// `PATH MARK DIGEST TEXT`: an output, whose contents are in the result unless the text is empty.
 fn read_file(alloc: Global, row: &mut Row<'_>) -> Result<OutputFile, RowFault> {
     let path = Text::from_string(read_string(alloc, row)?);
     let is_executable = read_executable(row)?;
     Ok(OutputFile {
         path,
-        digest: Some(read_digest(row)?),
+        digest: read_if_any(row)?,
         is_executable,
         contents: Bytes::from_vec(row.text(alloc)?),
     })

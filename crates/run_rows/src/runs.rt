@@ -2,17 +2,19 @@
 
 ghost use Rattle.std.specs.Prelude.{◌≡◌, IfOk};
 
-use crate::desks::{ListFront, MemoryDesk, MemoryFront, ToyWorld, Unheard};
+use crate::desks::{ListFront, MeetingDesk, MemoryDesk, ScriptedDesk, Unheard};
 use crate::plans::{DeskPlan, FailingCall, Part, script_for};
+use crate::seats::Hands;
 use crate::trees::desk_of;
+use crate::worlds::RowWorld;
 use rx_base::{Items, NoMemory, Text};
 use rx_blobs::Presence;
 use rx_board::{Board, Entry};
 use rx_digest_cache::DigestCache;
-use rx_engine::{Desk, Ran, Shared, Transcript, run_in_threads, run_proxy, serve_session};
+use rx_engine::{Ran, Shared, Transcript, run_in_threads, run_proxy, serve_session};
+use rx_exec_messages::Caller;
 use rx_fakes::MemoryPlace;
 use std::alloc::Global;
-use std::sync::Wait;
 use std::thread::Threads;
 
 /// The root of all requests in rows.
@@ -33,22 +35,27 @@ pub(crate) struct Finished {
 }
 
 /// The desks of plans, in their order.
-fn desks_of(alloc: Global, plans: Vec<DeskPlan>) -> Result<Vec<MemoryDesk>, NoMemory> {
+fn desks_of<H: Hands>(
+    rt: &H,
+    alloc: Global,
+    plans: Vec<DeskPlan>,
+) -> Result<Vec<ScriptedDesk<H>>, NoMemory> {
     let mut desks = Vec::new(alloc);
     for plan in plans {
-        desks.push(desk_of(alloc, plan)?)?;
+        desks.push(desk_of(*rt, alloc, plan)?)?;
     }
     Ok(desks)
 }
 
 /// The front that gives desks of these plans.
-fn front_of(
+fn front_of<H: Hands>(
+    rt: &H,
     alloc: Global,
     plans: Vec<DeskPlan>,
     failing: &[FailingCall],
-) -> Result<MemoryFront, NoMemory> {
-    Ok(MemoryFront {
-        desks: desks_of(alloc, plans)?,
+) -> Result<ListFront<ScriptedDesk<H>>, NoMemory> {
+    Ok(ListFront {
+        desks: desks_of(rt, alloc, plans)?,
         script: script_for(alloc, failing, Part::Front)?,
     })
 }
@@ -63,59 +70,83 @@ fn place_of(alloc: Global, failing: &[FailingCall]) -> Result<MemoryPlace, NoMem
 }
 
 /// What is left behind a run of the whole proxy.
-fn left_behind(ran: Ran<ToyWorld, MemoryFront, MemoryPlace>) -> Finished {
-    Finished {
+fn left_behind<H: Hands + Send + Sync>(
+    alloc: Global,
+    ran: Ran<RowWorld, ListFront<ScriptedDesk<H>>, MemoryPlace>,
+) -> Result<Finished, NoMemory> {
+    let mut desks = Vec::new(alloc);
+    for desk in ran.desks {
+        desks.push(desk.apart())?;
+    }
+    Ok(Finished {
         status: Some(ran.status),
         place: ran.place,
         journal: ran.journal,
         transcripts: ran.transcripts,
-        desks: ran.desks,
-    }
+        desks,
+    })
 }
 
 /// Runs the proxy over these desks, one after the other, with these words of the command line.
-pub(crate) fn run(
-    rt: &(impl Threads + Wait + Sync),
+pub(crate) fn run<H: Hands + Threads + Send + Sync>(
+    rt: &H,
     alloc: Global,
     words: &[String],
     plans: Vec<DeskPlan>,
     failing: &[FailingCall],
 ) -> Result<Finished, NoMemory> {
-    let front = front_of(alloc, plans, failing)?;
+    let front = front_of(rt, alloc, plans, failing)?;
     let place = place_of(alloc, failing)?;
-    Ok(left_behind(run_proxy::<ToyWorld, _, _, _>(rt, alloc, words, front, place)))
+    let ran = run_front(rt, alloc, words, front, place);
+    left_behind(alloc, ran)
 }
 
-/// The same with the sessions in threads.
-pub(crate) fn run_threads(
-    rt: &(impl Threads + Wait + Sync),
+/// Runs the proxy over a front, one session after the other. It takes desks with any client of a farm:
+/// that a desk may go to another thread follows from the same of its client.
+fn run_front<C: Caller<RowWorld> + Send + Drop, H: Hands + Threads + Send + Sync>(
+    rt: &H,
     alloc: Global,
     words: &[String],
-    plans: Vec<DeskPlan>,
-    failing: &[FailingCall],
-) -> Result<Finished, NoMemory> {
-    let front = front_of(alloc, plans, failing)?;
-    let place = place_of(alloc, failing)?;
-    Ok(left_behind(run_front(rt, alloc, words, front, place)))
-}
-
-/// Runs the proxy over a front, with the sessions in threads.
-fn run_front<D: Desk<ToyWorld> + Send + Drop>(
-    rt: &(impl Threads + Wait + Sync),
-    alloc: Global,
-    words: &[String],
-    front: ListFront<D>,
+    front: ListFront<MeetingDesk<C, H>>,
     place: MemoryPlace,
-) -> Ran<ToyWorld, ListFront<D>, MemoryPlace>
+) -> Ran<RowWorld, ListFront<MeetingDesk<C, H>>, MemoryPlace>
     requires opening { place.files ≡ place.opening }
     requires quiet { place.script.faults ≡ 0 }
 {
-    run_in_threads::<ToyWorld, _, _, _, _>(rt, alloc, words, front, place, &Unheard)
+    run_proxy::<RowWorld, _, _, _>(rt, alloc, words, front, place)
+}
+
+/// The same with the sessions in threads.
+pub(crate) fn run_threads<H: Hands + Threads + Send + Sync>(
+    rt: &H,
+    alloc: Global,
+    words: &[String],
+    plans: Vec<DeskPlan>,
+    failing: &[FailingCall],
+) -> Result<Finished, NoMemory> {
+    let front = front_of(rt, alloc, plans, failing)?;
+    let place = place_of(alloc, failing)?;
+    let ran = run_front_in_threads(rt, alloc, words, front, place);
+    left_behind(alloc, ran)
+}
+
+/// The same over a front, with the sessions in threads.
+fn run_front_in_threads<C: Caller<RowWorld> + Send + Drop, H: Hands + Threads + Send + Sync>(
+    rt: &H,
+    alloc: Global,
+    words: &[String],
+    front: ListFront<MeetingDesk<C, H>>,
+    place: MemoryPlace,
+) -> Ran<RowWorld, ListFront<MeetingDesk<C, H>>, MemoryPlace>
+    requires opening { place.files ≡ place.opening }
+    requires quiet { place.script.faults ≡ 0 }
+{
+    run_in_threads::<RowWorld, _, _, _, _>(rt, alloc, words, front, place, &Unheard)
 }
 
 /// Serves one desk as session 1, on a board whose journal takes so many entries.
-pub(crate) fn serve(
-    rt: &(impl Threads + Wait + Sync),
+pub(crate) fn serve<H: Hands + Threads + Send + Sync>(
+    rt: &H,
     alloc: Global,
     limit: usize,
     plan: DeskPlan,
@@ -127,7 +158,7 @@ pub(crate) fn serve(
         cache: DigestCache::new(alloc, 1)?,
         presence: Presence::new(alloc, PRESENCE),
     };
-    let desk = desk_of(alloc, plan)?;
+    let desk = desk_of(*rt, alloc, plan)?;
     let (transcript, desk) = serve_desk(rt, alloc, desk, &mut shared);
     let (place, journal) = shared.board.into_parts();
     Ok(Finished {
@@ -135,16 +166,16 @@ pub(crate) fn serve(
         place,
         journal,
         transcripts: vec![in alloc; transcript]?,
-        desks: vec![in alloc; desk]?,
+        desks: vec![in alloc; desk.apart()]?,
     })
 }
 
 /// Serves a desk as session 1.
-fn serve_desk(
-    rt: &(impl Threads + Wait + Sync),
+fn serve_desk<C: Caller<RowWorld> + Send + Drop, H: Hands + Threads + Send + Sync>(
+    rt: &H,
     alloc: Global,
-    desk: MemoryDesk,
-    shared: &mut Shared<ToyWorld, MemoryPlace>,
-) -> (Transcript, MemoryDesk) {
-    serve_session::<ToyWorld, _, _, _>(rt, alloc, 1, desk, shared)
+    desk: MeetingDesk<C, H>,
+    shared: &mut Shared<RowWorld, MemoryPlace>,
+) -> (Transcript, MeetingDesk<C, H>) {
+    serve_session::<RowWorld, _, _, _>(rt, alloc, 1, desk, shared)
 }

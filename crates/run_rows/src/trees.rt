@@ -1,7 +1,13 @@
 //! Source trees and desks, made of their plans.
 
-use crate::desks::MemoryDesk;
+use crate::benches::MeetingBenches;
+use crate::clients::MeetingClient;
+use crate::desks::{MeetingDesk, MemoryDesk, ScriptedDesk};
+use crate::inputs::MeetingInput;
+use crate::meetings::Meeting;
 use crate::plans::{DeskPlan, Node, Part, PlannedPath, PlannedTree, failing_calls, script_for};
+use crate::seats::{Hands, Seat};
+use crate::sources::MeetingSources;
 use rx_base::{NoMemory, TryClone};
 use rx_engine::Parts;
 use rx_exec_messages::Script as FarmScript;
@@ -9,6 +15,7 @@ use rx_fakes::{Change, MemorySink, MemorySource, MemorySources, SourceEntries, T
 use rx_world::Dialect;
 use std::alloc::Global;
 use std::marker::Brand;
+use std::sync::Arc;
 
 /// Adds what stands at a path.
 fn add_path(
@@ -94,17 +101,80 @@ fn tree_for(is_apart: bool, own: PlannedTree) -> PlannedTree {
     if is_apart { own } else { PlannedTree::All }
 }
 
-/// The desk of a plan.
-pub(crate) fn desk_of(alloc: Global, plan: DeskPlan) -> Result<MemoryDesk, NoMemory> {
+/// The trees of a desk: the one that inputs are gathered from, and those of the local and of the remote
+/// attempt.
+#[derive(Drop)]
+struct Trees {
+    gathered: MemorySources<Brand>,
+    local: MemorySources<Brand>,
+    remote: MemorySources<Brand>,
+}
+
+fn trees_of(alloc: Global, plan: &DeskPlan) -> Result<Trees, NoMemory> {
     let local = tree_for(plan.local_apart, PlannedTree::Local);
     let remote = tree_for(plan.remote_apart, PlannedTree::Remote);
-    Ok(Parts {
-        input: input_of(alloc, &plan)?,
-        output: output_of(alloc, &plan)?,
-        tree: sources_of(alloc, &plan, PlannedTree::All, Part::Tree)?,
-        tree_local: sources_of(alloc, &plan, local, Part::TreeLocal)?,
+    Ok(Trees {
+        gathered: sources_of(alloc, plan, PlannedTree::All, Part::Tree)?,
+        local: sources_of(alloc, plan, local, Part::TreeLocal)?,
+        remote: sources_of(alloc, plan, remote, Part::TreeRemote)?,
+    })
+}
+
+/// The desk of a plan.
+pub(crate) fn desk_of<H: Hands>(
+    hands: H,
+    alloc: Global,
+    plan: DeskPlan,
+) -> Result<ScriptedDesk<H>, NoMemory> {
+    let input = input_of(alloc, &plan)?;
+    let output = output_of(alloc, &plan)?;
+    let trees = trees_of(alloc, &plan)?;
+    let parts = Parts {
+        input,
+        output,
+        tree: trees.gathered,
+        tree_local: trees.local,
         benches: benches_of(alloc, &plan)?,
-        tree_remote: sources_of(alloc, &plan, remote, Part::TreeRemote)?,
+        tree_remote: trees.remote,
         farm: FarmScript::new(alloc, plan.lines, Dialect::New),
+    };
+    let meeting = Arc::new(alloc, Meeting::new(plan.meeting))?;
+    seated(hands, parts, &meeting)
+}
+
+/// The desk of these parts. Each that may wait has its seat in one meeting.
+fn seated<H: Hands>(
+    hands: H,
+    parts: MemoryDesk,
+    meeting: &Arc<Meeting, Global>,
+) -> Result<ScriptedDesk<H>, NoMemory> {
+    Ok(MeetingDesk {
+        parts: Parts {
+            input: MeetingInput {
+                source: parts.input,
+                seat: Seat::new(hands, meeting, Part::Input)?,
+            },
+            output: parts.output,
+            tree: MeetingSources {
+                tree: parts.tree,
+                seat: Seat::new(hands, meeting, Part::Tree)?,
+            },
+            tree_local: MeetingSources {
+                tree: parts.tree_local,
+                seat: Seat::new(hands, meeting, Part::TreeLocal)?,
+            },
+            benches: MeetingBenches {
+                benches: parts.benches,
+                seat: Seat::new(hands, meeting, Part::Benches)?,
+            },
+            tree_remote: MeetingSources {
+                tree: parts.tree_remote,
+                seat: Seat::new(hands, meeting, Part::TreeRemote)?,
+            },
+            farm: MeetingClient {
+                client: parts.farm,
+                seat: Seat::new(hands, meeting, Part::Farm)?,
+            },
+        },
     })
 }

@@ -3,6 +3,8 @@ use Rattle.std.specs.Prelude.{ℕ, List, [], ◌∷◌, ◌++◌, Option, None, 
 use Rattle.std.specs.Fmt.{decimal}
 use Rattle.rx_session.specs.Bad.{reason_number}
 use Rattle.rx_session.specs.Replies.{limit_number}
+use Rattle.rx_session.specs.declared.cancels.CancelReason.{CancelReason}
+use Rattle.rx_session.specs.declared.cancels.CancelReason.TheVariants as cancels
 use Rattle.rx_session.specs.declared.replies.Reply.{Reply}
 use Rattle.rx_session.specs.declared.replies.Reply.TheVariants as replies
 use Rattle.rx_world.specs.declared.refusals.Limit.{Limit}
@@ -37,6 +39,7 @@ number_of (replies.InputChanged input) = 4
 number_of (replies.SourceFault path) = 5
 number_of (replies.TooLarge limit n path) = 6
 number_of (replies.AllFailed failures) = 7
+number_of (replies.Cancelled reason) = 8
 number_of (replies.PlaceFault receipt placed) = 9
 number_of replies.JournalFull = 10
 number_of replies.NoMemory = 11
@@ -55,6 +58,13 @@ abbrev pub limit_text : Limit → Option (List ℕ) → List ℕ
 limit_text limit None = decimal (limit_number limit)
 limit_text limit (Some path) = path
 
+-- why the session was cancelled, in words
+abbrev pub cancel_text : CancelReason → List ℕ
+cancel_text cancels.Asked = codes "cancelled: asked to"
+cancel_text cancels.Ended = codes "cancelled: the connection was closed"
+cancel_text cancels.OtherBytes = codes "cancelled: unexpected bytes"
+cancel_text cancels.Lost = codes "cancelled: the connection failed"
+
 -- the path or the text that a reply has, else its reason, behind a space
 abbrev pub detail_of : Reply → List ℕ
 detail_of (replies.Done exit stdout stderr origin receipt placed) = []
@@ -65,6 +75,7 @@ detail_of (replies.InputChanged input) = behind input.path
 detail_of (replies.SourceFault path) = behind path
 detail_of (replies.TooLarge limit n path) = behind (limit_text limit path)
 detail_of (replies.AllFailed failures) = []
+detail_of (replies.Cancelled reason) = behind (cancel_text reason)
 detail_of (replies.PlaceFault receipt placed) = []
 detail_of replies.JournalFull = []
 detail_of replies.NoMemory = []

@@ -45,6 +45,7 @@ TellsReply (replies.InputChanged input) out err answer = TellsRefusal (replies.I
 TellsReply (replies.SourceFault path) out err answer = TellsRefusal (replies.SourceFault path) out err answer
 TellsReply (replies.TooLarge limit n path) out err answer = TellsRefusal (replies.TooLarge limit n path) out err answer
 TellsReply (replies.AllFailed failures) out err answer = TellsRefusal (replies.AllFailed failures) out err answer
+TellsReply (replies.Cancelled reason) out err answer = TellsRefusal (replies.Cancelled reason) out err answer
 TellsReply (replies.PlaceFault receipt placed) out err answer = TellsRefusal (replies.PlaceFault receipt placed) out err answer
 TellsReply replies.JournalFull out err answer = TellsRefusal replies.JournalFull out err answer
 TellsReply replies.NoMemory out err answer = TellsRefusal replies.NoMemory out err answer

@@ -4,11 +4,11 @@ ghost use Rattle.std.specs.Prelude.{◌≡◌, ◌++◌, IfOk, OnOk, string_byte
 ghost use Rattle.std.specs.Fmt.{decimal};
 ghost use Rattle.rx_session.specs.Bad.{reason_number};
 ghost use Rattle.rx_session.specs.Replies.{limit_number};
-ghost use Rattle.rx_client.specs.Lines.{behind, cause_text, detail_of, limit_text, number_of, refusal_line};
+ghost use Rattle.rx_client.specs.Lines.{behind, cancel_text, cause_text, detail_of, limit_text, number_of, refusal_line};
 
 use itoa::Buffer;
 use rx_base::NoMemory;
-use rx_session::{BadReason, Reply};
+use rx_session::{BadReason, CancelReason, Reply};
 use rx_world::{Limit, LocalCause};
 use std::alloc::Global;
 
@@ -25,6 +25,7 @@ pub(crate) fn number_of(reply: &Reply) -> u8
         Reply::SourceFault { .. } => 5,
         Reply::TooLarge { .. } => 6,
         Reply::AllFailed { .. } => 7,
+        Reply::Cancelled { .. } => 8,
         Reply::PlaceFault { .. } => 9,
         Reply::JournalFull => 10,
         Reply::NoMemory => 11,
@@ -57,6 +58,18 @@ fn limit_number(limit: Limit) -> u8
         Limit::ScanBytes => 3,
         Limit::ListFiles => 4,
         Limit::ListBytes => 5,
+    }
+}
+
+/// Why the session was cancelled, in words.
+fn cancel_text(reason: CancelReason) -> &'static str
+    ensures { result.now ≡ cancel_text reason }
+{
+    match reason {
+        CancelReason::Asked => "cancelled: asked to",
+        CancelReason::Ended => "cancelled: the connection was closed",
+        CancelReason::OtherBytes => "cancelled: unexpected bytes",
+        CancelReason::Lost => "cancelled: the connection failed",
     }
 }
 
@@ -109,6 +122,7 @@ fn push_detail(out: &mut String, reply: &Reply) -> Result<(), NoMemory>
             path: None,
             ..
         } => push_number_behind(out, limit_number(*limit)),
+        Reply::Cancelled { reason } => push_behind(out, cancel_text(*reason)),
         Reply::Blocked { path } => push_behind(out, path.as_str()),
         Reply::Done { .. }
         | Reply::AllFailed { .. }

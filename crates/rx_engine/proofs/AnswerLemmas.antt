@@ -1,7 +1,10 @@
 -- From the steps of an answer to the whole of it.
-use Rattle.std.proofs.Common.{◌≡◌, ℕ, Bool, List, [], inl, inr, refl, sym, subst}
+use Rattle.std.proofs.Common.{◌≡◌, ◌∙◌, ℕ, Bool, true, false, List, [], inl, inr, refl, sym, subst}
 use Rattle.std.proofs.lemmas.List.Elements.{All-nil, All-weaker}
-use Rattle.std.specs.Prelude.{Err, IfOk, IfSome, None, Ok, Option, Result, Some, All}
+use Rattle.std.specs.Prelude.{Err, IfOk, IfSome, None, Ok, Option, Result, Some, All, is_some}
+use Rattle.rx_race.specs.declared.events.Verdict.TheVariants.{Late, Noted, Won as WonRace}
+use Rattle.rx_race.specs.declared.slips.Slip.{Slip}
+use Rattle.rx_race.specs.declared.slips.Slip.TheVariants.{Live, Refused, Stopped, Told, Unused}
 use Rattle.rx_scan.specs.declared.gather_fault.GatherFault.{GatherFault}
 use Rattle.rx_scan.specs.declared.gather_fault.GatherFault.TheVariants as fault
 use Rattle.rx_scan.specs.declared.gathering.Gathered.{Gathered}
@@ -10,12 +13,15 @@ use Rattle.rx_scan.specs.Digests.{IsAsListed as IsAsSeen}
 use Rattle.rx_scan.specs.Gathering.{Asked, BlamesGather, Gathers, IsGatheredBy, IsOrderly}
 use Rattle.rx_scan.specs.Lists.{IsRightList, Tells, stretch}
 use Rattle.rx_reach.specs.Scenes.{scene_of}
+use Rattle.rx_session.specs.declared.cancels.CancelReason.{CancelReason}
 use Rattle.rx_session.specs.declared.replies.Reply.{Reply}
 use Rattle.rx_session.specs.declared.replies.Reply.TheVariants as reply
 use Rattle.rx_session.specs.declared.requests.Request.{Request}
 use Rattle.rx_session.specs.Jobs.{command_of, declared_of}
 use Rattle.rx_session.specs.Replies.{frame_of}
 use Rattle.rx_exec_messages.specs.declared.callers.Caller as callers
+use Rattle.rx_world.specs.declared.attempts.Ended.{Ended}
+use Rattle.rx_world.specs.declared.attempts.Failure.{Failure}
 use Rattle.rx_world.specs.declared.benches.Bench as benches
 use Rattle.rx_world.specs.declared.benches.BenchMaker as makers
 use Rattle.rx_world.specs.declared.sources.Sources as sources
@@ -33,14 +39,18 @@ use Rattle.rx_engine.specs.declared.attempts.Won.{Won}
 use Rattle.rx_engine.specs.declared.desk.Parts.{Parts}
 use Rattle.rx_engine.specs.declared.pending.Stage.TheVariants as stages
 use Rattle.rx_engine.specs.declared.transcripts.Tally.{Tally}
-use Rattle.rx_engine.specs.Answered.{AnswersFault, IsPlain, TellsPublication, reply_no_memory}
+use Rattle.rx_engine.specs.Answered.{AnswersFault, IsPlain, IsUnpublishedEnd, TellsPublication, reply_no_memory}
 use Rattle.rx_engine.specs.Answers.{Answers, Grounds, HasRun, HasWon, IsUnrun, MayHaveRun, asked_of, grounds, stretch_of}
 use Rattle.rx_engine.specs.Attempts.{HasAttempts, HasMade, IsIdle, no_tally, winner}
 use Rattle.rx_engine.specs.Gathers.{AnswersMade, HasGatheredFor, HasNotGathered}
 use Rattle.rx_engine.specs.Meanings.{Meanings, meanings}
 use Rattle.rx_engine.specs.Pending.{HasAnswered, HasTried}
+use Rattle.rx_engine.specs.Racing.{is_cancelled}
 use Rattle.rx_engine.specs.Ready.{AnswersAs, IsOrGivenUp}
+use Rattle.rx_engine.specs.Watching.{Listens}
 use Rattle.rx_engine.proofs.AttemptLemmas.{idle-none}
+use Rattle.rx_engine.proofs.Cases.{false-true}
+use Rattle.rx_engine.proofs.RaceLemmas.{unused-told}
 use Rattle.rx_engine.proofs.Unpublished.{refused}
 use Rattle.rx_engine.proofs.Moves.{IsSame, attempts-move, idle-move, same-none, tells-in, tells-move}
 
@@ -71,12 +81,33 @@ same-back p q h = record {
 
 -- ---- the replies to attempts
 
+-- the right to cancel won only where it was told so
+cancelled-told : (cancel : Slip) → is_cancelled cancel ≡ true → cancel ≡ Told WonRace
+cancelled-told (Told WonRace) e = refl
+cancelled-told (Told Late) e = absurd (false-true e)
+cancelled-told (Told Noted) e = absurd (false-true e)
+cancelled-told Unused e = absurd (false-true e)
+cancelled-told Refused e = absurd (false-true e)
+cancelled-told Live e = absurd (false-true e)
+cancelled-told Stopped e = absurd (false-true e)
+
+failed-cancelled : {failures : List Failure} (reason : CancelReason) → reply.AllFailed failures ≡ reply.Cancelled reason → ⊥
+failed-cancelled reason e = cc
+
+memory-cancelled : (reason : CancelReason) → reply_no_memory ≡ reply.Cancelled reason → ⊥
+memory-cancelled reason e = cc
+
+by-watch : (watch : Bool) → (watch ≡ false → ⊥) → watch ≡ true
+by-watch true n = refl
+by-watch false n = absurd (n refl)
+
 module _ {P W B : Type 0} (m : Meanings P W B) (g : Grounds P) (request : Request) (tally : Tally) where
   publication-answers : (won : Won) (a : Answered) (answer : Reply) → HasWon m g request tally won → TellsPublication won a answer → Answers m g request a.receipt tally answer
   publication-answers won a (reply.Done exit stdout stderr from number placed) h tells = (won, h, tells.0, tells.1)
   publication-answers won a (reply.PlaceFault number placed) h tells = (won, h, tells.0, tells.1)
   publication-answers won a reply.JournalFull h tells = (won, h, tells)
   publication-answers won a (reply.AllFailed failures) h tells = absurd tells
+  publication-answers won a (reply.Cancelled reason) h tells = absurd tells
   publication-answers won a (reply.NotRemotable why) h tells = absurd tells
   publication-answers won a (reply.InputMissing path) h tells = absurd tells
   publication-answers won a (reply.InputChanged input) h tells = absurd tells
@@ -89,13 +120,23 @@ module _ {P W B : Type 0} (m : Meanings P W B) (g : Grounds P) (request : Reques
   no-memory-answers : (a : Answered) → MayHaveRun m g request tally → IsPlain reply_no_memory a → Answers m g request a.receipt tally a.reply
   no-memory-answers a run h = rw h.reply_is (run, h.receipt_is)
 
-  run-answers : (run : HasRun m g request tally) (answered : Option Answered) → IfSome answered (AnswersMade (winner run.gathered.plan run.attempts) tally.ends) → AnswersAs m g request tally answered
-  run-answers run None h = inr run
-  run-answers run (Some a) (inl h) = (h.2.frame, publication-answers h.0 a a.reply (record { run = run; won_is = h.1 }) h.2.tells)
-  run-answers run (Some a) (inr (inl h)) =
-      let plain = h.1.plain in
-      (plain.frame, rw plain.reply_is (record { run = run; none_won = h.0; tellable = h.1.tellable }, refl, plain.receipt_is))
-  run-answers run (Some a) (inr (inr h)) = (h.frame, no-memory-answers a (inr run) h)
+  unpublished-answers : (run : HasRun m g request tally) (cancelled : Option CancelReason) (a : Answered) → winner run.gathered.plan run.attempts ≡ None
+      → is_some cancelled ≡ is_cancelled tally.passes.cancel → (request.watch ≡ false → tally.passes.cancel ≡ Unused) → IsUnpublishedEnd cancelled tally.ends a
+      → (a.frame.items ≡ frame_of a.reply) × Answers m g request a.receipt tally a.reply
+  unpublished-answers run (Some reason) a none is unwatched h =
+      let cancelled : tally.passes.cancel ≡ Told WonRace = cancelled-told tally.passes.cancel (sym is) in
+      (h.frame, rw h.reply_is (record { run = run; cancelled = cancelled; watched = by-watch request.watch (λ e. unused-told WonRace (sym (unwatched e) ∙ cancelled)) }, h.receipt_is))
+  unpublished-answers run None a none is unwatched h =
+      let plain = h.plain in
+      (plain.frame, rw plain.reply_is (record { run = run; none_won = none; uncancelled = sym is; tellable = h.tellable }, refl, plain.receipt_is))
+
+  run-answers : (run : HasRun m g request tally) (cancelled : Option CancelReason) (answered : Option Answered)
+      → is_some cancelled ≡ is_cancelled tally.passes.cancel → (request.watch ≡ false → tally.passes.cancel ≡ Unused)
+      → IfSome answered (AnswersMade (winner run.gathered.plan run.attempts) cancelled tally.ends) → AnswersAs m g request tally answered
+  run-answers run cancelled None is unwatched h = inr run
+  run-answers run cancelled (Some a) is unwatched (inl h) = (h.2.frame, publication-answers h.0 a a.reply (record { run = run; won_is = h.1 }) h.2.tells)
+  run-answers run cancelled (Some a) is unwatched (inr (inl h)) = unpublished-answers run cancelled a h.0 is unwatched h.1
+  run-answers run cancelled (Some a) is unwatched (inr (inr h)) = (h.frame, no-memory-answers a (inr run) h)
 
   -- ---- the replies to a refused gathering
 
@@ -121,9 +162,18 @@ module _ {P W B : Type 0} (m : Meanings P W B) (g : Grounds P) (request : Reques
 
 -- the answer to attempts that were made
 pub tried-answers : {P W B : Type 0} (m : Meanings P W B) (g : Grounds P) (request : Request) (attempted : Attempted) (answered : Option Answered) → HasTried m g request attempted
-    → IfSome answered (AnswersMade attempted.won attempted.tally.ends) → AnswersAs m g request attempted.tally answered
+    → IfSome answered (AnswersMade attempted.won attempted.heard.cancelled attempted.tally.ends) → AnswersAs m g request attempted.tally answered
 tried-answers m g request attempted answered h a =
-    run-answers m g request attempted.tally h.run answered (subst (λ x. IfSome answered (AnswersMade x attempted.tally.ends)) h.won_is a)
+    run-answers m g request attempted.tally h.run attempted.heard.cancelled answered h.cancelled_is h.unwatched
+    (subst (λ x. IfSome answered (AnswersMade x attempted.heard.cancelled attempted.tally.ends)) h.won_is a)
+
+-- it tells of a cancel only where the race was cancelled for that
+pub tells-cancel : (won : Option Won) (cancelled : Option CancelReason) (ends : List Ended) (a : Answered) (reason : CancelReason) → AnswersMade won cancelled ends a
+    → a.reply ≡ reply.Cancelled reason → cancelled ≡ Some reason
+tells-cancel won cancelled ends a reason (inl h) e = absurd (subst (TellsPublication h.0 a) e h.2.tells)
+tells-cancel won (Some other) ends a reason (inr (inl h)) e = let same : reply.Cancelled other ≡ reply.Cancelled reason = sym h.1.reply_is ∙ e in cc
+tells-cancel won None ends a reason (inr (inl h)) e = absurd (failed-cancelled reason (sym h.1.plain.reply_is ∙ e))
+tells-cancel won cancelled ends a reason (inr (inr h)) e = absurd (memory-cancelled reason (sym h.reply_is ∙ e))
 
 -- ---- the whole
 
@@ -131,10 +181,10 @@ module _ {W I O T L M B R C : Type 0} (w : world.Ghosts W) (i : inputs.Ghosts I)
     (v : sources.Ghosts R W) (z : callers.Ghosts C W) where
   -- what was gathered was run on
   pub answered-run : (p q r : Parts I O T L M R C) (request : Request) (gathered : Gathered) (accepts : Bool) (attempted : Attempted)
-      → IsSame p q → r.tree ≡ q.tree → accepts ≡ request.accept_cached
+      → IsSame p q → r.tree ≡ q.tree → accepts ≡ request.accept_cached → Listens i request.watch q.input r.input attempted.heard attempted.tally.passes.cancel
       → HasGatheredFor (meanings w i o t l k b v z) request p q gathered → HasMade (meanings w i o t l k b v z) gathered accepts q r attempted
       → HasAnswered (meanings w i o t l k b v z) request p r (stages.Attempted attempted)
-  answered-run p q r request gathered accepts attempted same d is h made =
+  answered-run p q r request gathered accepts attempted same d is listens h made =
       let inputs = h.inputs in
       record {
         answers = h.answers;
@@ -156,6 +206,8 @@ module _ {W I O T L M B R C : Type 0} (w : world.Ghosts W) (i : inputs.Ghosts I)
             tally_is = made.tally_is;
           };
           won_is = made.won_is;
+          cancelled_is = listens.heard_is.cancelled_is;
+          unwatched = λ e. (listens.unwatched e).slip_is;
         };
       }
 

@@ -12,7 +12,6 @@ use Rattle.rx_local.proofs.Ends.{forgets}
 use Rattle.rx_local.specs.Limits.{IsWithinLimits}
 use Rattle.rx_local.specs.Local.{HasAttempted, HasTold}
 use Rattle.rx_race.specs.declared.slips.Slip.{Slip}
-use Rattle.rx_race.specs.declared.slips.Slip.TheVariants.{Unused}
 use Rattle.rx_race.specs.Locked.{AreTold, slips_of}
 use Rattle.rx_race.specs.Slips.{Ticket}
 use Rattle.rx_remote.specs.Actions.{AreNamed}
@@ -219,9 +218,9 @@ module _ {W I O T L M B R C : Type 0} (w : world.Ghosts W) (i : inputs.Ghosts I)
       → gathered.plan ≡ plan
       → HasRacedHere w k b l plan (is_due_here plan far.slip) gathered p.benches q.benches p.tree_local q.tree_local here near
       → HasRacedThere w z v plan (has_remote plan) gathered accepts p.farm q.farm p.tree_remote q.tree_remote there far
-      → AreTold plan (slips_of near.slip far.slip cancel) → cancel ≡ Unused → passes ≡ record { local = near.slip; remote = far.slip; cancel = cancel }
+      → AreTold plan (slips_of near.slip far.slip cancel) → passes ≡ record { local = near.slip; remote = far.slip; cancel = cancel }
       → HasRaced (meanings w i o t l k b v z) gathered accepts p q here there passes
-  all-raced p q gathered accepts plan here there near far cancel passes e h g told unused is = record {
+  all-raced p q gathered accepts plan here there near far cancel passes e h g told is = record {
     told_local = h.told;
     told_remote = g.told;
     here = raced-here p q gathered h.told here h.ran;
@@ -230,7 +229,6 @@ module _ {W I O T L M B R C : Type 0} (w : world.Ghosts W) (i : inputs.Ghosts I)
       told = told;
       fits_local = h.fits;
       fits_remote = g.fits;
-      uncancelled = unused;
     }));
   }
 

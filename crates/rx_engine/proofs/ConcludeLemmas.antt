@@ -4,6 +4,8 @@ use Rattle.std.specs.Global.{Vec}
 use Rattle.std.specs.Prelude.{IfSome, None, Option, Some}
 use Rattle.std.specs.Io.KnownBytes.{Appends}
 use Rattle.rx_board.specs.Board.{State}
+use Rattle.rx_session.specs.declared.cancels.CancelReason.{CancelReason}
+use Rattle.rx_session.specs.declared.replies.Reply.TheVariants as reply
 use Rattle.rx_session.specs.declared.requests.Request.{Request}
 use Rattle.rx_session.specs.Frames.{shutdown, shutdown_done}
 use Rattle.rx_exec_messages.specs.declared.callers.Caller as callers
@@ -32,8 +34,8 @@ use Rattle.rx_engine.specs.Journal.{JournalsBoard, files_of}
 use Rattle.rx_engine.specs.Meanings.{Meanings, meanings}
 use Rattle.rx_engine.specs.Pending.{HasTried, IsConcluded, IsFirstWon, IsPending, IsStage}
 use Rattle.rx_engine.specs.Ready.{EntersAs, FinishesAs, IsLost, IsReadyAs, WroteEnd}
-use Rattle.rx_engine.specs.Session.{IsSession, IsUntouched}
-use Rattle.rx_engine.proofs.AnswerLemmas.{tried-answers}
+use Rattle.rx_engine.specs.Session.{IsSession, IsUntouched, WasCancelledBy}
+use Rattle.rx_engine.proofs.AnswerLemmas.{tells-cancel, tried-answers}
 use Rattle.rx_engine.proofs.CourseLemmas.{appends-none, course-ended, session-finished}
 use Rattle.rx_engine.proofs.Entries.{enters-nothing, unpublished-enters}
 use Rattle.rx_engine.proofs.MadeLemmas.{won-files}
@@ -62,7 +64,7 @@ module _ {W I O T L M B R C : Type 0} (w : world.Ghosts W) (i : inputs.Ghosts I)
       h.read
       (subst (λ x. Appends x (o.taken sink) kept.written) h.unwritten written)
       (tells-move w i o t l k b v z p q p last h.answers h.lists refl refl h.looked)
-      (ready-move w i o t l k b v z p q p last same h.answers h.lists h.view root pending.read pending.request tally answered ready)
+      (ready-move w i o t l k b v z p q p last same h.answers h.lists h.view refl root pending.read pending.request tally answered ready)
       finished
       (λ e. subst (λ x. Rose x (o.faults sink)) h.uncounted (lost e))
       (record {
@@ -151,6 +153,15 @@ first-won m g request attempted h (Some won) e =
     let run = h.run in
     won-files m run.gathered request.accept_cached g.before g.after run.attempts run.made won attempted.tally (sym h.won_is ∙ e) run.tally_is
 
+-- where the answer tells of a cancel, that was heard
+made-why : {P W B : Type 0} (m : Meanings P W B) (g : Grounds P) (read : List ℕ) (attempted : Attempted) (answered : Option Answered)
+    → IfSome answered (AnswersMade attempted.won attempted.heard.cancelled attempted.tally.ends) → IfSome attempted.heard.cancelled (WasCancelledBy m g read)
+    → IfSome answered (λ a. (reason : CancelReason) → a.reply ≡ reply.Cancelled reason → WasCancelledBy m g read reason)
+made-why m g read attempted None made why = tt
+made-why m g read attempted (Some a) made why = λ reason e.
+    let cancelled = tells-cancel attempted.won attempted.heard.cancelled attempted.tally.ends a reason made e in
+    subst (λ x. IfSome x (WasCancelledBy m g read)) cancelled why
+
 -- ---- the whole
 
 module _ {W I O T L M B R C Q : Type 0} (w : world.Ghosts W) (i : inputs.Ghosts I) (o : sinks.Ghosts O) (t : sources.Ghosts T W) (l : sources.Ghosts L W) (k : makers.Ghosts M W B) (b : benches.Ghosts B W)
@@ -193,7 +204,7 @@ module _ {W I O T L M B R C Q : Type 0} (w : world.Ghosts W) (i : inputs.Ghosts 
 
   -- the attempts were made
   pub concluded-attempted : (sink : O) (old new : State Q) (attempted : Attempted) (answered : Option Answered) → pending.stage ≡ stages.Attempted attempted
-      → IfSome answered (AnswersMade attempted.won attempted.tally.ends) → (IsFirstWon attempted → EntersAs pl old new number attempted.tally.ends answered)
+      → IfSome answered (AnswersMade attempted.won attempted.heard.cancelled attempted.tally.ends) → (IsFirstWon attempted → EntersAs pl old new number attempted.tally.ends answered)
       → FinishesAs number pending.read pending.request attempted.tally answered kept → Appends (o.taken q.output) (o.taken sink) kept.written
       → (kept.ending ≡ SinkLost → Rose (o.faults q.output) (o.faults sink)) → o.faults q.output ≤ o.faults sink
       → IsConcluded (meanings w i o t l k b v z) pl pending q (record q { output = sink }) old new kept
@@ -208,6 +219,7 @@ module _ {W I O T L M B R C Q : Type 0} (w : world.Ghosts W) (i : inputs.Ghosts 
             (subst (λ x. IsReadyAs (meanings w i o t l k b v z) root g pending.read x attempted.tally answered) (sym tried.1.request_is)
             (ready-asked (meanings w i o t l k b v z) root g pending.read tried.0 attempted.tally answered
             (record { request_is = refl; decoded = tried.1.decoded; ended = tried.1.ended })
+            (made-why (meanings w i o t l k b v z) g pending.read attempted answered made tried.3)
             (tried-answers (meanings w i o t l k b v z) g tried.0 attempted answered tried.2 made)))
             finished written lost later;
         journal = λ root p h.

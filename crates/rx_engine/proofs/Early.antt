@@ -59,16 +59,18 @@ index-more (b ∷ bs) more h = refl
 length-more : (text more : List ℕ) → 5 ≤ length text → length_in (text ++ more) ≡ length_in text
 length-more text more h = ap (from_be_bytes w32) (slice-more 1 4 text more (omega (arith, h)))
 
--- a byte behind the frame stays there
-trails : (l k : Bool) (a b why : Bad) (r asked : Request) → (l ≡ true → k ≡ true) → (if l then Err a else Ok r) ≡ Err why → (if k then Err b else Ok r) ≡ Ok asked → ⊥
-trails true k a b why r asked m h e = let more = m refl in err-ok b asked (rw more at e)
-trails false k a b why r asked m h e = ok-err r why h
+-- a byte behind the frame of a request that doesn't watch stays there
+trails : (w l k : Bool) (a b why : Bad) (r asked : Request) → (l ≡ true → k ≡ true)
+    → (if w then Ok r else if l then Err a else Ok r) ≡ Err why → (if w then Ok r else if k then Err b else Ok r) ≡ Ok asked → ⊥
+trails true l k a b why r asked m h e = ok-err r why h
+trails false true k a b why r asked m h e = let more = m refl in err-ok b asked (rw more at e)
+trails false false k a b why r asked m h e = ok-err r why h
 
 tail-late : (len : ℕ) (text more : List ℕ) (why : Bad) (asked : Request) (payload : Result Request Bad)
     → (payload >>= alone len text) ≡ Err why → (payload >>= alone len (text ++ more)) ≡ Ok asked → ⊥
 tail-late len text more why asked (Err e) h k = err-ok e asked k
 tail-late len text more why asked (Ok r) h k =
-    trails (nat_lt (5 + len) (length text)) (nat_lt (5 + len) (length (text ++ more))) _ _ why r asked
+    trails r.watch (nat_lt (5 + len) (length text)) (nat_lt (5 + len) (length (text ++ more))) _ _ why r asked
     (λ l. lt-true (5 + len) (length (text ++ more)) (omega (arith, lt-of (5 + len) (length text) l, length-append text more))) h k
 
 within-late : (root : List ℕ) (len : ℕ) (text more : List ℕ) (why : Bad) (asked : Request) (s : Bool) → nat_lt (length text) (5 + len) ≡ s

@@ -1,7 +1,7 @@
 -- What a session of an honest world stands on, and its clean run.
-use Rattle.std.proofs.Common.{◌≡◌, ◌||◌, ℕ, ℤ, Bool, true, List, [], ◌∷◌, ◌++◌, refl, ap, sym, subst, ◌∙◌, append-nil, length, inl, inr}
+use Rattle.std.proofs.Common.{◌≡◌, ◌||◌, ℕ, ℤ, Bool, true, List, [], ◌∷◌, ◌++◌, refl, ap, sym, subst, ◌∙◌, length, inl, inr}
 use Rattle.std.specs.Prelude.{◌⊎◌, All, IfSome, MatchOption, None, Option, Some, is_some}
-use Rattle.std.specs.Io.KnownBytes.{Consumes, IsAtEnd}
+use Rattle.std.specs.Io.KnownBytes.{Consumes}
 use Rattle.std.proofs.lemmas.List.Elements.{All-weaker}
 use Rattle.rx_action.specs.ActionKeys.{key_of}
 use Rattle.rx_base.specs.declared.digests.Digest.{Digest}
@@ -17,6 +17,7 @@ use Rattle.rx_session.specs.declared.replies.Reply.{Reply}
 use Rattle.rx_session.specs.declared.replies.Reply.TheVariants as reply
 use Rattle.rx_session.specs.declared.requests.Request.{Request}
 use Rattle.rx_session.specs.Frames.{IsRequest, incoming_of}
+use Rattle.rx_session.proofs.WatchLemmas.{incoming-prefix}
 use Rattle.rx_tree.specs.WorldTrees.{IsCopyOf, IsRootOfCopies, root_of}
 use Rattle.rx_world.specs.declared.attempts.Attempt.{Attempt}
 use Rattle.rx_world.specs.declared.attempts.Attempt.TheVariants as whose
@@ -50,25 +51,19 @@ use Rattle.rx_engine.specs.Plans.{has_remote}
 use Rattle.rx_engine.specs.RemoteAttempts.{EndsThere, HasRunThere}
 use Rattle.rx_engine.specs.Session.{IsCourse, IsSession, Replies, RepliesTo, tally_in}
 use Rattle.rx_engine.proofs.Cases.{as-remote, none-some, some-inj}
-use Rattle.rx_engine.proofs.MadeLemmas.{if-some, won-files, won-first}
+use Rattle.rx_engine.proofs.MadeLemmas.{if-some, unless-some, won-files, won-first}
 use Rattle.rx_engine.proofs.RaceLemmas.{planned-there}
 
 -- ---- the request
 
--- what was read to its end is all that was told
-read-all : (old new : Option (List ℕ)) (bytes read : List ℕ) → old ≡ Some bytes → Consumes old new read → IsAtEnd new → read ≡ bytes
-read-all None new bytes read e h k = absurd (none-some e)
-read-all (Some xs) None bytes read e h k = absurd h
-read-all (Some xs) (Some ys) bytes read e h k = let same : xs ≡ bytes = some-inj e in sym (append-nil read) ∙ ap (λ s. read ++ s) (sym k) ∙ sym h ∙ same
-
-ok-inj : (root read bytes : List ℕ) (a b : Request) → read ≡ bytes → IsRequest root read a → IsRequest root bytes b → a ≡ b
-ok-inj root read bytes a b e h k = let j : IsRequest root read b = ap (incoming_of root) e ∙ k in cc
-
--- the request that was read is the one that the input told
+-- the request that was read is the one that the input told, whatever of that was read
 pub same-request : (root : List ℕ) (old new : Option (List ℕ)) (bytes read : List ℕ) (served asked : Request)
-    → old ≡ Some bytes → Consumes old new read → IsAtEnd new → IsRequest root read served → IsRequest root bytes asked → served ≡ asked
-same-request root old new bytes read served asked told consumed end decoded valid =
-    ok-inj root read bytes served asked (read-all old new bytes read told consumed end) decoded valid
+    → old ≡ Some bytes → Consumes old new read → IsRequest root read served → IsRequest root bytes asked → served ≡ asked
+same-request root None new bytes read served asked told consumed decoded valid = absurd (none-some told)
+same-request root (Some xs) None bytes read served asked told consumed decoded valid = absurd consumed
+same-request root (Some xs) (Some ys) bytes read served asked told consumed decoded valid =
+    let whole : bytes ≡ read ++ ys = sym (some-inj told) ∙ consumed in
+    incoming-prefix root read ys served asked decoded (ap (incoming_of root) (sym whole) ∙ valid)
 
 -- ---- what the source trees told
 
@@ -212,9 +207,11 @@ module _ {P W B : Type 0} (m : Meanings P W B) (entries : List SourceEntry) (g :
   won-clean : (attempts : Attempts) (won : Won) → HasAttempts m gathered asked.accept_cached g.before g.after attempts → winner gathered.plan attempts ≡ Some won
       → IsClean m.world.tool gathered.command (listed_tree entries gathered) won.outcome
   won-clean attempts won made w =
-      elim (either-won (first_of attempts) (outcome_of attempts.local) (won_remote gathered.plan attempts.remote) won w) [
-        | inl here ↦ won-here attempts.told_local attempts.local won made.local here
-        | inr there ↦ won-there attempts.told_remote attempts.remote won made.remote (planned-there m gathered asked.accept_cached g.before g.after attempts made) there
+      let here : Option Won = outcome_of attempts.local in
+      let there : Option Won = won_remote gathered.plan attempts.remote in
+      elim (either-won (first_of attempts) here there won (unless-some attempts.passes.cancel (won_by (first_of attempts) here there) won w)) [
+        | inl one ↦ won-here attempts.told_local attempts.local won made.local one
+        | inr one ↦ won-there attempts.told_remote attempts.remote won made.remote (planned-there m gathered asked.accept_cached g.before g.after attempts made) one
       ]
 
 clean-from : {P W B : Type 0} (m : Meanings P W B) (entries : List SourceEntry) (g : Grounds P) (asked : Request) (tally : Tally) (won : Won)
@@ -250,7 +247,7 @@ module _ {P W B : Type 0} (m : Meanings P W B) (root : List ℕ) (before after :
       let g : Grounds P = grounds_of m root before after t s in
       let done : RepliesTo m root g t.read t.request t.receipt (tally_in t) (reply.Done exit stdout stderr from number placed) =
       subst (λ a. Replies m root g t.read t.request t.receipt (tally_in t) a) (some-inj (sym e ∙ is_done)) replies in
-      let same : done.0 ≡ asked = same-request root (m.input.left before) (m.input.left after) bytes t.read done.0 asked h.steady.told s.read done.1.ended done.1.decoded h.steady.valid in
+      let same : done.0 ≡ asked = same-request root (m.input.left before) (m.input.left after) bytes t.read done.0 asked h.steady.told s.read done.1.decoded h.steady.valid in
       let won : Won = done.2.0 in
       let has : HasWon m g asked (tally_in t) won = subst (λ x. HasWon m g x (tally_in t) won) same done.2.1 in
       let run = has.run in

@@ -7,6 +7,7 @@ use Rattle.rx_exec_messages.specs.declared.callers.Caller as callers
 use Rattle.rx_scan.specs.declared.gathering.Gathered.{Gathered}
 use Rattle.rx_scan.specs.Gathering.{plan_of}
 use Rattle.rx_local.specs.Local.{IsStopped}
+use Rattle.rx_race.specs.declared.slips.Slip.{Slip}
 use Rattle.rx_race.specs.Publishing.{is_zero}
 use Rattle.rx_remote.specs.Actions.{Work}
 use Rattle.rx_remote.specs.Marks.{faults_of}
@@ -38,10 +39,11 @@ use Rattle.rx_world.specs.Inputs.{IsAsListed}
 use Rattle.rx_engine.specs.declared.attempts.Won.{Won}
 use Rattle.rx_engine.specs.declared.transcripts.Tally.{Tally}
 use Rattle.rx_engine.specs.Answers.{Grounds, HasGathered, HasLost, asked_of}
-use Rattle.rx_engine.specs.Attempts.{AreTellable, HasLocal, HasRemote, IsTellable, failure_of, first_of, first_won, in_order, kept_of, listed_local, listed_remote, outcome_of, won_by, won_remote}
+use Rattle.rx_engine.specs.Attempts.{AreTellable, HasLocal, HasRemote, IsTellable, failure_of, first_of, first_won, in_order, kept_of, listed_local, listed_remote, outcome_of, unless_cancelled, won_by, won_remote}
 use Rattle.rx_engine.specs.Meanings.{Meanings}
 use Rattle.rx_engine.specs.Plans.{has_both, has_local, has_remote}
 use Rattle.rx_engine.specs.Quiet.{IsFarmCause, IsQuietThere, MayFail}
+use Rattle.rx_engine.specs.Racing.{is_cancelled}
 use Rattle.rx_engine.specs.RemoteAttempts.{EndsThere}
 use Rattle.rx_engine.proofs.Cases.{false-true, none-some, some-inj}
 use Rattle.rx_engine.proofs.HonestRuns.{files-listed, right-there, told-by, trusted}
@@ -87,6 +89,10 @@ plan-by strategies.RemoteLocalFallback (Some cause) plan h = ap has_local (sym (
 plan-by strategies.Racing None plan h = ap has_local (sym (some-inj h))
 plan-by strategies.Racing (Some cause) plan h = ap has_local (sym (some-inj h))
 
+-- nothing is published of a race that wasn't cancelled only where nothing won
+unless-none : (cancel : Slip) (made : Option Won) → is_cancelled cancel ≡ false → unless_cancelled cancel made ≡ None → made ≡ None
+unless-none cancel made free h = rw free at h
+
 -- of two, neither won
 neither-won : (one other : Option Won) → first_won one other ≡ None → (one ≡ None) × (other ≡ None)
 neither-won None other h = (refl, h)
@@ -124,10 +130,14 @@ module _ {P W B : Type 0} (m : Meanings P W B) (entries : List SourceEntry) (g :
   not-lost tally h has =
       let run = h.run in
       let attempts = run.attempts in
-      let none = both-none (first_of attempts) (outcome_of attempts.local) (won_remote run.gathered.plan attempts.remote) h.none_won in
+      let free : is_cancelled attempts.passes.cancel ≡ false = ap (λ (x : Tally). is_cancelled x.passes.cancel) (sym run.tally_is) ∙ h.uncancelled in
+      let here_won : Option Won = outcome_of attempts.local in
+      let there_won : Option Won = won_remote run.gathered.plan attempts.remote in
+      let none = both-none (first_of attempts) here_won there_won
+      (unless-none attempts.passes.cancel (won_by (first_of attempts) here_won there_won) free h.none_won) in
       not-lost-here run.gathered attempts.told_local attempts.local (listed_remote (kept_of attempts.remote)) run.inputs run.made.local
-      (started-here m run.gathered asked.accept_cached g.before g.after attempts run.made has none.1)
-      (unstopped-here m run.gathered asked.accept_cached g.before g.after attempts run.made has none.1)
+      (started-here m run.gathered asked.accept_cached g.before g.after attempts run.made free has none.1)
+      (unstopped-here m run.gathered asked.accept_cached g.before g.after attempts run.made free has none.1)
       none.0
       (local-first (first_of attempts) (listed_local (kept_of attempts.local)) (listed_remote (kept_of attempts.remote))
       (λ f. first-won m run.gathered asked.accept_cached g.before g.after attempts run.made f none.1)
@@ -175,8 +185,12 @@ module _ {P W B : Type 0} (m : Meanings P W B) (entries : List SourceEntry) (g :
   fails-there tally h q plan =
       let run = h.run in
       let attempts = run.attempts in
-      let none = both-none (first_of attempts) (outcome_of attempts.local) (won_remote run.gathered.plan attempts.remote) h.none_won in
-      let turn = run.made.in_turn (ap has_both plan) in
+      let free : is_cancelled attempts.passes.cancel ≡ false = ap (λ (x : Tally). is_cancelled x.passes.cancel) (sym run.tally_is) ∙ h.uncancelled in
+      let here_won : Option Won = outcome_of attempts.local in
+      let there_won : Option Won = won_remote run.gathered.plan attempts.remote in
+      let none = both-none (first_of attempts) here_won there_won
+      (unless-none attempts.passes.cancel (won_by (first_of attempts) here_won there_won) free h.none_won) in
+      let turn = run.made.in_turn (ap has_both plan) free in
       let here : List Ended = listed_local (kept_of attempts.local) in
       let there : List Ended = listed_remote (kept_of attempts.remote) in
       let first : first_of attempts ≡ whose.Local = is-local (first_of attempts) (λ f. first-won m run.gathered asked.accept_cached g.before g.after attempts run.made f none.1) in

@@ -1,6 +1,7 @@
 -- What is kept and published of the attempts of a plan.
 use Rattle.std.proofs.Common.{◌≡◌, ◌||◌, Bool, true, false, List, ◌++◌, ap, refl, sym}
 use Rattle.std.specs.Prelude.{None, Option, Some, if◌then◌else◌}
+use Rattle.rx_race.specs.declared.slips.Slip.{Slip}
 use Rattle.rx_race.specs.Publishing.{is_remote_only, is_zero}
 use Rattle.rx_scan.specs.declared.gathering.Gathered.{Gathered}
 use Rattle.rx_world.specs.declared.attempts.Attempt.{Attempt}
@@ -14,13 +15,15 @@ use Rattle.rx_world.specs.declared.outcomes.Outcome.{Outcome}
 use Rattle.rx_world.specs.declared.remote_causes.RemoteCause.{RemoteCause}
 use Rattle.rx_world.specs.Outcomes.{kept, listing}
 use Rattle.rx_engine.specs.declared.attempts.Attempted.{Attempted}
+use Rattle.rx_engine.specs.declared.attempts.Heard.{Heard}
 use Rattle.rx_engine.specs.declared.attempts.Won.{Won}
 use Rattle.rx_engine.specs.declared.transcripts.Passes.{Passes}
 use Rattle.rx_engine.specs.declared.transcripts.Tally.{Tally}
-use Rattle.rx_engine.specs.Attempts.{Attempts, HasAttempts, HasMade, IsMadeOf, first_done, first_of, first_won, in_order, kept_ends, kept_of, listed_local, listed_remote, outcome_of, tally_of, winner, won_by, won_remote}
+use Rattle.rx_engine.specs.Attempts.{Attempts, HasAttempts, HasMade, IsMadeOf, first_done, first_of, first_won, in_order, kept_ends, kept_of, listed_local, listed_remote, outcome_of, tally_of, unless_cancelled, winner, won_by, won_remote}
 use Rattle.rx_engine.specs.Journal.{files_of}
 use Rattle.rx_engine.specs.Meanings.{Meanings}
 use Rattle.rx_engine.specs.RacedAttempts.{HasRaced}
+use Rattle.rx_engine.specs.Racing.{is_cancelled}
 use Rattle.rx_engine.proofs.Cases.{none-some, some-inj}
 use Rattle.rx_engine.proofs.RaceLemmas.{first-won}
 use Rattle.rx_engine.proofs.TurnLemmas.{in-turn}
@@ -34,8 +37,8 @@ tally-is tally kept passes e p = rw (sym e, sym p) refl
 tally-made : (attempts : Attempts) (tally : Tally) → tally.ends ≡ kept_ends attempts → tally.passes ≡ attempts.passes → tally ≡ tally_of attempts
 tally-made attempts tally e p = tally-is tally (kept_ends attempts) attempts.passes e p
 
-module _ {P W B : Type 0} (m : Meanings P W B) (gathered : Gathered) (accepts : Bool) (before after : P) (here : Option (End Outcome Cause)) (there : Option (End Outcome RemoteCause)) (made : Attempted) (passes : Passes) where
-  pub made-raced : HasRaced m gathered accepts before after here there passes → IsMadeOf gathered.plan passes here there made → HasMade m gathered accepts before after made
+module _ {P W B : Type 0} (m : Meanings P W B) (gathered : Gathered) (accepts : Bool) (before after : P) (here : Option (End Outcome Cause)) (there : Option (End Outcome RemoteCause)) (heard : Heard) (made : Attempted) (passes : Passes) where
+  pub made-raced : HasRaced m gathered accepts before after here there passes → IsMadeOf gathered.plan passes here there heard made → HasMade m gathered accepts before after made
   made-raced h is =
       let attempts : Attempts = record { local = here; remote = there; told_local = h.told_local; told_remote = h.told_remote; passes = passes } in
       record {
@@ -44,13 +47,21 @@ module _ {P W B : Type 0} (m : Meanings P W B) (gathered : Gathered) (accepts : 
           local = h.here;
           remote = h.there;
           raced = h.raced;
-          in_turn = λ f. in-turn gathered.plan here there h.told_local h.told_remote passes h.raced f;
+          in_turn = λ f free. in-turn gathered.plan here there h.told_local h.told_remote passes h.raced f free;
         };
         tally_is = tally-made attempts made.tally is.ends_are is.passes_are;
         won_is = is.won_is;
       }
 
 -- ---- the outcome that is published
+
+-- an outcome is published only where the race wasn't cancelled
+else-some : (test : Bool) (made : Option Won) (won : Won) → (if test then None else made) ≡ Some won → made ≡ Some won
+else-some true made won h = absurd (none-some h)
+else-some false made won h = h
+
+pub unless-some : (cancel : Slip) (made : Option Won) (won : Won) → unless_cancelled cancel made ≡ Some won → made ≡ Some won
+unless-some cancel made won h = else-some (is_cancelled cancel) made won h
 
 pub if-some : (test : Bool) (first won : Won) → (if test then Some first else None) ≡ Some won → first ≡ won
 if-some true first won h = some-inj h
@@ -89,7 +100,9 @@ first-by plan whose.Remote local remote won n h = first-remote plan local remote
 module _ {P W B : Type 0} (m : Meanings P W B) (gathered : Gathered) (accepts : Bool) (before after : P) (attempts : Attempts) (made : HasAttempts m gathered accepts before after attempts) where
   -- the first outcome among the ends is the one that is published
   pub won-first : (won : Won) → winner gathered.plan attempts ≡ Some won → first_done (kept_ends attempts) ≡ Some (kept won.outcome)
-  won-first won h = first-by gathered.plan (first_of attempts) attempts.local attempts.remote won (first-won m gathered accepts before after attempts made) h
+  won-first won h =
+      first-by gathered.plan (first_of attempts) attempts.local attempts.remote won (first-won m gathered accepts before after attempts made)
+      (unless-some attempts.passes.cancel (won_by (first_of attempts) (outcome_of attempts.local) (won_remote gathered.plan attempts.remote)) won h)
 
   -- and its files are those of the entry
   pub won-files : (won : Won) (tally : Tally) → winner gathered.plan attempts ≡ Some won → tally ≡ tally_of attempts → files_of tally.ends ≡ listing won.outcome.files

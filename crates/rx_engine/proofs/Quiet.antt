@@ -51,7 +51,7 @@ not-ended root (Some xs) (Some ys) bytes read asked e h r v =
 module _ {P W B : Type 0} (m : Meanings P W B) (entries : List SourceEntry) (g : Grounds P) (asked : Request) (c : IsCalm m entries g asked) where
   -- what a quiet session answers to its request
   done-to : (limit : ℕ) (old new : List Entry) (pb pn : ℕ) (t : Transcript) (answer : Reply) → IsJournalled limit old new pb pn t → HasRoom limit old pb pn → t.reply ≡ Some answer
-      → Answers m g asked t.receipt (tally_in t) answer → IsDoneReply asked.strategy (Some answer)
+      → Answers m g asked t.receipt (tally_in t) answer → IsDoneReply asked (Some answer)
   done-to limit old new pb pn t (reply.Done exit stdout stderr from number placed) j h e a = tt
   done-to limit old new pb pn t reply.NoMemory j h e a = tt
   done-to limit old new pb pn t (reply.PlaceFault number placed) j h e a =
@@ -62,6 +62,7 @@ module _ {P W B : Type 0} (m : Meanings P W B) (entries : List SourceEntry) (g :
       h.place short.2
   done-to limit old new pb pn t reply.JournalFull j h e a = h.room (j.full e)
   done-to limit old new pb pn t (reply.AllFailed failures) j h e a = subst (MayFail asked.strategy) (sym a.1) (fails m entries g asked c (tally_in t) a.0)
+  done-to limit old new pb pn t (reply.Cancelled reason) j h e a = a.0.watched
   done-to limit old new pb pn t (reply.NotRemotable why) j h e a = not-refused-by m entries g asked c t.receipt (tally_in t) (fault.NotRemotable why) a (λ n. cc)
   done-to limit old new pb pn t (reply.InputMissing path) j h e a = not-refused-by m entries g asked c t.receipt (tally_in t) (fault.InputMissing path) a (λ n. cc)
   done-to limit old new pb pn t (reply.InputChanged input) j h e a = not-refused-by m entries g asked c t.receipt (tally_in t) (fault.InputChanged input) a (λ n. cc)
@@ -72,14 +73,14 @@ module _ {P W B : Type 0} (m : Meanings P W B) (entries : List SourceEntry) (g :
 
 module _ {P W B : Type 0} (m : Meanings P W B) (root : List ℕ) (before after : P) (limit : ℕ) (old new : List Entry) (pb pn : ℕ) (t : Transcript) (bytes : List ℕ) (asked : Request)
     (s : IsSession m root before after t) (q : IsQuiet m root before after bytes asked) (j : IsJournalled limit old new pb pn t) (r : HasRoom limit old pb pn) where
-  to-asked : (answer : Reply) → t.reply ≡ Some answer → RepliesTo m root (grounds_of m root before after t s) t.read t.request t.receipt (tally_in t) answer → IsDoneReply asked.strategy (Some answer)
+  to-asked : (answer : Reply) → t.reply ≡ Some answer → RepliesTo m root (grounds_of m root before after t s) t.read t.request t.receipt (tally_in t) answer → IsDoneReply asked (Some answer)
   to-asked answer e a =
-      let same = same-request root (m.input.left before) (m.input.left after) bytes t.read a.0 asked q.steady.told s.read a.1.ended a.1.decoded q.steady.valid in
+      let same = same-request root (m.input.left before) (m.input.left after) bytes t.read a.0 asked q.steady.told s.read a.1.decoded q.steady.valid in
       let g = grounds_of m root before after t s in
       done-to m q.entries g asked (calm m root before after t bytes asked s q) limit old new pb pn t answer j r e
       (subst (λ x. Answers m g x t.receipt (tally_in t) answer) same a.2)
 
-  done-at : (answer : Reply) → t.reply ≡ Some answer → Replies m root (grounds_of m root before after t s) t.read t.request t.receipt (tally_in t) answer → IsDoneReply asked.strategy (Some answer)
+  done-at : (answer : Reply) → t.reply ≡ Some answer → Replies m root (grounds_of m root before after t s) t.read t.request t.receipt (tally_in t) answer → IsDoneReply asked (Some answer)
   done-at (reply.BadRequest bad) e a = not-refused root (m.input.left before) (m.input.left after) bytes t.read bad asked q.steady.told s.read a.0 a.4 q.steady.valid
   done-at reply.NoMemory e a = tt
   done-at (reply.Done exit stdout stderr from number placed) e a = tt
@@ -90,13 +91,14 @@ module _ {P W B : Type 0} (m : Meanings P W B) (root : List ℕ) (before after :
   done-at (reply.SourceFault path) e a = to-asked (reply.SourceFault path) e a
   done-at (reply.TooLarge limit_passed count path) e a = to-asked (reply.TooLarge limit_passed count path) e a
   done-at (reply.AllFailed failures) e a = to-asked (reply.AllFailed failures) e a
+  done-at (reply.Cancelled reason) e a = to-asked (reply.Cancelled reason) e a.0
   done-at reply.JournalFull e a = to-asked reply.JournalFull e a
   done-at (reply.Blocked path) e a = to-asked (reply.Blocked path) e a
 
   ended : WasAskedToEnd m (grounds_of m root before after t s) t → ⊥
   ended h = not-ended root (m.input.left before) (m.input.left after) bytes t.read asked q.steady.told s.read h.read_is q.steady.valid
 
-  complete-at : (ending : Ending) → t.ending ≡ ending → IsCourse m root (grounds_of m root before after t s) t ending → IsDoneOr asked.strategy ending t.reply
+  complete-at : (ending : Ending) → t.ending ≡ ending → IsCourse m root (grounds_of m root before after t s) t ending → IsDoneOr asked ending t.reply
   complete-at Replied e c = rw c.1 (done-at c.0 c.1 c.3)
   complete-at ShutDown e c = ended c.0
   complete-at SinkLost e (inl c) = rw c.1 (done-at c.0 c.1 c.4)
@@ -106,6 +108,6 @@ module _ {P W B : Type 0} (m : Meanings P W B) (root : List ℕ) (before after :
 
 pub complete : {P W B : Type 0} (m : Meanings P W B) (root : List ℕ) (before after : P) (limit : ℕ) (old new : List Entry) (pb pn : ℕ) (t : Transcript) (bytes : List ℕ) (asked : Request)
     → IsSession m root before after t → IsJournalled limit old new pb pn t → IsQuiet m root before after bytes asked → HasRoom limit old pb pn
-    → IsDoneOr asked.strategy t.ending t.reply
+    → IsDoneOr asked t.ending t.reply
 complete m root before after limit old new pb pn t bytes asked s j q r =
     complete-at m root before after limit old new pb pn t bytes asked s q j r t.ending refl s.course

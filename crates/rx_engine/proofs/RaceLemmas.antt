@@ -28,7 +28,7 @@ use Rattle.rx_engine.specs.declared.transcripts.Passes.{Passes}
 use Rattle.rx_engine.specs.Attempts.{Attempts, HasAttempts, HasLocal, first_of, starts_here, won_remote}
 use Rattle.rx_engine.specs.Meanings.{Meanings}
 use Rattle.rx_engine.specs.Plans.{has_both, has_local, has_remote, is_due_here}
-use Rattle.rx_engine.specs.Racing.{FitsEnd, HaveRaced, IsVerdictOn, first_by, unstarted}
+use Rattle.rx_engine.specs.Racing.{FitsEnd, HaveRaced, IsVerdictOn, first_by, is_cancelled, unstarted}
 use Rattle.rx_engine.proofs.Cases.{false-true, none-some, some-none}
 
 pub refused-told : (verdict : Verdict) → Refused ≡ Told verdict → ⊥
@@ -112,15 +112,15 @@ told-late : (told : Option Decision) (verdict : Verdict) → (told ≡ None → 
 told-late None verdict n late = absurd (n refl)
 told-late (Some decision) verdict n late = late
 
--- ---- a race in which the remote attempt has nothing that is published
+-- ---- a race that wasn't cancelled, and in which the remote attempt has nothing that is published
 
 module _ (plan : Plan) (told_local : Option Decision) (local : Option (End Outcome Cause)) (told_remote : Option Decision) (remote : Option (End Outcome RemoteCause)) (passes : Passes)
-    (r : HaveRaced plan told_local local told_remote remote passes) (none : won_remote plan remote ≡ None) where
+    (r : HaveRaced plan told_local local told_remote remote passes) (free : is_cancelled passes.cancel ≡ false) (none : won_remote plan remote ≡ None) where
   -- no other than the local one won
   not-won : (seat : Seat) → slip_at seat (slips_of passes.local passes.remote passes.cancel) ≡ Told Won → (passes.local ≡ Told Won → ⊥) → ⊥
   not-won (Of Local) won not = not won
   not-won (Of Remote) won not = fits-won plan (has_remote plan) told_remote remote passes.remote r.fits_remote won none
-  not-won Canceller won not = unused-told Won (sym r.uncancelled ∙ won)
+  not-won Canceller won not = false-true (sym free ∙ ap is_cancelled won)
 
   no-winner : SomeoneWon (slips_of passes.local passes.remote passes.cancel) → (passes.local ≡ Told Won → ⊥) → ⊥
   no-winner someone not = not-won someone.0 someone.1 not
@@ -163,18 +163,18 @@ module _ {P W B : Type 0} (m : Meanings P W B) (gathered : Gathered) (accepts : 
   pub planned-there : is_some attempts.remote ≡ true → has_remote gathered.plan ≡ true
   planned-there s = was-due gathered.plan Remote (has_remote gathered.plan) attempts.told_remote attempts.remote attempts.passes.remote made.raced.fits_remote s
 
-  module _ (has : has_local gathered.plan ≡ true) (none : won_remote gathered.plan attempts.remote ≡ None) where
+  module _ (free : is_cancelled attempts.passes.cancel ≡ false) (has : has_local gathered.plan ≡ true) (none : won_remote gathered.plan attempts.remote ≡ None) where
     started-by : (both : Bool) → has_both gathered.plan ≡ both → attempts.local ≡ None → ⊥
-    started-by false e n = false-true (sym (ap is_some n) ∙ (made.in_turn e).started_here ∙ starts-none gathered.plan attempts.remote has none)
+    started-by false e n = false-true (sym (ap is_some n) ∙ (made.in_turn e free).started_here ∙ starts-none gathered.plan attempts.remote has none)
     started-by true e n =
-        raced-some gathered.plan attempts.told_local attempts.local attempts.told_remote attempts.remote attempts.passes made.raced none (both-due gathered.plan attempts.passes.remote e) n
+        raced-some gathered.plan attempts.told_local attempts.local attempts.told_remote attempts.remote attempts.passes made.raced free none (both-due gathered.plan attempts.passes.remote e) n
 
-    -- where the remote attempt has nothing to publish, the local one was started
+    -- where the remote attempt has nothing to publish and nobody cancelled, the local one was started
     pub started-here : attempts.local ≡ None → ⊥
     started-here n = started-by (has_both gathered.plan) refl n
 
     -- and wasn't stopped
     pub unstopped-here : (why : Cause) → attempts.local ≡ Some (ends.Failed why) → IsStopped why → ⊥
     unstopped-here why f s =
-        raced-unstopped gathered.plan attempts.told_local attempts.local attempts.told_remote attempts.remote attempts.passes made.raced none why f
+        raced-unstopped gathered.plan attempts.told_local attempts.local attempts.told_remote attempts.remote attempts.passes made.raced free none why f
         (subst (HasLocal m gathered attempts.told_local before after) f made.local).stopped s

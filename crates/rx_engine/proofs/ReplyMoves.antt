@@ -8,9 +8,12 @@ use Rattle.rx_scan.specs.declared.gather_fault.GatherFault.TheVariants as fault
 use Rattle.rx_scan.specs.declared.gathering.Gathered.{Gathered}
 use Rattle.rx_scan.specs.Gathering.{BlamesGather}
 use Rattle.rx_scan.specs.Lists.{Listing, stretch}
+use Rattle.rx_session.specs.declared.cancels.CancelReason.{CancelReason}
 use Rattle.rx_session.specs.declared.replies.Reply.{Reply}
 use Rattle.rx_session.specs.declared.replies.Reply.TheVariants as reply
 use Rattle.rx_session.specs.declared.requests.Request.{Request}
+use Rattle.rx_session.specs.Cancels.{IsCancelBy}
+use Rattle.rx_session.specs.Frames.{behind}
 use Rattle.rx_world.specs.declared.looks.Look.{Look}
 use Rattle.rx_world.specs.declared.sources.Given.{Given}
 use Rattle.rx_exec_messages.specs.declared.callers.Caller as callers
@@ -32,7 +35,7 @@ use Rattle.rx_engine.specs.Attempts.{no_tally}
 use Rattle.rx_engine.specs.Meanings.{meanings}
 use Rattle.rx_engine.specs.Pending.{IsStageOf}
 use Rattle.rx_engine.specs.Ready.{IsReadyAs}
-use Rattle.rx_engine.specs.Session.{IsUntouched, Replies, RepliesTo, WasHandled}
+use Rattle.rx_engine.specs.Session.{IsUntouched, Replies, RepliesTo, WasCancelledBy, WasHandled}
 use Rattle.rx_engine.proofs.Moves.{IsSame, attempts-move, idle-move}
 
 -- but for the streams the second pair of states is the first, and the input is in the same state at the end
@@ -98,7 +101,9 @@ module _ {W I O T L M B R C : Type 0} (w : world.Ghosts W) (i : inputs.Ghosts I)
   answers-move request receipt tally (reply.PlaceFault number placed) h = (h.0, won-move request tally h.0 h.1, h.2, h.3)
   answers-move request receipt tally reply.JournalFull h = (h.0, won-move request tally h.0 h.1, h.2)
   answers-move request receipt tally (reply.AllFailed failures) h =
-      (record { run = run-move request tally h.0.run; none_won = h.0.none_won; tellable = h.0.tellable }, h.1, h.2)
+      (record { run = run-move request tally h.0.run; none_won = h.0.none_won; uncancelled = h.0.uncancelled; tellable = h.0.tellable }, h.1, h.2)
+  answers-move request receipt tally (reply.Cancelled reason) h =
+      (record { run = run-move request tally h.0.run; cancelled = h.0.cancelled; watched = h.0.watched }, h.1)
   answers-move request receipt tally (reply.NotRemotable why) h = refused-move request receipt tally (fault.NotRemotable why) h
   answers-move request receipt tally (reply.InputMissing path) h = refused-move request receipt tally (fault.InputMissing path) h
   answers-move request receipt tally (reply.InputChanged input) h = refused-move request receipt tally (fault.InputChanged input) h
@@ -113,29 +118,37 @@ module _ {W I O T L M B R C : Type 0} (w : world.Ghosts W) (i : inputs.Ghosts I)
 
   to-move : (root read : List ℕ) (request : Option Request) (receipt : Option Receipt) (tally : Tally) (answer : Reply) → RepliesTo (meanings w i o t l k b v z) root (grounds p q xs ls vs) read request receipt tally answer → RepliesTo (meanings w i o t l k b v z) root (grounds r s xs ls vs) read request receipt tally answer
   to-move root read request receipt tally answer h =
-      (h.0, record { request_is = h.1.request_is; decoded = h.1.decoded; ended = at-end h.1.ended }, answers-move h.0 receipt tally answer h.2)
+      (h.0, record { request_is = h.1.request_is; decoded = h.1.decoded; ended = λ e. at-end (h.1.ended e) }, answers-move h.0 receipt tally answer h.2)
 
   handled-move : (request : Option Request) (tally : Tally) → WasHandled (meanings w i o t l k b v z) (grounds p q xs ls vs) request tally → WasHandled (meanings w i o t l k b v z) (grounds r s xs ls vs) request tally
   handled-move None tally h = unrun-move tally h
   handled-move (Some asked) tally h = may-move asked tally h
 
-  replies-move : (root read : List ℕ) (request : Option Request) (receipt : Option Receipt) (tally : Tally) (answer : Reply) → Replies (meanings w i o t l k b v z) root (grounds p q xs ls vs) read request receipt tally answer → Replies (meanings w i o t l k b v z) root (grounds r s xs ls vs) read request receipt tally answer
-  replies-move root read request receipt tally (reply.BadRequest bad) h = (h.0, h.1, untouched-move tally h.2, h.3, λ cut. at-end (h.4 cut))
-  replies-move root read request receipt tally reply.NoMemory h = (h.0, handled-move request tally h.1, h.2)
-  replies-move root read request receipt tally (reply.Done exit stdout stderr from number placed) h = to-move root read request receipt tally (reply.Done exit stdout stderr from number placed) h
-  replies-move root read request receipt tally (reply.PlaceFault number placed) h = to-move root read request receipt tally (reply.PlaceFault number placed) h
-  replies-move root read request receipt tally (reply.NotRemotable why) h = to-move root read request receipt tally (reply.NotRemotable why) h
-  replies-move root read request receipt tally (reply.InputMissing path) h = to-move root read request receipt tally (reply.InputMissing path) h
-  replies-move root read request receipt tally (reply.InputChanged input) h = to-move root read request receipt tally (reply.InputChanged input) h
-  replies-move root read request receipt tally (reply.SourceFault path) h = to-move root read request receipt tally (reply.SourceFault path) h
-  replies-move root read request receipt tally (reply.TooLarge limit n path) h = to-move root read request receipt tally (reply.TooLarge limit n path) h
-  replies-move root read request receipt tally (reply.AllFailed failures) h = to-move root read request receipt tally (reply.AllFailed failures) h
-  replies-move root read request receipt tally reply.JournalFull h = to-move root read request receipt tally reply.JournalFull h
-  replies-move root read request receipt tally (reply.Blocked path) h = to-move root read request receipt tally (reply.Blocked path) h
+  -- a cancel stays what it was, where the input was in the same state at first too
+  cancel-move : r.input ≡ p.input → (read : List ℕ) (reason : CancelReason) → WasCancelledBy (meanings w i o t l k b v z) (grounds p q xs ls vs) read reason → WasCancelledBy (meanings w i o t l k b v z) (grounds r s xs ls vs) read reason
+  cancel-move first read reason h =
+      subst (λ x. IsCancelBy reason (behind read) (i.left s.input) (i.faults x) (i.faults s.input)) (sym first)
+      (subst (λ x. IsCancelBy reason (behind read) (i.left x) (i.faults p.input) (i.faults x)) (sym same.input_after) h)
 
-  pub ready-move : (root read : List ℕ) (request : Option Request) (tally : Tally) (answered : Option Answered) → IsReadyAs (meanings w i o t l k b v z) root (grounds p q xs ls vs) read request tally answered → IsReadyAs (meanings w i o t l k b v z) root (grounds r s xs ls vs) read request tally answered
-  ready-move root read request tally None h = (h.0, handled-move request tally h.1)
-  ready-move root read request tally (Some a) h = (h.0, replies-move root read request a.receipt tally a.reply h.1)
+  replies-move : r.input ≡ p.input → (root read : List ℕ) (request : Option Request) (receipt : Option Receipt) (tally : Tally) (answer : Reply) → Replies (meanings w i o t l k b v z) root (grounds p q xs ls vs) read request receipt tally answer → Replies (meanings w i o t l k b v z) root (grounds r s xs ls vs) read request receipt tally answer
+  replies-move first root read request receipt tally (reply.BadRequest bad) h = (h.0, h.1, untouched-move tally h.2, h.3, λ cut. at-end (h.4 cut))
+  replies-move first root read request receipt tally reply.NoMemory h = (h.0, handled-move request tally h.1, h.2)
+  replies-move first root read request receipt tally (reply.Done exit stdout stderr from number placed) h = to-move root read request receipt tally (reply.Done exit stdout stderr from number placed) h
+  replies-move first root read request receipt tally (reply.PlaceFault number placed) h = to-move root read request receipt tally (reply.PlaceFault number placed) h
+  replies-move first root read request receipt tally (reply.NotRemotable why) h = to-move root read request receipt tally (reply.NotRemotable why) h
+  replies-move first root read request receipt tally (reply.InputMissing path) h = to-move root read request receipt tally (reply.InputMissing path) h
+  replies-move first root read request receipt tally (reply.InputChanged input) h = to-move root read request receipt tally (reply.InputChanged input) h
+  replies-move first root read request receipt tally (reply.SourceFault path) h = to-move root read request receipt tally (reply.SourceFault path) h
+  replies-move first root read request receipt tally (reply.TooLarge limit n path) h = to-move root read request receipt tally (reply.TooLarge limit n path) h
+  replies-move first root read request receipt tally (reply.AllFailed failures) h = to-move root read request receipt tally (reply.AllFailed failures) h
+  replies-move first root read request receipt tally (reply.Cancelled reason) h =
+      (to-move root read request receipt tally (reply.Cancelled reason) h.0, cancel-move first read reason h.1)
+  replies-move first root read request receipt tally reply.JournalFull h = to-move root read request receipt tally reply.JournalFull h
+  replies-move first root read request receipt tally (reply.Blocked path) h = to-move root read request receipt tally (reply.Blocked path) h
+
+  pub ready-move : r.input ≡ p.input → (root read : List ℕ) (request : Option Request) (tally : Tally) (answered : Option Answered) → IsReadyAs (meanings w i o t l k b v z) root (grounds p q xs ls vs) read request tally answered → IsReadyAs (meanings w i o t l k b v z) root (grounds r s xs ls vs) read request tally answered
+  ready-move first root read request tally None h = (h.0, handled-move request tally h.1)
+  ready-move first root read request tally (Some a) h = (h.0, replies-move first root read request a.receipt tally a.reply h.1)
 
   -- the stage of a request
   pub stage-move : (request : Request) (stage : Stage) → IsStageOf (meanings w i o t l k b v z) (grounds p q xs ls vs) request stage → IsStageOf (meanings w i o t l k b v z) (grounds r s xs ls vs) request stage
@@ -144,4 +157,5 @@ module _ {W I O T L M B R C : Type 0} (w : world.Ghosts W) (i : inputs.Ghosts I)
   stage-move request (stages.ShutDown frame) h = absurd h
   stage-move request (stages.Refused None) h = (may-move request no_tally h.0, h.1)
   stage-move request (stages.Refused (Some a)) h = ((h.0.0, answers-move request a.receipt no_tally a.reply h.0.1), h.1)
-  stage-move request (stages.Attempted attempted) h = record { run = run-move request attempted.tally h.run; won_is = h.won_is }
+  stage-move request (stages.Attempted attempted) h =
+      record { run = run-move request attempted.tally h.run; won_is = h.won_is; cancelled_is = h.cancelled_is; unwatched = h.unwatched }

@@ -1,4 +1,4 @@
--- A race of a plan that hasn't both attempts at once: they came in turn, and nothing stopped them.
+-- A race of a plan that hasn't both attempts at once and wasn't cancelled: they came in turn, and nothing stopped them.
 use Rattle.std.proofs.Common.{◌≡◌, ◌∙◌, ◌⊎◌, ◌||◌, Bool, true, false, ap, inl, inr, refl, subst, sym}
 use Rattle.std.specs.Prelude.{IfSome, None, Option, Some, if◌then◌else◌, is_some}
 use Rattle.rx_race.specs.declared.events.Verdict.{Verdict}
@@ -22,7 +22,7 @@ use Rattle.rx_engine.specs.declared.attempts.Won.{Won as Winner}
 use Rattle.rx_engine.specs.declared.transcripts.Passes.{Passes}
 use Rattle.rx_engine.specs.Attempts.{AreInTurn, Attempts, won_remote}
 use Rattle.rx_engine.specs.Plans.{has_both, is_noted}
-use Rattle.rx_engine.specs.Racing.{FitsEnd, HaveRaced, IsVerdictOn}
+use Rattle.rx_engine.specs.Racing.{FitsEnd, HaveRaced, IsVerdictOn, is_cancelled}
 use Rattle.rx_engine.proofs.Cases.{false-true}
 use Rattle.rx_engine.proofs.RaceLemmas.{refused-told, unused-told, was-told}
 
@@ -83,12 +83,12 @@ won-may plan (ends.Done outcome origin) = is-some-if (is_zero outcome.exit.code 
 -- ---- the race of a plan
 
 module _ (plan : Plan) (local : Option (End Outcome Cause)) (remote : Option (End Outcome RemoteCause)) (told_local told_remote : Option Decision) (passes : Passes)
-    (r : HaveRaced plan told_local local told_remote remote passes) where
+    (r : HaveRaced plan told_local local told_remote remote passes) (free : is_cancelled passes.cancel ≡ false) where
   -- an attempt won, since nobody cancelled
   who-won : SomeoneWon (slips_of passes.local passes.remote passes.cancel) → (passes.local ≡ Told Won) ⊎ (passes.remote ≡ Told Won)
   who-won (Of Local, won) = inl won
   who-won (Of Remote, won) = inr won
-  who-won (Canceller, won) = absurd (unused-told Won (sym r.uncancelled ∙ won))
+  who-won (Canceller, won) = absurd (false-true (sym free ∙ ap is_cancelled won))
 
   -- the local attempt was neither refused nor late where the remote one didn't win
   here-look : (passes.remote ≡ Told Won → ⊥) → passes.local ≡ Refused → ⊥
@@ -109,12 +109,12 @@ abbrev attempts_of : Option (End Outcome Cause) → Option (End Outcome RemoteCa
 attempts_of local remote told_local told_remote passes = record { local = local; remote = remote; told_local = told_local; told_remote = told_remote; passes = passes }
 
 module _ (local : Option (End Outcome Cause)) (remote : Option (End Outcome RemoteCause)) (told_local told_remote : Option Decision) (passes : Passes) where
-  local-alone : HaveRaced LocalOnly told_local local told_remote remote passes → AreInTurn LocalOnly (attempts_of local remote told_local told_remote passes)
-  local-alone r =
+  local-alone : HaveRaced LocalOnly told_local local told_remote remote passes → is_cancelled passes.cancel ≡ false → AreInTurn LocalOnly (attempts_of local remote told_local told_remote passes)
+  local-alone r free =
       let far = left-out LocalOnly Remote told_remote remote passes.remote r.fits_remote in
       let lost : passes.remote ≡ Told Won → ⊥ = λ won. unused-told Won (sym far.slip_is ∙ won) in
       let near = has-ended LocalOnly Local told_local local passes.local r.fits_local
-      (here-look LocalOnly local remote told_local told_remote passes r lost) (here-late LocalOnly local remote told_local told_remote passes r lost) in
+      (here-look LocalOnly local remote told_local told_remote passes r free lost) (here-late LocalOnly local remote told_local told_remote passes r free lost) in
       record {
         started_here = rw (near.end_is, far.end_is) refl;
         started_there = rw far.end_is refl;
@@ -122,12 +122,12 @@ module _ (local : Option (End Outcome Cause)) (remote : Option (End Outcome Remo
         told_remote_is = far.told_is;
       }
 
-  remote-alone : HaveRaced RemoteOnly told_local local told_remote remote passes → AreInTurn RemoteOnly (attempts_of local remote told_local told_remote passes)
-  remote-alone r =
+  remote-alone : HaveRaced RemoteOnly told_local local told_remote remote passes → is_cancelled passes.cancel ≡ false → AreInTurn RemoteOnly (attempts_of local remote told_local told_remote passes)
+  remote-alone r free =
       let near = left-out RemoteOnly Local told_local local passes.local r.fits_local in
       let lost : passes.local ≡ Told Won → ⊥ = λ won. unused-told Won (sym near.slip_is ∙ won) in
       let far = has-ended RemoteOnly Remote told_remote remote passes.remote r.fits_remote
-      (there-look RemoteOnly local remote told_local told_remote passes r lost) (there-late RemoteOnly local remote told_local told_remote passes r lost) in
+      (there-look RemoteOnly local remote told_local told_remote passes r free lost) (there-late RemoteOnly local remote told_local told_remote passes r free lost) in
       record {
         started_here = rw near.end_is refl;
         started_there = rw far.end_is refl;
@@ -135,7 +135,7 @@ module _ (local : Option (End Outcome Cause)) (remote : Option (End Outcome Remo
         told_remote_is = far.told_is;
       }
 
-  module _ (r : HaveRaced Fallback told_local local told_remote remote passes) where
+  module _ (r : HaveRaced Fallback told_local local told_remote remote passes) (free : is_cancelled passes.cancel ≡ false) where
     -- by what became of the remote pass, whether the local attempt is to start
     by-remote : (slip : Slip) → passes.remote ≡ slip → FitsEnd Fallback Local (is_noted slip) told_local local passes.local
     by-remote slip e = subst (λ x. FitsEnd Fallback Local (is_noted x) told_local local passes.local) e r.fits_local
@@ -144,12 +144,12 @@ module _ (local : Option (End Outcome Cause)) (remote : Option (End Outcome Remo
     not-refused : passes.remote ≡ Refused → ⊥
     not-refused e =
         let near = left-out Fallback Local told_local local passes.local (by-remote Refused e) in
-        there-look Fallback local remote told_local told_remote passes r (λ won. unused-told Won (sym near.slip_is ∙ won)) e
+        there-look Fallback local remote told_local told_remote passes r free (λ won. unused-told Won (sym near.slip_is ∙ won)) e
 
     not-late : passes.remote ≡ Told Late → ⊥
     not-late e =
         let near = left-out Fallback Local told_local local passes.local (by-remote (Told Late) e) in
-        there-late Fallback local remote told_local told_remote passes r (λ won. unused-told Won (sym near.slip_is ∙ won)) e
+        there-late Fallback local remote told_local told_remote passes r free (λ won. unused-told Won (sym near.slip_is ∙ won)) e
 
     after-remote : (end : End Outcome RemoteCause) (verdict : Verdict) → remote ≡ Some end → passes.remote ≡ Told verdict → IsVerdictOn Fallback Remote told_remote end verdict
         → told_remote ≡ None → AreInTurn Fallback (attempts_of local remote told_local told_remote passes)
@@ -164,7 +164,7 @@ module _ (local : Option (End Outcome Cause)) (remote : Option (End Outcome Remo
     after-remote end Noted is e on none =
         let lost : passes.remote ≡ Told Won → ⊥ = λ won. noted-told (sym e ∙ won) in
         let near = has-ended Fallback Local told_local local passes.local (by-remote (Told Noted) e)
-        (here-look Fallback local remote told_local told_remote passes r lost) (here-late Fallback local remote told_local told_remote passes r lost) in
+        (here-look Fallback local remote told_local told_remote passes r free lost) (here-late Fallback local remote told_local told_remote passes r free lost) in
         record {
           started_here = rw (near.end_is, is, won-may Fallback end, on.noted refl) refl;
           started_there = rw is refl;
@@ -179,8 +179,8 @@ module _ (local : Option (End Outcome Cause)) (remote : Option (End Outcome Remo
         after-remote far.end far.verdict far.end_is far.slip_is far.on far.told_is
 
 pub in-turn : (plan : Plan) (local : Option (End Outcome Cause)) (remote : Option (End Outcome RemoteCause)) (told_local told_remote : Option Decision) (passes : Passes)
-    → HaveRaced plan told_local local told_remote remote passes → has_both plan ≡ false → AreInTurn plan (attempts_of local remote told_local told_remote passes)
-in-turn LocalOnly local remote told_local told_remote passes r f = local-alone local remote told_local told_remote passes r
-in-turn RemoteOnly local remote told_local told_remote passes r f = remote-alone local remote told_local told_remote passes r
-in-turn Fallback local remote told_local told_remote passes r f = fallen-back local remote told_local told_remote passes r
-in-turn Both local remote told_local told_remote passes r f = absurd (false-true (sym f))
+    → HaveRaced plan told_local local told_remote remote passes → has_both plan ≡ false → is_cancelled passes.cancel ≡ false → AreInTurn plan (attempts_of local remote told_local told_remote passes)
+in-turn LocalOnly local remote told_local told_remote passes r f free = local-alone local remote told_local told_remote passes r free
+in-turn RemoteOnly local remote told_local told_remote passes r f free = remote-alone local remote told_local told_remote passes r free
+in-turn Fallback local remote told_local told_remote passes r f free = fallen-back local remote told_local told_remote passes r free
+in-turn Both local remote told_local told_remote passes r f free = absurd (false-true (sym f))

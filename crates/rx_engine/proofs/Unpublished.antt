@@ -4,11 +4,12 @@ use Rattle.std.specs.Prelude.{Err, IfOk, IfSome, None, Ok, Option, Result, Some}
 use Rattle.rx_scan.specs.declared.gather_fault.GatherFault.{GatherFault}
 use Rattle.rx_scan.specs.declared.gather_fault.GatherFault.TheVariants as fault
 use Rattle.rx_session.specs.declared.bad.Bad.{Bad}
+use Rattle.rx_session.specs.declared.cancels.CancelReason.{CancelReason}
 use Rattle.rx_session.specs.declared.replies.Reply.{Reply}
 use Rattle.rx_session.specs.declared.replies.Reply.TheVariants as reply
 use Rattle.rx_world.specs.declared.attempts.Ended.{Ended}
 use Rattle.rx_engine.specs.declared.answered.Answered.{Answered}
-use Rattle.rx_engine.specs.Answered.{AnswersFault, IsFailure, IsPlain, IsUnpublished, bad_request, reply_no_memory}
+use Rattle.rx_engine.specs.Answered.{AnswersFault, IsPlain, IsUnpublished, IsUnpublishedEnd, bad_request, reply_no_memory}
 use Rattle.rx_engine.specs.Ready.{IsOrGivenUp}
 
 plain-one : (answer : Reply) (a : Answered) → (answer ≡ reply.JournalFull → ⊥) → IsPlain answer a → IsUnpublished a
@@ -33,10 +34,15 @@ pub refused : {E : Type 0} (why : GatherFault) (made : Result Answered E) (answe
 refused why (Ok a) answered h o = rw o (refusal why a h)
 refused why (Err e) answered h o = given-up answered o
 
--- no attempt has an outcome that is published
-pub failed : {E : Type 0} (ends : List Ended) (made : Result Answered E) (answered : Option Answered) → IfOk made (IsFailure ends) → IsOrGivenUp made answered → IfSome answered IsUnpublished
-failed ends (Ok a) answered h o = rw o (plain-one _ a (λ e. cc) h.plain)
-failed ends (Err e) answered h o = given-up answered o
+unpublished-end : (cancelled : Option CancelReason) (ends : List Ended) (a : Answered) → IsUnpublishedEnd cancelled ends a → IsUnpublished a
+unpublished-end (Some reason) ends a h = plain-one (reply.Cancelled reason) a (λ e. cc) h
+unpublished-end None ends a h = plain-one _ a (λ e. cc) h.plain
+
+-- the race was cancelled, or no attempt has an outcome that is published
+pub failed : {E : Type 0} (cancelled : Option CancelReason) (ends : List Ended) (made : Result Answered E) (answered : Option Answered) → IfOk made (IsUnpublishedEnd cancelled ends) → IsOrGivenUp made answered
+    → IfSome answered IsUnpublished
+failed cancelled ends (Ok a) answered h o = rw o (unpublished-end cancelled ends a h)
+failed cancelled ends (Err e) answered h o = given-up answered o
 
 -- the bytes are no request
 pub bad : (answered : Option Answered) (why : Bad) → IfSome answered (λ a. IsPlain (bad_request why) a ⊎ IsPlain reply_no_memory a) → IfSome answered IsUnpublished

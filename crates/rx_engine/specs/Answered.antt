@@ -1,7 +1,8 @@
 -- Replies with their frames, as they are made ready.
-use Rattle.std.specs.Prelude.{◌≡◌, ◌≢◌, ◌<◌, None, Some, List, length}
+use Rattle.std.specs.Prelude.{◌≡◌, ◌≢◌, ◌<◌, Option, None, Some, List, length}
 use Rattle.std.specs.List.{flat_map}
 use Rattle.rx_session.specs.declared.bad.Bad.{Bad}
+use Rattle.rx_session.specs.declared.cancels.CancelReason.{CancelReason}
 use Rattle.rx_session.specs.declared.replies.Reply.{Reply}
 use Rattle.rx_session.specs.declared.replies.Reply.TheVariants as reply
 use Rattle.rx_session.specs.Replies.{frame_of}
@@ -45,6 +46,11 @@ pub record IsFailure (ends : List Ended) (answered : Answered) : Type 0 where
   pub plain : IsPlain (reply.AllFailed (flat_map failure_of ends)) answered
   pub tellable : AreTellable ends
 
+-- the reply where nothing is published: that the race was cancelled or, where it wasn't, how its attempts failed
+abbrev pub IsUnpublishedEnd : Option CancelReason → List Ended → Answered → Type 0
+IsUnpublishedEnd (Some reason) ends answered = IsPlain (reply.Cancelled reason) answered
+IsUnpublishedEnd None ends answered = IsFailure ends answered
+
 -- the reply tells how the publication of an outcome went
 abbrev pub TellsPublication : Won → Answered → Reply → Type 0
 TellsPublication won answered (reply.Done exit stdout stderr from number placed) =
@@ -59,6 +65,7 @@ TellsPublication won answered (reply.InputChanged input) = ⊥
 TellsPublication won answered (reply.SourceFault path) = ⊥
 TellsPublication won answered (reply.TooLarge limit n path) = ⊥
 TellsPublication won answered (reply.AllFailed failures) = ⊥
+TellsPublication won answered (reply.Cancelled reason) = ⊥
 TellsPublication won answered reply.NoMemory = ⊥
 TellsPublication won answered (reply.Blocked path) = ⊥
 

@@ -1,8 +1,10 @@
 -- What a session answers to a request.
-use Rattle.std.specs.Prelude.{◌≡◌, ◌⊎◌, ℕ, ◌<◌, List, [], Option, None, Some, All, IfSome, length}
+use Rattle.std.specs.Prelude.{◌≡◌, ◌⊎◌, ℕ, ◌<◌, true, false, List, [], Option, None, Some, All, IfSome, length}
 use Rattle.std.specs.List.{flat_map}
 use Rattle.rx_action.specs.OutputPaths.{AreBelow}
 use Rattle.rx_board.specs.declared.journal.Receipt.{Receipt}
+use Rattle.rx_race.specs.declared.events.Verdict.TheVariants.{Won as won_race}
+use Rattle.rx_race.specs.declared.slips.Slip.TheVariants.{Told}
 use Rattle.rx_session.specs.declared.replies.Reply.{Reply}
 use Rattle.rx_session.specs.declared.replies.Reply.TheVariants as reply
 use Rattle.rx_session.specs.declared.requests.Request.{Request}
@@ -20,6 +22,7 @@ use Rattle.rx_engine.specs.declared.attempts.Won.{Won}
 use Rattle.rx_engine.specs.declared.transcripts.Tally.{Tally}
 use Rattle.rx_engine.specs.Attempts.{AreTellable, Attempts, HasAttempts, IsIdle, failure_of, no_tally, tally_of, winner}
 use Rattle.rx_engine.specs.Meanings.{Meanings}
+use Rattle.rx_engine.specs.Racing.{is_cancelled}
 
 -- what an answer stands on: the parts before and after, what the source tree that is gathered from answered and listed, and what was seen
 pub record Grounds (P : Type 0) : Type 0 where
@@ -83,11 +86,18 @@ pub record HasWon {P W B : Type 0} (m : Meanings P W B) (g : Grounds P) (request
   pub run : HasRun m g request tally
   pub won_is : winner run.gathered.plan run.attempts ≡ Some won
 
--- the same, and none is, though no end is want of memory
+-- the same, and none is, though nobody cancelled and no end is want of memory
 pub record HasLost {P W B : Type 0} (m : Meanings P W B) (g : Grounds P) (request : Request) (tally : Tally) : Type 0 where
   pub run : HasRun m g request tally
   pub none_won : winner run.gathered.plan run.attempts ≡ None
+  pub uncancelled : is_cancelled tally.passes.cancel ≡ false
   pub tellable : AreTellable tally.ends
+
+-- the same, and the race was cancelled by a client that may do so
+pub record HasCancelled {P W B : Type 0} (m : Meanings P W B) (g : Grounds P) (request : Request) (tally : Tally) : Type 0 where
+  pub run : HasRun m g request tally
+  pub cancelled : tally.passes.cancel ≡ Told won_race
+  pub watched : request.watch ≡ true
 
 -- the attempts were made or, for want of memory before them, not
 abbrev pub MayHaveRun : {P W B : Type 0} → Meanings P W B → Grounds P → Request → Tally → Type 0
@@ -112,6 +122,7 @@ Answers m g request receipt tally reply.JournalFull =
     (won : Won) × HasWon m g request tally won × (receipt ≡ None)
 Answers m g request receipt tally (reply.AllFailed failures) =
     HasLost m g request tally × (failures ≡ flat_map failure_of tally.ends) × (receipt ≡ None)
+Answers m g request receipt tally (reply.Cancelled reason) = HasCancelled m g request tally × (receipt ≡ None)
 Answers m g request receipt tally (reply.NotRemotable why) = IsRefused m g request receipt tally (fault.NotRemotable why)
 Answers m g request receipt tally (reply.InputMissing path) = IsRefused m g request receipt tally (fault.InputMissing path)
 Answers m g request receipt tally (reply.InputChanged input) = IsRefused m g request receipt tally (fault.InputChanged input)

@@ -2,6 +2,7 @@
 use Rattle.std.specs.Prelude.{◌≡◌, ◌≢◌, ◌⊎◌, ◌≤◌, ◌||◌, ◌&&◌, Bool, false, not, List, [], ◌∷◌, ◌++◌, Option, None, Some, Result, Ok, Err, All, IfOk, if◌then◌else◌, is_some}
 use Rattle.rx_local.specs.Limits.{IsWithinLimits}
 use Rattle.rx_local.specs.Local.{HasAttempted, HasTold, Job, job}
+use Rattle.rx_race.specs.declared.slips.Slip.{Slip}
 use Rattle.rx_race.specs.Publishing.{is_remote_only, is_zero}
 use Rattle.rx_scan.specs.declared.gathering.Gathered.{Gathered}
 use Rattle.rx_world.specs.declared.attempts.Attempt.{Attempt}
@@ -28,13 +29,14 @@ use Rattle.rx_world.specs.declared.world.World as world
 use Rattle.rx_world.specs.Answers.{Gives}
 use Rattle.rx_world.specs.Outcomes.{IsProper, kept}
 use Rattle.rx_engine.specs.declared.attempts.Attempted.{Attempted}
+use Rattle.rx_engine.specs.declared.attempts.Heard.{Heard}
 use Rattle.rx_engine.specs.declared.attempts.Won.{Won}
 use Rattle.rx_engine.specs.declared.held.Held.{Held}
 use Rattle.rx_engine.specs.declared.transcripts.Passes.{Passes}
 use Rattle.rx_engine.specs.declared.transcripts.Tally.{Tally}
 use Rattle.rx_engine.specs.Meanings.{Meanings}
 use Rattle.rx_engine.specs.Plans.{has_both, has_local, has_remote}
-use Rattle.rx_engine.specs.Racing.{HaveRaced, first_by, unused_passes}
+use Rattle.rx_engine.specs.Racing.{HaveRaced, first_by, is_cancelled, unused_passes}
 use Rattle.rx_engine.specs.RemoteAttempts.{EndsThere, IsIdleThere}
 
 -- ---- ends
@@ -119,9 +121,14 @@ abbrev pub won_by : Attempt → Option Won → Option Won → Option Won
 won_by whose.Local here there = first_won here there
 won_by whose.Remote here there = first_won there here
 
+-- of these nothing, where the race was cancelled
+abbrev pub unless_cancelled : Slip → Option Won → Option Won
+unless_cancelled cancel won = if is_cancelled cancel then None else won
+
 -- the outcome that is published, where there is one
 abbrev pub winner : Plan → Attempts → Option Won
-winner plan attempts = won_by (first_of attempts) (outcome_of attempts.local) (won_remote plan attempts.remote)
+winner plan attempts =
+    unless_cancelled attempts.passes.cancel (won_by (first_of attempts) (outcome_of attempts.local) (won_remote plan attempts.remote))
 
 -- the first outcome among ends that are kept
 abbrev pub first_done : List Ended → Option KeptOutcome
@@ -205,13 +212,14 @@ pub record AreInTurn (plan : Plan) (attempts : Attempts) : Type 0 where
   pub told_local_is : attempts.told_local ≡ None
   pub told_remote_is : attempts.told_remote ≡ None
 
--- The attempts of the plan were made in a race of their own, and these are their ends. Where the plan hasn't both at once, they came in turn.
+-- The attempts of the plan were made in a race of their own, and these are their ends. Where the plan hasn't both at once, they came in turn,
+-- unless the race was cancelled.
 pub record HasAttempts {P W B : Type 0} (m : Meanings P W B) (gathered : Gathered) (accepts : Bool) (before after : P)
     (attempts : Attempts) : Type 0 where
   pub local : HasLocal m gathered attempts.told_local before after attempts.local
   pub remote : HasRemote m gathered accepts attempts.told_remote before after attempts.remote
   pub raced : HaveRaced gathered.plan attempts.told_local attempts.local attempts.told_remote attempts.remote attempts.passes
-  pub in_turn : has_both gathered.plan ≡ false → AreInTurn gathered.plan attempts
+  pub in_turn : has_both gathered.plan ≡ false → is_cancelled attempts.passes.cancel ≡ false → AreInTurn gathered.plan attempts
 
 -- the same, and what is kept and published of them
 pub record HasMade {P W B : Type 0} (m : Meanings P W B) (gathered : Gathered) (accepts : Bool) (before after : P) (made : Attempted) : Type 0 where
@@ -220,12 +228,13 @@ pub record HasMade {P W B : Type 0} (m : Meanings P W B) (gathered : Gathered) (
   pub tally_is : made.tally ≡ tally_of attempts
   pub won_is : made.won ≡ winner gathered.plan attempts
 
--- of these ends that is kept and published
+-- of these ends that is kept and published, and this is what was heard meanwhile
 pub record IsMadeOf (plan : Plan) (passes : Passes) (local : Option (End Outcome Cause)) (remote : Option (End Outcome RemoteCause))
-    (made : Attempted) : Type 0 where
+    (heard : Heard) (made : Attempted) : Type 0 where
+  pub heard_is : made.heard ≡ heard
   pub passes_are : made.tally.passes ≡ passes
   pub ends_are : made.tally.ends ≡ in_order (first_by passes.remote) (listed_local (kept_of local)) (listed_remote (kept_of remote))
-  pub won_is : made.won ≡ won_by (first_by passes.remote) (outcome_of local) (won_remote plan remote)
+  pub won_is : made.won ≡ unless_cancelled passes.cancel (won_by (first_by passes.remote) (outcome_of local) (won_remote plan remote))
 
 -- no count of a part that attempts have fell
 pub record AreLaterThan {P W B : Type 0} (m : Meanings P W B) (before after : P) : Type 0 where

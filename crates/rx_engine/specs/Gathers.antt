@@ -4,13 +4,14 @@ use Rattle.rx_scan.specs.declared.gather_fault.GatherFault.{GatherFault}
 use Rattle.rx_scan.specs.declared.gathering.Gathered.{Gathered}
 use Rattle.rx_scan.specs.Gathering.{BlamesGather}
 use Rattle.rx_scan.specs.Lists.{Listing, Tells}
+use Rattle.rx_session.specs.declared.cancels.CancelReason.{CancelReason}
 use Rattle.rx_session.specs.declared.requests.Request.{Request}
 use Rattle.rx_world.specs.declared.attempts.Ended.{Ended}
 use Rattle.rx_world.specs.declared.looks.Look.{Look}
 use Rattle.rx_world.specs.declared.sources.Given.{Given}
 use Rattle.rx_engine.specs.declared.answered.Answered.{Answered}
 use Rattle.rx_engine.specs.declared.attempts.Won.{Won}
-use Rattle.rx_engine.specs.Answered.{IsFailure, IsPlain, IsPublication, reply_no_memory}
+use Rattle.rx_engine.specs.Answered.{IsPlain, IsPublication, IsUnpublishedEnd, reply_no_memory}
 use Rattle.rx_engine.specs.Answers.{HasGathered, asked_of, grounds, stretch_of}
 use Rattle.rx_engine.specs.Meanings.{Meanings}
 
@@ -30,9 +31,10 @@ pub record HasNotGathered {P W B : Type 0} (m : Meanings P W B) (request : Reque
   pub looked : Tells m.world m.tree before after answers lists
   pub cause : BlamesGather (asked_of request) why (stretch_of m (grounds before after answers lists view))
 
--- the answer tells how this outcome was published or, where there is none, that the attempts failed so, or that memory ran out
-abbrev pub AnswersMade : Option Won → List Ended → Answered → Type 0
-AnswersMade winning ends answered =
+-- The answer tells how this outcome was published or, where there is none, why the race was cancelled or that the attempts failed so, or that
+-- memory ran out.
+abbrev pub AnswersMade : Option Won → Option CancelReason → List Ended → Answered → Type 0
+AnswersMade winning cancelled ends answered =
     ((won : Won) × (winning ≡ Some won) × IsPublication won answered)
-    ⊎ ((winning ≡ None) × IsFailure ends answered)
+    ⊎ ((winning ≡ None) × IsUnpublishedEnd cancelled ends answered)
     ⊎ IsPlain reply_no_memory answered

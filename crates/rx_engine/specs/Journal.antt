@@ -33,6 +33,7 @@ IsPlaced before now count placed (Some (reply.InputChanged input)) = ⊥
 IsPlaced before now count placed (Some (reply.SourceFault path)) = ⊥
 IsPlaced before now count placed (Some (reply.TooLarge limit n path)) = ⊥
 IsPlaced before now count placed (Some (reply.AllFailed failures)) = ⊥
+IsPlaced before now count placed (Some (reply.Cancelled reason)) = ⊥
 IsPlaced before now count placed (Some reply.JournalFull) = ⊥
 IsPlaced before now count placed (Some reply.NoMemory) = ⊥
 IsPlaced before now count placed (Some (reply.Blocked path)) = ⊥

@@ -20,4 +20,5 @@ pub mod Ready
 pub mod RemoteAttempts
 pub mod Serves
 pub mod Session
+pub mod Watching
 pub mod Words

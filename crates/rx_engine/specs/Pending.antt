@@ -1,7 +1,8 @@
 -- A session before anything is published: what was read, and what was made of it.
-use Rattle.std.specs.Prelude.{◌≡◌, ◌⊎◌, ℕ, List, Option, None, IfSome}
+use Rattle.std.specs.Prelude.{◌≡◌, ◌⊎◌, ℕ, false, List, Option, None, Some, IfSome, is_some}
 use Rattle.std.specs.Io.KnownBytes.{Consumes}
 use Rattle.rx_board.specs.Board.{State}
+use Rattle.rx_race.specs.declared.slips.Slip.TheVariants.{Unused}
 use Rattle.rx_session.specs.declared.bad.SessionFault.{SessionFault}
 use Rattle.rx_session.specs.declared.bad.SessionFault.TheVariants as faults
 use Rattle.rx_session.specs.declared.frames.Incoming.{Incoming}
@@ -14,6 +15,7 @@ use Rattle.rx_world.specs.declared.places.Place as places
 use Rattle.rx_world.specs.declared.sources.Given.{Given}
 use Rattle.rx_world.specs.Causes.{Rose}
 use Rattle.rx_world.specs.Outcomes.{listing}
+use Rattle.rx_engine.specs.declared.answered.Answered.{Answered}
 use Rattle.rx_engine.specs.declared.attempts.Attempted.{Attempted}
 use Rattle.rx_engine.specs.declared.pending.Pending.{Pending}
 use Rattle.rx_engine.specs.declared.pending.Stage.{Stage}
@@ -25,12 +27,16 @@ use Rattle.rx_engine.specs.Attempts.{no_tally, winner}
 use Rattle.rx_engine.specs.Journal.{JournalsBoard, files_of}
 use Rattle.rx_engine.specs.Meanings.{Meanings}
 use Rattle.rx_engine.specs.Ready.{AnswersAs, IsReadyAs}
-use Rattle.rx_engine.specs.Session.{AreLater, IsAsked, IsSession, IsUntouched}
+use Rattle.rx_engine.specs.Racing.{is_cancelled}
+use Rattle.rx_engine.specs.Session.{AreLater, IsAsked, IsSession, IsUntouched, WasCancelledBy}
 
--- The attempts of a request were made on what was gathered for it, and this is what is to be published of them.
+-- The attempts of a request were made on what was gathered for it, and this is what is to be published of them. The race was cancelled where
+-- there is a reason, and only by a client that may do so.
 pub record HasTried {P W B : Type 0} (m : Meanings P W B) (g : Grounds P) (request : Request) (attempted : Attempted) : Type 0 where
   pub run : HasRun m g request attempted.tally
   pub won_is : attempted.won ≡ winner run.gathered.plan run.attempts
+  pub cancelled_is : is_some attempted.heard.cancelled ≡ is_cancelled attempted.tally.passes.cancel
+  pub unwatched : request.watch ≡ false → attempted.tally.passes.cancel ≡ Unused
 
 -- what was made of a request
 abbrev pub IsStageOf : {P W B : Type 0} → Meanings P W B → Grounds P → Request → Stage → Type 0
@@ -72,6 +78,14 @@ IsEndOfRun (stages.Refused answered) = answered ≡ None
 IsEndOfRun stages.Lost = ⊥
 IsEndOfRun (stages.Attempted attempted) = ⊥
 
+-- there was no memory to serve this request
+pub record IsStarved (read : List ℕ) (request : Request) (pending : Pending) : Type 0 where
+  pub read_is : pending.read ≡ read
+  pub request_is : pending.request ≡ Some request
+  pub answered : Option Answered
+  pub stage_is : pending.stage ≡ stages.Refused answered
+  pub given_up : IfSome answered (IsPlain reply_no_memory)
+
 -- what was made of what was read, by its stage
 abbrev pub IsStage : {P W B : Type 0} → Meanings P W B → List ℕ → Grounds P → List ℕ → Option Request → Stage → Type 0
 IsStage m root g read request stages.Lost =
@@ -80,6 +94,7 @@ IsStage m root g read request (stages.ShutDown frame) = (read ≡ shutdown) × (
 IsStage m root g read request (stages.Refused answered) = IsReadyAs m root g read request no_tally answered × IfSome answered IsUnpublished
 IsStage m root g read request (stages.Attempted attempted) =
     (asked : Request) × IsAsked m root g read request asked × HasTried m g asked attempted
+    × IfSome attempted.heard.cancelled (WasCancelledBy m g read)
 
 -- Between two states of the parts a session came to this. Nothing was written.
 pub record IsPending {P W B : Type 0} (m : Meanings P W B) (root : List ℕ) (before after : P) (pending : Pending) : Type 0 where

@@ -121,26 +121,28 @@ MayFail Local failures = ⊥
 MayFail RemoteLocalFallback failures = ⊥
 MayFail Racing failures = ⊥
 
--- the reply is Done, or says that memory ran out, or that the farm's own end left the strategy remote no outcome
-abbrev pub IsDoneReply : Strategy → Option Reply → Type 0
-IsDoneReply strategy (Some (reply.Done exit stdout stderr from number placed)) = Unit {0}
-IsDoneReply strategy (Some reply.NoMemory) = Unit {0}
-IsDoneReply strategy (Some (reply.AllFailed failures)) = MayFail strategy failures
-IsDoneReply strategy (Some (reply.BadRequest bad)) = ⊥
-IsDoneReply strategy (Some (reply.NotRemotable cause)) = ⊥
-IsDoneReply strategy (Some (reply.InputMissing path)) = ⊥
-IsDoneReply strategy (Some (reply.InputChanged input)) = ⊥
-IsDoneReply strategy (Some (reply.SourceFault path)) = ⊥
-IsDoneReply strategy (Some (reply.TooLarge limit n path)) = ⊥
-IsDoneReply strategy (Some (reply.PlaceFault number placed)) = ⊥
-IsDoneReply strategy (Some reply.JournalFull) = ⊥
-IsDoneReply strategy (Some (reply.Blocked path)) = ⊥
-IsDoneReply strategy None = ⊥
+-- The reply is Done, or says that memory ran out, or that the farm's own end left the strategy remote no outcome. A client that may cancel may
+-- have done so.
+abbrev pub IsDoneReply : Request → Option Reply → Type 0
+IsDoneReply asked (Some (reply.Done exit stdout stderr from number placed)) = Unit {0}
+IsDoneReply asked (Some reply.NoMemory) = Unit {0}
+IsDoneReply asked (Some (reply.AllFailed failures)) = MayFail asked.strategy failures
+IsDoneReply asked (Some (reply.Cancelled reason)) = asked.watch ≡ true
+IsDoneReply asked (Some (reply.BadRequest bad)) = ⊥
+IsDoneReply asked (Some (reply.NotRemotable cause)) = ⊥
+IsDoneReply asked (Some (reply.InputMissing path)) = ⊥
+IsDoneReply asked (Some (reply.InputChanged input)) = ⊥
+IsDoneReply asked (Some (reply.SourceFault path)) = ⊥
+IsDoneReply asked (Some (reply.TooLarge limit n path)) = ⊥
+IsDoneReply asked (Some (reply.PlaceFault number placed)) = ⊥
+IsDoneReply asked (Some reply.JournalFull) = ⊥
+IsDoneReply asked (Some (reply.Blocked path)) = ⊥
+IsDoneReply asked None = ⊥
 
 -- the session ended so, or memory ran out even for that
-abbrev pub IsDoneOr : Strategy → Ending → Option Reply → Type 0
-IsDoneOr strategy Replied answer = IsDoneReply strategy answer
-IsDoneOr strategy SinkLost answer = IsDoneReply strategy answer
-IsDoneOr strategy NoMemory answer = Unit {0}
-IsDoneOr strategy SourceLost answer = ⊥
-IsDoneOr strategy ShutDown answer = ⊥
+abbrev pub IsDoneOr : Request → Ending → Option Reply → Type 0
+IsDoneOr asked Replied answer = IsDoneReply asked answer
+IsDoneOr asked SinkLost answer = IsDoneReply asked answer
+IsDoneOr asked NoMemory answer = Unit {0}
+IsDoneOr asked SourceLost answer = ⊥
+IsDoneOr asked ShutDown answer = ⊥

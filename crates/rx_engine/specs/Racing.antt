@@ -49,11 +49,19 @@ first_by Refused = Local
 first_by Live = Local
 first_by Stopped = Local
 
--- The attempts of a plan had a race of their own, which nobody cancelled: this is what its passes were told, and each of an attempt fits its
--- end.
+-- the right to cancel won the race
+abbrev pub is_cancelled : Slip → Bool
+is_cancelled (Told Won) = true
+is_cancelled (Told Late) = false
+is_cancelled (Told Noted) = false
+is_cancelled Unused = false
+is_cancelled Refused = false
+is_cancelled Live = false
+is_cancelled Stopped = false
+
+-- The attempts of a plan had a race of their own: this is what its passes were told, and each of an attempt fits its end.
 pub record HaveRaced (plan : Plan) (told_local : Option Decision) (local : Option (End Outcome Cause)) (told_remote : Option Decision)
     (remote : Option (End Outcome RemoteCause)) (passes : Passes) : Type 0 where
   pub told : AreTold plan (slips_of passes.local passes.remote passes.cancel)
   pub fits_local : FitsEnd plan Local (is_due_here plan passes.remote) told_local local passes.local
   pub fits_remote : FitsEnd plan Remote (has_remote plan) told_remote remote passes.remote
-  pub uncancelled : passes.cancel ≡ Unused

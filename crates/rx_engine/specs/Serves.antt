@@ -27,7 +27,7 @@ pub record Serves {D P W B : Type 0} (m : Meanings P W B) (parts : D → P) (roo
 abbrev pub EachDone : {D : Type 0} → (D → D → List ℕ → Request → Type 0) → List D → List D → List Transcript → Type 0
 EachDone Quiet [] [] [] = Unit {0}
 EachDone Quiet (desk ∷ desks) (back ∷ backs) (t ∷ ts) =
-    ((bytes : List ℕ) (asked : Request) → Quiet desk back bytes asked → IsDoneOr asked.strategy t.ending t.reply) × EachDone Quiet desks backs ts
+    ((bytes : List ℕ) (asked : Request) → Quiet desk back bytes asked → IsDoneOr asked t.ending t.reply) × EachDone Quiet desks backs ts
 EachDone Quiet desks backs ts = ⊥
 
 -- A run, and that each quiet session of it is done where the journal took all entries and the place never failed.

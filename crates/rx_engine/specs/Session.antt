@@ -1,12 +1,14 @@
 -- What a session did, between its desk as it was taken apart and the desk that it hands back. Nothing here speaks of a journal.
-use Rattle.std.specs.Prelude.{◌≡◌, ◌⊎◌, ℕ, ◌≤◌, List, [], Option, None, Some, Err, IfSome, take}
+use Rattle.std.specs.Prelude.{◌≡◌, ◌⊎◌, ℕ, ◌≤◌, false, List, [], Option, None, Some, Err, IfSome, take}
 use Rattle.std.specs.Io.KnownBytes.{Appends, Consumes, IsAtEnd}
 use Rattle.rx_board.specs.declared.journal.Receipt.{Receipt}
 use Rattle.rx_session.specs.declared.bad.BadReason.TheVariants.{CutShort}
+use Rattle.rx_session.specs.declared.cancels.CancelReason.{CancelReason}
 use Rattle.rx_session.specs.declared.replies.Reply.{Reply}
 use Rattle.rx_session.specs.declared.replies.Reply.TheVariants as reply
 use Rattle.rx_session.specs.declared.requests.Request.{Request}
-use Rattle.rx_session.specs.Frames.{IsRequest, incoming_of, shutdown, shutdown_done}
+use Rattle.rx_session.specs.Cancels.{IsCancelBy}
+use Rattle.rx_session.specs.Frames.{IsRequest, behind, incoming_of, shutdown, shutdown_done}
 use Rattle.rx_session.specs.Replies.{frame_of}
 use Rattle.rx_scan.specs.Lists.{Listing, Tells}
 use Rattle.rx_world.specs.declared.looks.Look.{Look}
@@ -20,12 +22,12 @@ use Rattle.rx_engine.specs.Answers.{Answers, Grounds, IsUnrun, MayHaveRun, groun
 use Rattle.rx_engine.specs.Attempts.{AreLaterThan}
 use Rattle.rx_engine.specs.Meanings.{Meanings}
 
--- The bytes are this request, all of them, and the input was read to its end.
+-- The bytes are this request and, unless its client may cancel, nothing more; then the input was read to its end.
 pub record IsAsked {P W B : Type 0} (m : Meanings P W B) (root : List ℕ) (g : Grounds P) (read : List ℕ) (request : Option Request)
     (asked : Request) : Type 0 where
   pub request_is : request ≡ Some asked
   pub decoded : IsRequest root read asked
-  pub ended : IsAtEnd (m.input.left g.after)
+  pub ended : asked.watch ≡ false → IsAtEnd (m.input.left g.after)
 
 -- how the attempts of a session ended, and what became of the passes of their race
 abbrev pub tally_in : Transcript → Tally
@@ -46,6 +48,11 @@ pub record IsUntouched {P W B : Type 0} (m : Meanings P W B) (g : Grounds P) (ta
 abbrev pub WasHandled : {P W B : Type 0} → Meanings P W B → Grounds P → Option Request → Tally → Type 0
 WasHandled m g None tally = IsUnrun m g tally
 WasHandled m g (Some asked) tally = MayHaveRun m g asked tally
+
+-- what was read behind the frame of a request was such a cancel
+abbrev pub WasCancelledBy : {P W B : Type 0} → Meanings P W B → Grounds P → List ℕ → CancelReason → Type 0
+WasCancelledBy m g read reason =
+    IsCancelBy reason (behind read) (m.input.left g.after) (m.input.faults g.before) (m.input.faults g.after)
 
 -- Each reply, and what it says of the bytes that were read.
 abbrev pub Replies : {P W B : Type 0} → Meanings P W B → List ℕ → Grounds P → List ℕ → Option Request → Option Receipt → Tally → Reply → Type 0
@@ -70,6 +77,8 @@ Replies m root g read request receipt tally (reply.TooLarge limit n path) =
     RepliesTo m root g read request receipt tally (reply.TooLarge limit n path)
 Replies m root g read request receipt tally (reply.AllFailed failures) =
     RepliesTo m root g read request receipt tally (reply.AllFailed failures)
+Replies m root g read request receipt tally (reply.Cancelled reason) =
+    RepliesTo m root g read request receipt tally (reply.Cancelled reason) × WasCancelledBy m g read reason
 Replies m root g read request receipt tally reply.JournalFull =
     RepliesTo m root g read request receipt tally reply.JournalFull
 Replies m root g read request receipt tally (reply.Blocked path) =

@@ -3,14 +3,14 @@
 ghost use Rattle.std.specs.Prelude.{◌≡◌, ◌++◌, IfOk, OnOk};
 ghost use Rattle.std.specs.List.{flat_map};
 ghost use Rattle.rx_session.specs.Replies.{frame_of};
-ghost use Rattle.rx_engine.specs.Answered.{AnswersFault, IsFailure, IsPlain, bad_request, reply_no_memory};
+ghost use Rattle.rx_engine.specs.Answered.{AnswersFault, IsFailure, IsPlain, IsUnpublishedEnd, bad_request, reply_no_memory};
 ghost use Rattle.rx_engine.specs.Attempts.{AreTellable, IsTellable, failure_of};
 ghost use Rattle.rx_engine.specs.Ready.{IsOrGivenUp};
 
 use rx_base::{Items, NoMemory, TryClone};
 use rx_board::Receipt;
 use rx_scan::GatherFault;
-use rx_session::{Bad, Reply, encode};
+use rx_session::{Bad, CancelReason, Reply, encode};
 use rx_world::{Cause, End, Ended, Failure, RemoteCause};
 use std::alloc::{AllocError, Global};
 
@@ -75,9 +75,23 @@ pub(crate) fn refuse_gathering(alloc: Global, fault: GatherFault) -> Result<Answ
     }
 }
 
+/// The answer where nothing is published: that the race was cancelled, or else how its attempts failed.
+pub(crate) fn answer_unpublished(
+    alloc: Global,
+    cancelled: Option<CancelReason>,
+    ends: &[Ended],
+) -> Result<Answered, NoMemory>
+    ensures { IfOk result (IsUnpublishedEnd cancelled ends.now) }
+{
+    match cancelled {
+        Some(reason) => plain(alloc, Reply::Cancelled { reason }),
+        None => fail(alloc, ends),
+    }
+}
+
 /// The answer where no attempt has an outcome that is published. An end that is want of memory is
 /// answered as such.
-pub(crate) fn fail(alloc: Global, ends: &[Ended]) -> Result<Answered, NoMemory>
+fn fail(alloc: Global, ends: &[Ended]) -> Result<Answered, NoMemory>
     ensures { IfOk result (IsFailure ends.now) }
 {
     let failures = failures_of(alloc, ends)?;

@@ -8,6 +8,7 @@ ghost use Rattle.rx_engine.specs.Gathers.{HasGatheredFor, HasNotGathered};
 ghost use Rattle.rx_engine.specs.Meanings.{meanings};
 ghost use Rattle.rx_engine.specs.Pending.{HasAnswered};
 ghost use Rattle.rx_engine.specs.RemoteAttempts.{FitsFarm};
+ghost use Rattle.rx_engine.specs.Watching.{Listens, ListensIn};
 
 use crate::answered::{or_give_up, refuse_gathering};
 use crate::attempts::{Attempted, Job, Means, Room, make_attempts};
@@ -27,6 +28,8 @@ struct Prepared {
     gathered: Gathered,
     /// Whether a result of the farm's action cache is taken.
     accept_cached: bool,
+    /// Whether the client may cancel.
+    watch: bool,
     room: Room,
 }
 
@@ -53,7 +56,7 @@ pub(crate) fn answer<
         (meanings W.World D.I.Source D.O.Sink D.T.Sources D.L.Sources D.B.BenchMaker D.B.B.Bench
         D.R.Sources D.C.Caller)
         parts result.1 }
-    ensures input { result.1.input ≡ parts.input }
+    ensures heard { ListensIn D.I.Source request.now.watch parts.input result.1.input result.0 }
     ensures output { result.1.output ≡ parts.output }
 {
     let mut parts = parts;
@@ -84,6 +87,7 @@ fn prepare<W: World, D: Desk<W>>(
         request.now parts.old parts.new p.gathered) }
     ensures fits { IfOk result (λ p. FitsFarm p.gathered) }
     ensures accepts { IfOk result (λ p. p.accept_cached ≡ request.now.accept_cached) }
+    ensures watches { IfOk result (λ p. p.watch ≡ request.now.watch) }
     ensures plan { IfOk result (λ p. p.room.race.plan ≡ p.gathered.plan) }
     ensures err { IfErr result (HasNotGathered
         (meanings W.World D.I.Source D.O.Sink D.T.Sources D.L.Sources D.B.BenchMaker D.B.B.Bench
@@ -112,6 +116,7 @@ fn prepare<W: World, D: Desk<W>>(
     Ok(Prepared {
         gathered,
         accept_cached: request.accept_cached,
+        watch: request.watch,
         room,
     })
 }
@@ -134,19 +139,22 @@ fn run<W: World + Send, D: Desk<W>, N: Places + Send + Sync, R: Threads + Wait +
         (meanings W.World D.I.Source D.O.Sink D.T.Sources D.L.Sources D.B.BenchMaker D.B.B.Bench
         D.R.Sources D.C.Caller)
         parts result.1 }
-    ensures input { result.1.input ≡ parts.input }
+    ensures heard { Listens D.I.Source prepared.watch parts.input result.1.input
+        result.0.heard result.0.tally.passes.cancel }
     ensures output { result.1.output ≡ parts.output }
     ensures tree { result.1.tree ≡ parts.tree }
 {
     let Prepared {
         gathered,
         accept_cached,
+        watch,
         room,
     } = prepared;
     let job = Job {
         alloc,
         gathered: &gathered,
         accept_cached,
+        watch,
         presence: means.presence,
         halter: means.halter,
         slots: means.slots,

@@ -5,6 +5,7 @@ ghost use Rattle.std.specs.Prelude.{◌≡◌, ◌≤◌, [], IfOk, vec_capacity
 ghost use Rattle.rx_engine.specs.Attempts.{HasMade};
 ghost use Rattle.rx_engine.specs.Meanings.{meanings};
 ghost use Rattle.rx_engine.specs.RemoteAttempts.{FitsFarm};
+ghost use Rattle.rx_engine.specs.Watching.{Listens};
 
 use crate::desk::{Desk, Parts};
 use crate::racing::{Raced, race};
@@ -16,6 +17,7 @@ use rx_digest_cache::DigestCache;
 use rx_local::{Places, Slots};
 use rx_race::{Blanks, Race};
 use rx_scan::Gathered;
+use rx_session::CancelReason;
 use rx_world::{Ended, Origin, Outcome, Plan, World};
 use std::alloc::Global;
 use std::marker::Brand;
@@ -32,7 +34,7 @@ pub(crate) struct Means<'a, W: World, H, N: Places> {
     pub cache: &'a DigestCache<W>,
     /// Which blobs the farm is known to have.
     pub presence: &'a Presence,
-    /// Ends an attempt that lost its race.
+    /// Ends an attempt that lost its race, and the wait for the client.
     pub halter: &'a H,
     /// So many local attempts run at once.
     pub slots: &'a Slots<N>,
@@ -46,9 +48,11 @@ pub(crate) struct Job<'a, H, N: Places> {
     pub gathered: &'a Gathered,
     /// Whether a result of the farm's action cache is taken.
     pub accept_cached: bool,
+    /// Whether the client may cancel.
+    pub watch: bool,
     /// Which blobs the farm is known to have.
     pub presence: &'a Presence,
-    /// Ends an attempt that lost its race.
+    /// Ends an attempt that lost its race, and the wait for the client.
     pub halter: &'a H,
     /// So many local attempts run at once.
     pub slots: &'a Slots<N>,
@@ -74,12 +78,21 @@ pub(crate) struct Won {
     pub origin: Origin,
 }
 
+/// What the client said behind its request while the attempts ran.
+#[derive(Debug, Drop)]
+pub(crate) struct Heard {
+    pub bytes: Vec<u8>,
+    /// Why the race was cancelled, where it was.
+    pub cancelled: Option<CancelReason>,
+}
+
 /// How the attempts of a plan ended.
 #[derive(Debug, Drop)]
 pub(crate) struct Attempted {
     pub tally: Tally,
     /// What is published of them.
     pub won: Option<Won>,
+    pub heard: Heard,
 }
 
 impl Room {
@@ -112,7 +125,8 @@ pub(crate) fn make_attempts<
         (meanings W.World D.I.Source D.O.Sink D.T.Sources D.L.Sources D.B.BenchMaker D.B.B.Bench
         D.R.Sources D.C.Caller)
         job.now.gathered.now job.now.accept_cached parts result.1 result.0 }
-    ensures input { result.1.input ≡ parts.input }
+    ensures heard { Listens D.I.Source job.now.watch parts.input result.1.input
+        result.0.heard result.0.tally.passes.cancel }
     ensures output { result.1.output ≡ parts.output }
     ensures tree { result.1.tree ≡ parts.tree }
 {
@@ -123,6 +137,7 @@ pub(crate) fn make_attempts<
         here,
         there,
         passes,
+        heard,
     } = raced;
-    (kept_and_won(plan, ends, passes, here, there), parts)
+    (kept_and_won(plan, ends, passes, here, there, heard), parts)
 }

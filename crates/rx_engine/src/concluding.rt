@@ -10,7 +10,7 @@ ghost use Rattle.rx_engine.specs.Meanings.{meanings};
 ghost use Rattle.rx_engine.specs.Pending.{IsConcluded, IsFirstWon};
 ghost use Rattle.rx_engine.specs.Ready.{EntersHandled, Finishes, IsLost, WroteEnd};
 
-use crate::answered::{Answered, fail, or_give_up};
+use crate::answered::{Answered, answer_unpublished, or_give_up};
 use crate::attempts::Attempted;
 use crate::desk::{Desk, Parts};
 use crate::pending::{Pending, Stage};
@@ -80,15 +80,16 @@ fn publish_or_fail<P: Place>(
     board: &mut Board<P>,
 ) -> Handled
     ensures tally { result.tally ≡ attempted.tally }
-    ensures answered { IfSome result.answered (AnswersMade attempted.won attempted.tally.ends) }
+    ensures answered { IfSome result.answered
+        (AnswersMade attempted.won attempted.heard.cancelled attempted.tally.ends) }
     ensures journal { IsFirstWon attempted →
         EntersHandled P.Place board.old board.new session result }
     ensures board { IsBoardAfter P.Place board.old board.new }
 {
-    let Attempted { tally, won } = attempted;
+    let Attempted { tally, won, heard } = attempted;
     let answered = match won {
         Some(won) => publish(alloc, session, won, board),
-        None => fail(alloc, tally.ends.as_slice()),
+        None => answer_unpublished(alloc, heard.cancelled, tally.ends.as_slice()),
     };
     Handled {
         answered: or_give_up(alloc, answered),

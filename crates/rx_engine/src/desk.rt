@@ -31,7 +31,7 @@ pub struct Parts<I, O, T, L, B, R, C> {
 
 /// What one session owns. It is taken apart as the session begins and put together at its end.
 pub trait Desk<W: World>: Sized {
-    type I: Source + Send;
+    type I: Source + Send + Drop;
 
     type O: Sink + Send;
 
@@ -62,7 +62,7 @@ pub trait Desk<W: World>: Sized {
 
 impl<
     W: World,
-    I: Source + Send,
+    I: Source + Send + Drop,
     O: Sink + Send,
     T: Sources<W> + Send,
     L: Sources<W> + Send + Drop,

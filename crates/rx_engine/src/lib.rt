@@ -26,6 +26,7 @@ mod sessions;
 mod there;
 mod threads;
 mod transcripts;
+mod watchers;
 mod winners;
 mod words;
 

@@ -1,14 +1,15 @@
 //! A session until something is published: its request is read, and the attempts of its plan are
-//! made. Nothing here publishes or writes.
+//! made, while a client that may cancel is heard. Nothing here publishes or writes.
 
-ghost use Rattle.std.specs.Prelude.{◌≡◌, ◌≤◌, Err, IfOk, IsErrOf, None, Ok, length};
+ghost use Rattle.std.specs.Prelude.{◌≡◌, ◌≤◌, [], Err, IfOk, IsErrOf, None, Ok, OnOk, length};
 ghost use Rattle.std.specs.Io.KnownBytes.{Consumes};
 ghost use Rattle.rx_session.specs.declared.bad.SessionFault.TheVariants.{ReadFault as read_fault};
 ghost use Rattle.rx_session.specs.Bad.{Decodes};
-ghost use Rattle.rx_session.specs.Frames.{EndsRead, incoming_of, reach_of};
+ghost use Rattle.rx_session.specs.Frames.{EndsRead, behind, incoming_of, reach_of};
 ghost use Rattle.rx_world.specs.Causes.{Rose};
 ghost use Rattle.rx_engine.specs.Meanings.{meanings};
-ghost use Rattle.rx_engine.specs.Pending.{HasOutputsIfAsked, IsEndOfRun, IsPending, IsRefusalOf};
+ghost use Rattle.rx_engine.specs.Pending.{HasOutputsIfAsked, IsEndOfRun, IsPending, IsRefusalOf, IsStarved};
+ghost use Rattle.rx_engine.specs.Watching.{heard_in};
 
 use crate::answered::{Answered, or_give_up, refuse};
 use crate::answers::answer;
@@ -16,7 +17,7 @@ use crate::attempts::{Attempted, Means};
 use crate::desk::{Desk, Parts};
 use rx_base::Bytes;
 use rx_local::Places;
-use rx_session::{Incoming, Request, SHUTDOWN_DONE, SessionFault, read_incoming};
+use rx_session::{CANCEL, Incoming, Request, SHUTDOWN_DONE, SessionFault, read_incoming};
 use rx_world::{Source, World};
 use std::alloc::{AllocError, Global};
 use std::sync::Wait;
@@ -67,7 +68,11 @@ pub(crate) fn undertake<
     let mut read = Vec::new(alloc);
     match read_asked(alloc, &mut parts.input, root, &mut read) {
         Ok(Incoming::Request(request)) => {
+            if read.reserve(CANCEL.len()).is_err() {
+                return (starved(alloc, read, request), parts);
+            }
             let (stage, parts) = answer::<W, D, N, R>(rt, alloc, &request, parts, means);
+            read.extend_from_slice(heard_in(&stage)).unwrap();
             let pending = Pending {
                 read: Bytes::from_vec(read),
                 request: Some(request),
@@ -77,6 +82,29 @@ pub(crate) fn undertake<
         }
         Ok(Incoming::Shutdown) => (unasked(read, end_of_run(alloc)), parts),
         Err(fault) => (unasked(read, refusal(alloc, fault)), parts),
+    }
+}
+
+/// A session without memory for what its client may say behind the request.
+fn starved(alloc: Global, read: Vec<u8>, request: Request) -> Pending
+    ensures { IsStarved read.items request result }
+{
+    Pending {
+        read: Bytes::from_vec(read),
+        request: Some(request),
+        stage: Stage::Refused {
+            answered: or_give_up(alloc, Err(AllocError)),
+        },
+    }
+}
+
+/// What was heard while a session came to this.
+fn heard_in(stage: &Stage) -> &[u8]
+    ensures { result.now ≡ heard_in stage.now }
+{
+    match stage {
+        Stage::Attempted { attempted } => attempted.heard.bytes.as_slice(),
+        _ => &[],
     }
 }
 
@@ -103,6 +131,7 @@ fn read_asked<S: Source>(
     ensures incoming { Decodes (λ incoming. incoming) result (incoming_of root.now read.new.items) }
     ensures outputs { IfOk result HasOutputsIfAsked }
     ensures end { EndsRead (S.left source.new) result }
+    ensures bare { OnOk result (behind read.new.items ≡ []) }
     ensures later { S.faults source.old ≤ S.faults source.new }
     ensures failed { IsErrOf result read_fault → Rose (S.faults source.old) (S.faults source.new) }
 {

@@ -1,6 +1,6 @@
 //! The attempts of a session in a race of their own: at once where the plan has both so, and else in turn.
-//! The first end that may be published wins, and another attempt that runs is told to stop. Nothing here
-//! publishes or replies.
+//! The first end that may be published wins, and another attempt that runs is told to stop. A client that
+//! may cancel is watched meanwhile. Nothing here publishes or replies.
 
 ghost use Rattle.std.specs.Prelude.{◌≡◌, [], true};
 ghost use Rattle.rx_engine.specs.Attempts.{whole};
@@ -8,10 +8,11 @@ ghost use Rattle.rx_engine.specs.Meanings.{meanings};
 ghost use Rattle.rx_engine.specs.Plans.{has_both, has_remote, is_due_here};
 ghost use Rattle.rx_engine.specs.RacedAttempts.{HasRaced, HasRacedHere, HasRacedThere, IsStart, is_due};
 ghost use Rattle.rx_engine.specs.RemoteAttempts.{FitsFarm};
+ghost use Rattle.rx_engine.specs.Watching.{HasListened, HasWatched, Listens};
 ghost use Rattle.rx_race.specs.Slips.{AreBlank};
 ghost use Rattle.rx_world.specs.declared.attempts.Attempt.TheVariants.{Local as local_attempt, Remote as remote_attempt};
 
-use crate::attempts::Job;
+use crate::attempts::{Heard, Job};
 use crate::desk::{Desk, Parts};
 use crate::entrants::{Entrant, Start, enter, enter_here, enter_there};
 use crate::finishers::{Finisher, race_here, race_there};
@@ -19,10 +20,11 @@ use crate::halts::Halt;
 use crate::held::Held;
 use crate::plans::has_both;
 use crate::transcripts::Passes;
+use crate::watchers::{Watched, Watcher, leave_unwatched, watch};
 use rx_exec_messages::Caller;
 use rx_local::Places;
 use rx_race::{Blanks, Contest, Race, SharedRace, StartPass};
-use rx_world::{BenchMaker, Cause, End, RemoteCause, Sources, World};
+use rx_world::{BenchMaker, Cause, End, RemoteCause, Source, Sources, World};
 use std::sync::Wait;
 use std::thread::{Threads, join};
 
@@ -32,10 +34,11 @@ pub(crate) struct Raced {
     pub here: Option<End<Held, Cause>>,
     pub there: Option<End<Held, RemoteCause>>,
     pub passes: Passes,
+    pub heard: Heard,
 }
 
 /// Makes the attempts of the plan on what was gathered. This returns when each that was started has
-/// ended.
+/// ended, and so has the watcher.
 pub(crate) fn race<
     W: World + Send,
     K: Contest + Send + Sync,
@@ -58,7 +61,8 @@ pub(crate) fn race<
         D.R.Sources D.C.Caller)
         job.now.gathered.now job.now.accept_cached parts result.1
         (whole result.0.here) (whole result.0.there) result.0.passes }
-    ensures input { result.1.input ≡ parts.input }
+    ensures heard { Listens D.I.Source job.now.watch parts.input result.1.input
+        result.0.heard result.0.passes.cancel }
     ensures output { result.1.output ≡ parts.output }
     ensures tree { result.1.tree ≡ parts.tree }
 {
@@ -73,10 +77,14 @@ pub(crate) fn race<
         runner: parts.farm,
         tree: parts.tree_remote,
     };
-    let (near, far) = run_all::<W, K, D::H, N, D::B, D::L, D::C, D::R, R>(
-        rt, job, &race, near, far,
+    let watcher = Watcher {
+        pass: cancel,
+        input: parts.input,
+    };
+    let (near, far, watched) = run_watched::<W, K, D::H, N, D::I, D::B, D::L, D::C, D::R, R>(
+        rt, job, &race, watcher, near, far,
     );
-    let (local, remote, cancel) = race.close(near.ticket, far.ticket, cancel.ticket);
+    let (local, remote, cancel) = race.close(near.ticket, far.ticket, watched.ticket);
     let raced = Raced {
         here: near.end,
         there: far.end,
@@ -85,9 +93,10 @@ pub(crate) fn race<
             remote: remote.slip(),
             cancel: cancel.slip(),
         },
+        heard: watched.heard,
     };
     let parts = Parts {
-        input: parts.input,
+        input: watched.input,
         output: parts.output,
         tree: parts.tree,
         tree_local: near.tree,
@@ -96,6 +105,113 @@ pub(crate) fn race<
         farm: far.runner,
     };
     (raced, parts)
+}
+
+/// Runs the attempts of the plan, and watches the client meanwhile where it may cancel: in a thread of
+/// its own, whose wait ends with the attempts. Where no thread can be started, the client is heard after
+/// them, and its cancel is late.
+fn run_watched<
+    W: World + Send,
+    K: Contest + Send + Sync,
+    H: Halt + Sync,
+    N: Places + Send + Sync,
+    I: Source + Send + Drop,
+    B: BenchMaker<W> + Send + Drop,
+    L: Sources<W> + Send + Drop,
+    C: Caller<W> + Send + Drop,
+    S: Sources<W> + Send + Drop,
+    R: Threads + Wait + Sync,
+>(
+    rt: &R,
+    job: &Job<'_, H, N>,
+    race: &SharedRace<K>,
+    watcher: Watcher<K, I>,
+    near: Entrant<StartPass<K>, B, L>,
+    far: Entrant<StartPass<K>, C, S>,
+) -> (
+    Finisher<K, Cause, B, L>,
+    Finisher<K, RemoteCause, C, S>,
+    Watched<K, I>,
+)
+    requires fits { FitsFarm job.now.gathered.now }
+    requires plan { job.now.gathered.now.plan ≡ K.plan }
+    requires near { near.start.attempt ≡ local_attempt }
+    requires far { far.start.attempt ≡ remote_attempt }
+    ensures near { HasRacedHere W.World B.BenchMaker B.B.Bench L.Sources
+        K.plan (is_due_here K.plan result.1.ticket.slip) job.now.gathered.now
+        near.runner result.0.runner near.tree result.0.tree
+        (whole result.0.end) result.0.ticket }
+    ensures far { HasRacedThere W.World C.Caller S.Sources
+        K.plan (has_remote K.plan) job.now.gathered.now job.now.accept_cached
+        far.runner result.1.runner far.tree result.1.tree
+        (whole result.1.end) result.1.ticket }
+    ensures listened { HasListened I.Source job.now.watch watcher.input
+        result.2.input result.2.heard result.2.ticket }
+{
+    if !job.watch {
+        let (near, far) = run_all::<W, K, H, N, B, L, C, S, R>(rt, job, race, near, far);
+        return (near, far, leave_unwatched(job, watcher));
+    }
+    job.halter.allow_silence();
+    let (watched, (near, far)) = join(
+        rt,
+        move || -> Watched<K, I>
+            ensures { HasWatched I.Source watcher.input result.input
+                result.heard result.ticket }
+        { watch::<K, H, N, I, R>(rt, job, race, watcher) },
+        move || -> (Finisher<K, Cause, B, L>, Finisher<K, RemoteCause, C, S>)
+            requires fits { FitsFarm job.now.gathered.now }
+            requires plan { job.now.gathered.now.plan ≡ K.plan }
+            requires near { near.start.attempt ≡ local_attempt }
+            requires far { far.start.attempt ≡ remote_attempt }
+            ensures near { HasRacedHere W.World B.BenchMaker B.B.Bench L.Sources
+                K.plan (is_due_here K.plan result.1.ticket.slip) job.entry.now.gathered.now
+                near.runner result.0.runner near.tree result.0.tree
+                (whole result.0.end) result.0.ticket }
+            ensures far { HasRacedThere W.World C.Caller S.Sources
+                K.plan (has_remote K.plan) job.entry.now.gathered.now
+                job.entry.now.accept_cached
+                far.runner result.1.runner far.tree result.1.tree
+                (whole result.1.end) result.1.ticket }
+        { run_and_halt::<W, K, H, N, B, L, C, S, R>(rt, job, race, near, far) },
+    );
+    (near, far, watched)
+}
+
+/// Runs the attempts of the plan, and then ends the wait for the client.
+fn run_and_halt<
+    W: World + Send,
+    K: Contest + Send + Sync,
+    H: Halt + Sync,
+    N: Places + Send + Sync,
+    B: BenchMaker<W> + Send + Drop,
+    L: Sources<W> + Send + Drop,
+    C: Caller<W> + Send + Drop,
+    S: Sources<W> + Send + Drop,
+    R: Threads + Wait + Sync,
+>(
+    rt: &R,
+    job: &Job<'_, H, N>,
+    race: &SharedRace<K>,
+    near: Entrant<StartPass<K>, B, L>,
+    far: Entrant<StartPass<K>, C, S>,
+) -> (Finisher<K, Cause, B, L>, Finisher<K, RemoteCause, C, S>)
+    requires fits { FitsFarm job.now.gathered.now }
+    requires plan { job.now.gathered.now.plan ≡ K.plan }
+    requires near { near.start.attempt ≡ local_attempt }
+    requires far { far.start.attempt ≡ remote_attempt }
+    ensures near { HasRacedHere W.World B.BenchMaker B.B.Bench L.Sources
+        K.plan (is_due_here K.plan result.1.ticket.slip) job.now.gathered.now
+        near.runner result.0.runner near.tree result.0.tree
+        (whole result.0.end) result.0.ticket }
+    ensures far { HasRacedThere W.World C.Caller S.Sources
+        K.plan (has_remote K.plan) job.now.gathered.now job.now.accept_cached
+        far.runner result.1.runner far.tree result.1.tree
+        (whole result.1.end) result.1.ticket }
+{
+    let ended = run_all::<W, K, H, N, B, L, C, S, R>(rt, job, race, near, far);
+    job.halter.halt_input();
+    ended
 }
 
 /// Runs the attempts of the plan: both at once where the plan has them so and there is a slot for the

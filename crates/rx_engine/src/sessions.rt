@@ -73,7 +73,7 @@ pub fn serve_session<W: World + Send, D: Desk<W>, P: Place, R: Threads + Wait + 
         shared.old.root (D.parts desk) (D.parts result.1) bytes asked →
         HasRoom shared.old.board.limit shared.old.board.journal
         (P.faults shared.old.board.place) (P.faults shared.new.board.place) →
-        IsDoneOr asked.strategy result.0.ending result.0.reply }
+        IsDoneOr asked result.0.ending result.0.reply }
     ensures root { shared.new.root ≡ shared.old.root }
     ensures board { IsBoardAfter P.Place shared.old.board shared.new.board }
 {

@@ -1,10 +1,10 @@
 //! What is kept and published of the ends of attempts. Nothing here runs or publishes.
 
 ghost use Rattle.std.specs.Prelude.{◌≡◌, ◌≤◌, ◌++◌, [], is_some, vec_capacity};
-ghost use Rattle.rx_engine.specs.Attempts.{IsMadeOf, first_won, in_order, listed, listed_local, listed_remote, won_by, won_remote, whole};
+ghost use Rattle.rx_engine.specs.Attempts.{IsMadeOf, first_won, in_order, listed, listed_local, listed_remote, unless_cancelled, won_by, won_remote, whole};
 ghost use Rattle.rx_engine.specs.Racing.{first_by};
 
-use crate::attempts::{Attempted, MOST_ATTEMPTS, Won};
+use crate::attempts::{Attempted, Heard, MOST_ATTEMPTS, Won};
 use crate::ends::let_go;
 use crate::held::Held;
 use crate::transcripts::{Passes, Tally};
@@ -31,17 +31,19 @@ fn may_publish(plan: Plan, there: &Option<End<Held, RemoteCause>>) -> bool
     }
 }
 
-/// What is kept and published of these ends, by what became of the passes of their race.
+/// What is kept and published of these ends, by what became of the passes of their race, and what was
+/// heard meanwhile.
 pub(crate) fn kept_and_won(
     plan: Plan,
     room: Vec<Ended>,
     passes: Passes,
     here: Option<End<Held, Cause>>,
     there: Option<End<Held, RemoteCause>>,
+    heard: Heard,
 ) -> Attempted
     requires empty { room.items ≡ [] }
     requires room { MOST_ATTEMPTS ≤ vec_capacity room }
-    ensures { IsMadeOf plan passes (whole here) (whole there) result }
+    ensures { IsMadeOf plan passes (whole here) (whole there) heard result }
 {
     let first = first_by(passes.remote);
     let may = may_publish(plan, &there);
@@ -53,7 +55,18 @@ pub(crate) fn kept_and_won(
             ends: ends_of(room, first, end_here, end_there),
             passes,
         },
-        won: won_by(first, won_here, won_there),
+        won: unless_cancelled(passes.cancel, won_by(first, won_here, won_there)),
+        heard,
+    }
+}
+
+/// Of what is to be published nothing, where the race was cancelled.
+fn unless_cancelled(cancel: Slip, won: Option<Won>) -> Option<Won>
+    ensures { result ≡ unless_cancelled cancel won }
+{
+    match cancel {
+        Slip::Told(Verdict::Won) => None,
+        _ => won,
     }
 }
 

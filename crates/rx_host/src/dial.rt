@@ -46,9 +46,9 @@ impl<H: Hands> HostDial<H> {
         }
     }
 
-    /// Lets go of the connection that is kept for halting.
+    /// Lets go of the connections that are kept for halting.
     pub(crate) fn let_go(&self) {
-        self.halting.let_go_of_farm(&self.hands);
+        self.halting.let_go(&self.hands);
     }
 
     /// Tells that the farm refused a call with this status, and what it said of it, if anything.

@@ -58,7 +58,8 @@ impl<H: Hands> HostFarm<H> {
         }
     }
 
-    /// Closes the connection, if there is one. What is told of the client stays; its next call makes another connection.
+    /// Closes the connection, if there is one, as its session ends: what is kept of the session's connections for halting is let go of.
+    /// What is told of the client stays; its next call makes another connection.
     pub fn hang_up(self) -> HostFarm<H>
         ensures { result ≡ self }
     {

@@ -1,7 +1,8 @@
 //! How an attempt of a session that lost its race is told to wait no longer: for its connection to the farm, or for
-//! the program that it runs.
+//! the program that it runs. So is whoever waits for the client of the session, once its attempts have ended.
 
 use crate::calls::Call;
+use rx_streams::SocketEnd;
 use std::alloc::{AllocError, Global};
 use std::io;
 use std::io::Error;
@@ -23,6 +24,8 @@ struct Waits {
     /// Another handle of the connection to the farm.
     connection: Option<TcpStream>,
     run: Option<Arc<Run, Global>>,
+    /// Another handle of what comes in from the client, where it has a connection.
+    client: Option<SocketEnd>,
 }
 
 /// What is halted, and the waits that this ends. A mark is set before the lock is taken, and read under it, so that no wait
@@ -50,6 +53,7 @@ impl Halting {
                 connecting: None,
                 connection: None,
                 run: None,
+                client: None,
             }),
         };
         Ok(Halting {
@@ -85,9 +89,30 @@ impl Halting {
         }
     }
 
-    /// Lets go of the connection to the farm, so that it isn't kept open from here.
-    pub(crate) fn let_go_of_farm(&self, hands: &impl Wait) {
-        self.marks.waits.lock(hands).connection = None;
+    /// The client of the session is at this end.
+    pub fn keep_client(&self, hands: &impl Wait, client: SocketEnd) {
+        self.marks.waits.lock(hands).client = Some(client);
+    }
+
+    /// Lets the client send nothing for as long as it takes.
+    pub fn allow_silence(&self, hands: &impl Wait) {
+        if let Some(client) = &self.marks.waits.lock(hands).client {
+            client.allow_silence();
+        }
+    }
+
+    /// Ends the wait for what the client sends, and each later one. What it sends isn't read any more.
+    pub fn halt_input(&self, hands: &impl Wait) {
+        if let Some(client) = self.marks.waits.lock(hands).client.take() {
+            client.end_receiving();
+        }
+    }
+
+    /// Lets go of the connections to the farm and to the client, so that they aren't kept open from here.
+    pub(crate) fn let_go(&self, hands: &impl Wait) {
+        let mut waits = self.marks.waits.lock(hands);
+        waits.connection = None;
+        waits.client = None;
     }
 
     /// Whether the farm was halted.

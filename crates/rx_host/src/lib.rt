@@ -41,6 +41,6 @@ pub use link::HostLink;
 pub use listener::HostListener;
 pub use patient::PatientSink;
 pub use place::HostPlace;
-pub use rx_streams::{HostSink, HostSource, SocketSink, SocketSource};
+pub use rx_streams::{HostSink, HostSource, SocketEnd, SocketSink, SocketSource};
 pub use seeds::draw_seed;
 pub use world::HostWorld;

@@ -13,7 +13,7 @@ use Rattle.rx_base.specs.SortedPaths.{sorted_paths}
 use Rattle.rx_base.proofs.Orders.{HasSameMembers-sorted_once}
 use Rattle.rx_session.specs.declared.bad.Bad.{Bad}
 use Rattle.rx_session.specs.declared.bad.BadReason.{BadReason}
-use Rattle.rx_session.specs.declared.bad.BadReason.TheVariants.{BadField, CutShort, NotBuilt, Trailing, UnknownVersion, WrongRoot}
+use Rattle.rx_session.specs.declared.bad.BadReason.TheVariants.{BadField, CutShort, Trailing, UnknownVersion, WrongRoot}
 use Rattle.rx_session.specs.declared.frames.Incoming.{Incoming}
 use Rattle.rx_session.specs.declared.frames.Incoming.TheVariants as incomings
 use Rattle.rx_session.specs.declared.headers.Head.{Head}
@@ -24,7 +24,7 @@ use Rattle.rx_session.specs.Bad.{bad}
 use Rattle.rx_session.specs.Frames.{IsRequest, alone, head_in, incoming_by, incoming_of, or_bad_message, or_request, payload_request, request_within}
 use Rattle.rx_session.specs.Jobs.{command_of}
 use Rattle.rx_session.specs.Messages.{raw_request_of}
-use Rattle.rx_session.specs.Rules.{bad_field, outputs_hold, outputs_stand, path_in, paths_hold, paths_in, refused, request_by, request_from, some_above, unbuilt_field}
+use Rattle.rx_session.specs.Rules.{bad_field, outputs_hold, outputs_stand, path_in, paths_hold, paths_in, refused, request_by, request_from, some_above}
 use Rattle.rx_session.proofs.RuleLemmas.{outputs-hold}
 
 -- ---- from the fields to the bytes
@@ -40,6 +40,11 @@ module _ (P : Request → Type 0) where
   test-if true why rest h = tt
   test-if false why rest h = h
 
+  -- what holds either way
+  served-if : (test : Bool) (one rest : Result Request Bad) → IfOk one P → IfOk rest P → IfOk (if test then one else rest) P
+  served-if true one rest h g = h
+  served-if false one rest h g = g
+
   refused-if : (reason : BadReason) (field : Option ℕ) (rest : Result Request Bad) → (field ≡ None → IfOk rest P) → IfOk (refused reason field >>= λ x. rest) P
   refused-if reason None rest h = h refl
   refused-if reason (Some number) rest h = tt
@@ -49,15 +54,15 @@ module _ (P : Request → Type 0) where
     unfolding payload_request request_by
     message-holds root payload =
         bind-if (or_bad_message (raw_request_of payload)) (λ raw. request_by root raw) (λ raw.
-        let served : Result Request Bad = (refused NotBuilt (unbuilt_field raw) >>= λ x. Ok (request_from raw)) in
-        let right : Result Request Bad = (refused BadField (bad_field raw) >>= λ x. served) in
+        let right : Result Request Bad = (refused BadField (bad_field raw) >>= λ x. Ok (request_from raw)) in
         test-if (not (raw.version == 1)) (bad UnknownVersion raw.version) (if not (bytes_eq raw.root root) then Err (bad WrongRoot 0) else right)
         (test-if (not (bytes_eq raw.root root)) (bad WrongRoot 0) right
-        (refused-if BadField (bad_field raw) served (λ right.
-        refused-if NotBuilt (unbuilt_field raw) (Ok (request_from raw)) (λ built. holds raw right)))))
+        (refused-if BadField (bad_field raw) (Ok (request_from raw)) (λ right. holds raw right))))
 
     alone-holds : (len : ℕ) (text : List ℕ) (request : Result Request Bad) → IfOk request P → IfOk (request >>= alone len text) P
-    alone-holds len text (Ok request) h = test-if (nat_lt (5 + len) (length text)) (bad Trailing (5 + len)) (Ok request) h
+    alone-holds len text (Ok request) h =
+        served-if request.watch (Ok request) (if nat_lt (5 + len) (length text) then Err (bad Trailing (5 + len)) else Ok request) h
+        (test-if (nat_lt (5 + len) (length text)) (bad Trailing (5 + len)) (Ok request) h)
     alone-holds len text (Err why) h = tt
 
     within-holds : (root : List ℕ) (len : ℕ) (text : List ℕ) → IfOk (request_within root len text) P

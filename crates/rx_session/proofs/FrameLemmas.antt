@@ -1,13 +1,14 @@
 -- A frame that is read in pieces: its header, its payload, and what follows.
-use Rattle.std.proofs.Common.{◌≡◌, ℕ, ◌+◌, ◌<◌, ◌≤◌, true, false, List, [], ◌∷◌, ◌++◌, length, take, drop, Option, Result, Ok, Err, refl, sym, ap, ◌∙◌, arith, append_assoc, append-nil, nat_lt, length-append, length-drop, subst}
+use Rattle.std.proofs.Common.{◌≡◌, ℕ, ◌+◌, ◌<◌, ◌≤◌, ◌==◌, not, Bool, true, false, List, [], ◌∷◌, ◌++◌, length, take, drop, Option, Result, Ok, Err, refl, sym, ap, ◌∙◌, arith, append_assoc, append-nil, nat_lt, length-append, length-drop, subst}
 use Rattle.std.proofs.lemmas.Bool.{lt-ltb, le-ltb}
-use Rattle.std.proofs.lemmas.List.{drop-append-le}
+use Rattle.std.proofs.lemmas.List.{drop-append-le, drop_all}
+use Rattle.std.specs.Prelude.{if◌then◌else◌, slice_index}
 use Rattle.std.proofs.Math.Seq.{take-append_seam}
 use Rattle.std.proofs.KnownBytes.{Consumes-trans, Consumes-kept, Consumes-nil}
 use Rattle.std.specs.Io.KnownBytes.{Consumes, Keeps, IsAtEnd}
 use Rattle.rx_base.specs.Results.{◌>>=◌}
 use Rattle.rx_session.specs.declared.bad.Bad.{Bad}
-use Rattle.rx_session.specs.declared.bad.BadReason.TheVariants.{CutShort, Trailing}
+use Rattle.rx_session.specs.declared.bad.BadReason.TheVariants.{BadMessage, CutShort, Trailing}
 use Rattle.rx_session.specs.declared.bad.SessionFault.{SessionFault}
 use Rattle.rx_session.specs.declared.bad.SessionFault.TheVariants as faults
 use Rattle.rx_session.specs.declared.frames.Incoming.{Incoming}
@@ -16,8 +17,11 @@ use Rattle.rx_session.specs.declared.headers.Head.{Head}
 use Rattle.rx_session.specs.declared.headers.Head.TheVariants as heads
 use Rattle.rx_session.specs.declared.requests.Request.{Request}
 use Rattle.rx_session.specs.Bad.{Decodes, bad}
-use Rattle.rx_session.specs.Frames.{EndsRead, alone, head_in, incoming_of, or_request, payload_request, reach_by, reach_of, request_within}
+use Rattle.rx_session.specs.Frames.{EndsRead, alone, begins, behind, head_by, head_in, incoming_of, length_in, longest_payload, or_request, payload_request, reach_by, reach_of, request_within}
 use Rattle.rx_session.specs.Streams.{IsNoBad, IsNoCut, IsNoCutPast, ReadsOn}
+
+abbrev request_head : ℕ → Result Head Bad
+request_head len = Ok (heads.Request len)
 
 -- ---- pieces that were read one after the other
 
@@ -72,7 +76,7 @@ unfolding incoming_of
 header_ends_all root text h = rw h refl
 
 -- the header tells the same with more bytes behind it
-head_in-more : (head : Head) (text more : List ℕ) → head_in text ≡ Ok head → head_in (text ++ more) ≡ Ok head
+pub head_in-more : (head : Head) (text more : List ℕ) → head_in text ≡ Ok head → head_in (text ++ more) ≡ Ok head
 unfolding head_in
 head_in-more head [] more h = absurd (cc h)
 head_in-more head (a ∷ []) more h = absurd (cc h)
@@ -108,6 +112,36 @@ reach-told len head text more h e le =
     let told : head_in text ≡ Ok (heads.Request len) = rw e (head_in-more (heads.Request len) head more h) in
     rw told le
 
+-- ---- what is behind the frame
+
+by_kind : (len told : ℕ) (first over : Bool) → (if first then Ok (heads.Request told) else if over then Err (bad BadMessage 1) else Ok heads.Shutdown) ≡ request_head len
+    → told ≡ len
+by_kind len told true over h = cc
+by_kind len told false true h = absurd (cc h)
+by_kind len told false false h = absurd (cc h)
+
+by_tests : (len told kind : ℕ) (short begun long : Bool) (x y z : Bad)
+    → (if short then Err x else if not begun then Err y else if long then Err z else head_by kind told) ≡ request_head len → told ≡ len
+by_tests len told kind true begun long x y z h = absurd (cc h)
+by_tests len told kind false false long x y z h = absurd (cc h)
+by_tests len told kind false true true x y z h = absurd (cc h)
+by_tests len told kind false true false x y z h = by_kind len told (kind == 1) (nat_lt 0 told) h
+
+-- a request's length is that of its header
+pub length_told : (len : ℕ) (text : List ℕ) → head_in text ≡ Ok (heads.Request len) → length_in text ≡ len
+unfolding head_in
+length_told len text h =
+    by_tests len (length_in text) (slice_index text 0) (nat_lt (length text) 5) (begins (slice_index text 0)) (nat_lt longest_payload (length_in text)) _ _ _ h
+
+pub bare_header : (text : List ℕ) → length text ≤ 5 → behind text ≡ []
+bare_header text le = drop_all (5 + length_in text) text (omega (arith, le))
+
+pub bare_told : (len : ℕ) (head text more : List ℕ) → head_in head ≡ Ok (heads.Request len) → text ≡ head ++ more → length text ≤ 5 + len → behind text ≡ []
+bare_told len head text more h e le =
+    let told : head_in text ≡ Ok (heads.Request len) = rw e (head_in-more (heads.Request len) head more h) in
+    let same = length_told len text told in
+    drop_all (5 + length_in text) text (omega (arith, le, same))
+
 -- ---- the payload
 
 pub within_cut : (root : List ℕ) (len : ℕ) (text : List ℕ) → length text < 5 + len → request_within root len text ≡ Err (bad CutShort (length text))
@@ -135,14 +169,19 @@ within_refused payloads seen root len front (faults.Bad why) size h =
     let given : request_within root len front ≡ Err why = within_whole root len front front [] size (sym (append-nil front)) ∙ rw h refl in
     ap or_request given
 
+-- behind one that watches anything may come
+pub within_watched : (root : List ℕ) (len : ℕ) (front text more : List ℕ) (request : Request) → length front ≡ 5 + len → text ≡ front ++ more
+    → payload_request root (drop 5 front) ≡ Ok request → request.watch ≡ true → request_within root len text ≡ Ok request
+within_watched root len front text more request size e ok watch = within_whole root len front text more size e ∙ rw (ok, watch) refl
+
 pub within_trailing : (root : List ℕ) (len : ℕ) (front text more : List ℕ) (request : Request) → length front ≡ 5 + len → text ≡ front ++ more
-    → payload_request root (drop 5 front) ≡ Ok request → 5 + len < length text → request_within root len text ≡ Err (bad Trailing (5 + len))
-within_trailing root len front text more request size e ok lt =
+    → payload_request root (drop 5 front) ≡ Ok request → request.watch ≡ false → 5 + len < length text → request_within root len text ≡ Err (bad Trailing (5 + len))
+within_trailing root len front text more request size e ok watch lt =
     let test : nat_lt (5 + len) (length text) ≡ true = lt-ltb _ _ lt in
-    within_whole root len front text more size e ∙ rw (ok, test) refl
+    within_whole root len front text more size e ∙ rw (ok, watch, test) refl
 
 pub within_alone : (root : List ℕ) (len : ℕ) (front text more : List ℕ) (request : Request) → length front ≡ 5 + len → text ≡ front ++ more
-    → payload_request root (drop 5 front) ≡ Ok request → length text ≤ 5 + len → request_within root len text ≡ Ok request
-within_alone root len front text more request size e ok le =
+    → payload_request root (drop 5 front) ≡ Ok request → request.watch ≡ false → length text ≤ 5 + len → request_within root len text ≡ Ok request
+within_alone root len front text more request size e ok watch le =
     let test : nat_lt (5 + len) (length text) ≡ false = le-ltb _ _ le in
-    within_whole root len front text more size e ∙ rw (ok, test) refl
+    within_whole root len front text more size e ∙ rw (ok, watch, test) refl

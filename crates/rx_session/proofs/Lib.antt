@@ -17,3 +17,4 @@ pub mod SeenLemmas
 pub mod ShutdownLemmas
 pub mod TextLemmas
 pub mod VersionLemmas
+pub mod WatchLemmas

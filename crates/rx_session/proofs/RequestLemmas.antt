@@ -42,7 +42,7 @@ message_again : (root : List ℕ) (request : Request) → IsServed root request 
 unfolding request_by
 message_again root request s =
     let same : bytes_eq request.root root ≡ true = rw s.same_root (bytes_eq-itself root) in
-    rw (same, s.rules, s.built) (ap Ok (request_again request))
+    rw (same, s.rules) (ap Ok (request_again request))
 
 -- a payload that its message is read of again
 payload_again : (root : List ℕ) (request : Request) (message : RawRequest) (payload : List ℕ) → message ≡ request_message request

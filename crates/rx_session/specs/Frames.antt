@@ -1,5 +1,5 @@
 -- Frames: a kind byte, a length in four bytes, the highest first, and so many bytes of payload.
-use Rattle.std.specs.Prelude.{◌≡◌, ℕ, ◌+◌, ◌-◌, ◌^◌, ◌≤◌, ◌==◌, ◌||◌, not, Bool, min, nat_lt, List, [], ◌∷◌, ◌++◌, length, take, drop, Option, Result, Ok, Err, if◌then◌else◌, slice_index}
+use Rattle.std.specs.Prelude.{◌≡◌, ℕ, ◌+◌, ◌-◌, ◌^◌, ◌≤◌, ◌==◌, ◌||◌, not, Bool, false, min, nat_lt, List, [], ◌∷◌, ◌++◌, length, take, drop, Option, Result, Ok, Err, if◌then◌else◌, slice_index}
 use Rattle.std.specs.Int.{w32, to_be_bytes, from_be_bytes}
 use Rattle.std.specs.Io.KnownBytes.{IsAtEnd}
 use Rattle.rx_base.specs.Results.{◌>>=◌}
@@ -62,6 +62,10 @@ payload_request root payload = do
 abbrev pub length_in : List ℕ → ℕ
 length_in text = from_be_bytes w32 (take 4 (drop 1 text))
 
+-- what follows the frame
+abbrev pub behind : List ℕ → List ℕ
+behind text = drop (5 + length_in text) text
+
 -- a client's frame begins with one of these kinds
 abbrev pub begins : ℕ → Bool
 begins kind = kind == 1 || kind == 4
@@ -86,9 +90,12 @@ abbrev pub IsWithin : ℕ → Head → Type 0
 IsWithin most (heads.Request len) = len ≤ most
 IsWithin most heads.Shutdown = Unit {0}
 
--- a request, where nothing follows its frame
+-- a request, where nothing follows its frame, or where it watches: then a Cancel may
 abbrev pub alone : ℕ → List ℕ → Request → Result Request Bad
-alone len text request = if nat_lt (5 + len) (length text) then Err (bad Trailing (5 + len)) else Ok request
+alone len text request =
+    if request.watch then Ok request
+    else if nat_lt (5 + len) (length text) then Err (bad Trailing (5 + len))
+    else Ok request
 
 -- the request in a frame whose payload has so many bytes
 unfoldable pub request_within : List ℕ → ℕ → List ℕ → Result Request Bad
@@ -106,14 +113,14 @@ abbrev pub incoming_by : List ℕ → List ℕ → Head → Result Incoming Bad
 incoming_by root text (heads.Request len) = or_request (request_within root len text)
 incoming_by root text heads.Shutdown = Ok incomings.Shutdown
 
--- What comes in by a client's bytes: the Request that they are, all of them, or Shutdown, with whose frame they begin. (No request that
--- watches is served yet, and only after such a one more bytes may come.)
+-- What comes in by a client's bytes: the Request that they are, all of them, or the one that watches or the Shutdown with whose frame they
+-- begin.
 unfoldable pub incoming_of : List ℕ → List ℕ → Result Incoming Bad
 incoming_of root text = do
   head ← head_in text
   incoming_by root text head
 
--- the bytes are this request
+-- the bytes are this request, or begin with it where it watches
 abbrev pub IsRequest : List ℕ → List ℕ → Request → Type 0
 IsRequest root text request = incoming_of root text ≡ Ok (incomings.Request request)
 
@@ -126,9 +133,9 @@ reach_by (Err why) = 5
 abbrev pub reach_of : List ℕ → ℕ
 reach_of text = reach_by (head_in text)
 
--- Whether the end of the input was read: for a request, and where the frame is cut short.
+-- Whether the end of the input was read: for a request that doesn't watch, and where the frame is cut short.
 abbrev pub EndsRead : Option (List ℕ) → Result Incoming SessionFault → Type 0
-EndsRead left (Ok (incomings.Request request)) = IsAtEnd left
+EndsRead left (Ok (incomings.Request request)) = request.watch ≡ false → IsAtEnd left
 EndsRead left (Ok incomings.Shutdown) = Unit {0}
 EndsRead left (Err (faults.Bad why)) = why.reason ≡ CutShort → IsAtEnd left
 EndsRead left (Err faults.ReadFault) = Unit {0}

@@ -1,5 +1,6 @@
 pub mod Bad
 pub mod CallFaults
+pub mod Cancels
 pub mod Ends
 pub mod Frames
 pub mod Jobs

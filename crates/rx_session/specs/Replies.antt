@@ -11,6 +11,8 @@ use Rattle.rx_world.specs.declared.refusals.LocalCause.{LocalCause}
 use Rattle.rx_world.specs.declared.refusals.LocalCause.TheVariants as locals
 use Rattle.rx_session.specs.declared.bad.BadReason.{BadReason}
 use Rattle.rx_session.specs.declared.bad.BadReason.TheVariants as reasons
+use Rattle.rx_session.specs.declared.cancels.CancelReason.{CancelReason}
+use Rattle.rx_session.specs.declared.cancels.CancelReason.TheVariants as cancels
 use Rattle.rx_session.specs.declared.replies.Reply.{Reply}
 use Rattle.rx_session.specs.declared.replies.Reply.TheVariants as replies
 use Rattle.rx_session.specs.declared.reply_fault.ReplyFault.{ReplyFault}
@@ -63,6 +65,20 @@ reason_of n =
     else if n == 7 then Ok reasons.BadField
     else if n == 8 then Ok reasons.Trailing
     else if n == 9 then Ok reasons.NotBuilt
+    else bad_reply
+
+abbrev pub cancel_number : CancelReason → ℕ
+cancel_number cancels.Asked = 1
+cancel_number cancels.Ended = 2
+cancel_number cancels.OtherBytes = 3
+cancel_number cancels.Lost = 4
+
+abbrev pub cancel_of : ℕ → Result CancelReason ReplyFault
+cancel_of n =
+    if n == 1 then Ok cancels.Asked
+    else if n == 2 then Ok cancels.Ended
+    else if n == 3 then Ok cancels.OtherBytes
+    else if n == 4 then Ok cancels.Lost
     else bad_reply
 
 -- ---- written
@@ -121,6 +137,7 @@ message_of (replies.InputChanged input) = input_changed_message input
 message_of (replies.SourceFault path) = path_reply 5 path
 message_of (replies.TooLarge limit n path) = too_large_message limit n path
 message_of (replies.AllFailed failures) = all_failed_message failures
+message_of (replies.Cancelled reason) = record (bare_reply 8) { reason = cancel_number reason }
 message_of (replies.PlaceFault receipt placed) = record (bare_reply 9) { receipt = receipt; placed = placed }
 message_of replies.JournalFull = bare_reply 10
 message_of replies.NoMemory = bare_reply 11

@@ -14,7 +14,7 @@ use Rattle.rx_session.specs.declared.reply_fault.ReplyFault.{ReplyFault}
 use Rattle.rx_session.specs.declared.reply_message.ReplyMessage.{ReplyMessage}
 use Rattle.rx_session.specs.Ends.{allows, failure_of}
 use Rattle.rx_session.specs.PathTexts.{own_path}
-use Rattle.rx_session.specs.Replies.{limit_of, message_of, origin_of, reason_of}
+use Rattle.rx_session.specs.Replies.{cancel_of, limit_of, message_of, origin_of, reason_of}
 use Rattle.rx_session.specs.ReplyFaults.{bad_reply, or_bad_reply}
 use Rattle.rx_session.specs.ReplyMessages.{reply_message_from, reply_message_parts}
 use Rattle.rx_session.specs.Seen.{changed_of}
@@ -54,6 +54,7 @@ reply_fields kind =
     else if kind == 5 then 10 ∷ []
     else if kind == 6 then 8 ∷ 9 ∷ 10 ∷ []
     else if kind == 7 then 13 ∷ []
+    else if kind == 8 then 8 ∷ []
     else if kind == 9 then 6 ∷ 7 ∷ []
     else if kind == 12 then 10 ∷ []
     else []
@@ -144,6 +145,11 @@ all_failed_of x = do
   failures ← failures_of x.ends
   Ok (replies.AllFailed failures)
 
+unfoldable pub cancelled_of : ReplyMessage → Result Reply ReplyFault
+cancelled_of x = do
+  reason ← cancel_of x.reason
+  Ok (replies.Cancelled reason)
+
 unfoldable pub place_fault_of : ReplyMessage → Result Reply ReplyFault
 place_fault_of x = do
   receipt ← receipt_of x.receipt
@@ -164,6 +170,7 @@ reply_by_kind x =
     else if x.kind == 5 then reply_source_fault_of x
     else if x.kind == 6 then too_large_of x
     else if x.kind == 7 then all_failed_of x
+    else if x.kind == 8 then cancelled_of x
     else if x.kind == 9 then place_fault_of x
     else if x.kind == 10 then Ok replies.JournalFull
     else if x.kind == 11 then Ok replies.NoMemory

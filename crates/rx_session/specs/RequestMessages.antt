@@ -9,7 +9,7 @@ use Rattle.rx_world.specs.declared.commands.Strategy.TheVariants as strategies
 use Rattle.rx_session.specs.declared.raw_request.RawRequest.{RawRequest}
 use Rattle.rx_session.specs.declared.requests.Request.{Request}
 use Rattle.rx_session.specs.Messages.{raw_request_fields}
-use Rattle.rx_session.specs.Rules.{bad_field, unbuilt_field}
+use Rattle.rx_session.specs.Rules.{bad_field}
 
 abbrev pub strategy_number : Strategy → ℕ
 strategy_number strategies.Local = 1
@@ -44,8 +44,7 @@ request_message request = record {
 unfoldable pub request_payload : Request → List ℕ
 request_payload request = fields_bytes (raw_request_fields (request_message request))
 
--- A proxy that serves the root takes the request: its root is that one, each field meets its rule, and each value is served.
+-- A proxy that serves the root takes the request: its root is that one, and each field meets its rule.
 pub record IsServed (root : List ℕ) (request : Request) : Type 0 where
   pub same_root : request.root ≡ root
   pub rules : bad_field (request_message request) ≡ None
-  pub built : unbuilt_field (request_message request) ≡ None

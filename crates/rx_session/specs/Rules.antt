@@ -12,7 +12,7 @@ use Rattle.rx_world.specs.declared.commands.Strategy.{Strategy}
 use Rattle.rx_world.specs.declared.commands.Strategy.TheVariants as strategies
 use Rattle.rx_session.specs.declared.bad.Bad.{Bad}
 use Rattle.rx_session.specs.declared.bad.BadReason.{BadReason}
-use Rattle.rx_session.specs.declared.bad.BadReason.TheVariants.{UnknownVersion, WrongRoot, BadField, NotBuilt}
+use Rattle.rx_session.specs.declared.bad.BadReason.TheVariants.{UnknownVersion, WrongRoot, BadField}
 use Rattle.rx_session.specs.declared.raw_request.RawRequest.{RawRequest}
 use Rattle.rx_session.specs.declared.requests.Request.{Request}
 use Rattle.rx_session.specs.Bad.{bad}
@@ -119,12 +119,6 @@ bad_field raw =
     else if not (outputs_hold raw.working_directory raw.inputs raw.toolchain_inputs raw.outputs) then Some 10
     else bad_last_field raw
 
--- the least field whose value isn't served yet
-unfoldable pub unbuilt_field : RawRequest → Option ℕ
-unbuilt_field raw =
-    if not (raw.watch == 0) then Some 13
-    else None
-
 -- ---- the request
 
 -- 1 local, 2 remote, 3 remote_local_fallback, 4 racing
@@ -168,5 +162,4 @@ request_by root raw =
     else if not (bytes_eq raw.root root) then Err (bad WrongRoot 0)
     else do
       _ ← refused BadField (bad_field raw)
-      _ ← refused NotBuilt (unbuilt_field raw)
       Ok (request_from raw)

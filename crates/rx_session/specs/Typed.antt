@@ -63,6 +63,7 @@ reply_is_typed (replies.InputChanged input) = IsOwn input.path
 reply_is_typed (replies.SourceFault path) = IsOwn path
 reply_is_typed (replies.TooLarge limit n path) = IfSome path IsOwn
 reply_is_typed (replies.AllFailed ends) = AllByRecursion failure_is_typed ends
+reply_is_typed (replies.Cancelled reason) = Unit {0}
 reply_is_typed (replies.PlaceFault receipt placed) = Unit {0}
 reply_is_typed replies.JournalFull = Unit {0}
 reply_is_typed replies.NoMemory = Unit {0}

@@ -34,10 +34,11 @@ pub enum BadReason {
     /// A field breaks its rule; the value is the least such field's number.
     #[error("a field has a value that it can't have")]
     BadField,
-    /// The proxy doesn't serve such a request yet; the value is the least such field's number.
+    /// The proxy doesn't serve such a request yet; the value is the least such field's number. No
+    /// request is refused so here, but a client may hear it from an older proxy.
     #[error("a field has a value that isn't served yet")]
     NotBuilt,
-    /// A byte follows the frame; the value is the frame's length.
+    /// A byte follows the frame of a request that doesn't watch; the value is the frame's length.
     #[error("bytes follow the frame")]
     Trailing,
 }

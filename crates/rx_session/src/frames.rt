@@ -6,13 +6,14 @@
 //! +--------+----------------------------+---------------------+
 //! ```
 //!
-//! Kind 1 is a Request. Kind 4, Shutdown, has no payload, and kind 5, ShutdownDone, answers it.
+//! Kind 1 is a Request. Kind 4, Shutdown, has no payload, and kind 5, ShutdownDone, answers it. The
+//! Cancel frame, which may follow a request that watches, is of `cancels`.
 
-ghost use Rattle.std.specs.Prelude.{◌≡◌, ◌≤◌, ◌+◌, IfErr, IfOk, IsErrOf, length};
+ghost use Rattle.std.specs.Prelude.{◌≡◌, ◌≤◌, ◌+◌, [], IfErr, IfOk, OnOk, IsErrOf, length};
 ghost use Rattle.std.specs.Io.KnownBytes.{Consumes};
 ghost use Rattle.rx_world.specs.Causes.{Rose};
 ghost use Rattle.rx_session.specs.Bad.{Decodes};
-ghost use Rattle.rx_session.specs.Frames.{EndsRead, IsWithin, begins, head_in, incoming_of, reach_of};
+ghost use Rattle.rx_session.specs.Frames.{EndsRead, IsWithin, begins, behind, head_in, incoming_of, reach_of};
 ghost use Rattle.rx_session.specs.Streams.{IsNoCutPast};
 
 use crate::bad::{BadReason, SessionFault, refuse};
@@ -40,8 +41,9 @@ pub const SHUTDOWN_DONE: [u8; 5] = [5, 0, 0, 0, 0];
 pub const MAX_REQUEST_LEN: usize = 4_194_304;
 
 /// Reads one frame of a client of the served root. Behind a request it reads whether the input ends
-/// there, and takes one byte at most. Behind a Shutdown it reads nothing. All that is read is left in
-/// `read`, in place of what stood there. It grows as the bytes come: a length alone takes no memory.
+/// there, and takes one byte at most. Behind a Shutdown it reads nothing, and behind a request that
+/// watches neither: what comes there later may cancel it. All that is read is left in `read`, in
+/// place of what stood there. It grows as the bytes come: a length alone takes no memory.
 pub fn read_incoming<S: Source>(
     alloc: Global,
     source: &mut S,
@@ -56,8 +58,10 @@ pub fn read_incoming<S: Source>(
     ensures most { length read.new.items ≤ MAX_REQUEST_LEN + 6 }
     // The answer is the one that the definition gives for it.
     ensures incoming { Decodes (λ incoming. incoming) result (incoming_of root.now read.new.items) }
-    // After a request, and where the frame is cut short, the input is at its end.
+    // After a request that doesn't watch, and where the frame is cut short, the input is at its end.
     ensures end { EndsRead (S.left source.new) result }
+    // What is behind the frame of what came in wasn't taken.
+    ensures bare { OnOk result (behind read.new.items ≡ []) }
     ensures later { S.faults source.old ≤ S.faults source.new }
     ensures failed { IsErrOf result SessionFault.ReadFault
         → Rose (S.faults source.old) (S.faults source.new) }
@@ -74,6 +78,9 @@ pub fn read_incoming<S: Source>(
     }
     let (_, payload) = read.split_at(HEADER_LEN);
     let request = Request::decode(alloc, payload, root)?;
+    if request.watch {
+        return Ok(Incoming::Request(request));
+    }
     read_up_to(source, read, HEADER_LEN + len + 1)?;
     if read.len() > HEADER_LEN + len {
         return refuse(BadReason::Trailing, (HEADER_LEN + len) as u64);

@@ -4,6 +4,7 @@
 
 mod bad;
 mod call_faults;
+mod cancels;
 mod end_message;
 mod ends;
 mod field_rules;
@@ -37,6 +38,7 @@ mod version_text;
 mod written_requests;
 
 pub use bad::{Bad, BadReason, SessionFault};
+pub use cancels::{CANCEL, CancelReason, read_cancel};
 pub use frames::{Incoming, MAX_REQUEST_LEN, SHUTDOWN, SHUTDOWN_DONE, read_incoming};
 pub use jobs::{command_for, declared_inputs};
 pub use replies::Reply;

@@ -3,7 +3,7 @@
 ghost use Rattle.std.specs.Prelude.{◌≡◌};
 ghost use Rattle.rx_base.specs.Results.{Gives};
 ghost use Rattle.rx_session.specs.Replies.{origin_of};
-ghost use Rattle.rx_session.specs.ReplyReading.{all_failed_of, bad_request_of, blocked_of, done_of, failures_of, first_fields_are, input_missing_of, last_fields_are, not_remotable_of, one_failure, path_cause_of, place_fault_of, receipt_of, reply_by, reply_by_kind, reply_fields, reply_has_only, reply_input_changed_of, reply_source_fault_of, too_large_of, two_failures};
+ghost use Rattle.rx_session.specs.ReplyReading.{all_failed_of, bad_request_of, blocked_of, cancelled_of, done_of, failures_of, first_fields_are, input_missing_of, last_fields_are, not_remotable_of, one_failure, path_cause_of, place_fault_of, receipt_of, reply_by, reply_by_kind, reply_fields, reply_has_only, reply_input_changed_of, reply_source_fault_of, too_large_of, two_failures};
 ghost use Rattle.rx_session.specs.declared.reply_fault.ReplyFault.TheVariants.{NoMemory};
 
 use crate::bad::Bad;
@@ -13,7 +13,7 @@ use crate::fields::reply;
 use crate::local_ends::LOCAL;
 use crate::path_texts::read_path;
 use crate::payloads::{PATH, WORD, kind};
-use crate::refusals::{limit_of, limit_path_of, reason_of};
+use crate::refusals::{cancel_of, limit_of, limit_path_of, reason_of};
 use crate::remote_ends::REMOTE;
 use crate::replies::Reply;
 use crate::reply_fault::ReplyFault;
@@ -88,6 +88,7 @@ fn reply_fields(kind: u64) -> &'static [u32]
         kind::SOURCE_FAULT => &[reply::PATH],
         kind::TOO_LARGE => &[reply::REASON, reply::VALUE, reply::PATH],
         kind::ALL_FAILED => &[reply::ENDS],
+        kind::CANCELLED => &[reply::REASON],
         kind::PLACE_FAULT => &[reply::RECEIPT, reply::PLACED],
         kind::BLOCKED => &[reply::PATH],
         _ => &[],
@@ -239,6 +240,14 @@ fn all_failed_of(alloc: Global, message: &ReplyMessage) -> Result<Reply, ReplyFa
     Ok(Reply::AllFailed { failures })
 }
 
+#[tactic(auto, unfolding(crate::specs::ReplyReading::cancelled_of))]
+fn cancelled_of(message: &ReplyMessage) -> Result<Reply, ReplyFault>
+    ensures { result ≡ cancelled_of message.now }
+{
+    let reason = cancel_of(message.reason)?;
+    Ok(Reply::Cancelled { reason })
+}
+
 #[tactic(auto, unfolding(crate::specs::ReplyReading::place_fault_of))]
 fn place_fault_of(message: &ReplyMessage) -> Result<Reply, ReplyFault>
     ensures { result ≡ place_fault_of message.now }
@@ -271,6 +280,7 @@ fn reply_by_kind(alloc: Global, message: ReplyMessage) -> Result<Reply, ReplyFau
         kind::SOURCE_FAULT => source_fault_of(alloc, &message),
         kind::TOO_LARGE => too_large_of(alloc, &message),
         kind::ALL_FAILED => all_failed_of(alloc, &message),
+        kind::CANCELLED => cancelled_of(&message),
         kind::PLACE_FAULT => place_fault_of(&message),
         kind::JOURNAL_FULL => Ok(Reply::JournalFull),
         kind::NO_MEMORY => Ok(Reply::NoMemory),

@@ -9,7 +9,7 @@ ghost use Rattle.rx_session.specs.Typed.{IsOwn, failure_is_typed, local_cause_is
 use crate::end_message::EndMessage;
 use crate::ends::end_of;
 use crate::path_texts::path_text;
-use crate::refusals::{limit_number, path_or_none, reason_number};
+use crate::refusals::{cancel_number, limit_number, path_or_none, reason_number};
 use crate::replies::Reply;
 use crate::reply_message::ReplyMessage;
 use crate::seen_values::seen_message;
@@ -34,6 +34,8 @@ pub(crate) mod kind {
     pub(crate) const TOO_LARGE: u64 = 6;
 
     pub(crate) const ALL_FAILED: u64 = 7;
+
+    pub(crate) const CANCELLED: u64 = 8;
 
     pub(crate) const PLACE_FAULT: u64 = 9;
 
@@ -212,6 +214,10 @@ pub(crate) fn message_of(alloc: Global, reply: &Reply) -> Result<ReplyMessage, N
         Reply::SourceFault { path } => path_reply(alloc, kind::SOURCE_FAULT, path),
         Reply::TooLarge { limit, n, path } => too_large_message(alloc, *limit, *n, path),
         Reply::AllFailed { failures } => all_failed_message(alloc, failures.as_slice()),
+        Reply::Cancelled { reason } => Ok(ReplyMessage {
+            reason: cancel_number(*reason),
+            ..bare_reply(alloc, kind::CANCELLED)
+        }),
         Reply::PlaceFault { receipt, placed } => Ok(ReplyMessage {
             receipt: *receipt,
             placed: *placed,

@@ -1,15 +1,16 @@
 //! The replies that refuse a request or the files of its command, and their messages: the reason or
-//! the limit, the value, and the word or the path.
+//! the limit, the value, and the word or the path. And the reasons of one that was cancelled.
 
 ghost use Rattle.std.specs.Prelude.{◌≡◌, IfOk, IfSome};
 ghost use Rattle.rx_base.specs.Results.{Gives};
 ghost use Rattle.rx_session.specs.Bad.{reason_number};
-ghost use Rattle.rx_session.specs.Replies.{limit_number, limit_of, path_or_none, reason_of};
+ghost use Rattle.rx_session.specs.Replies.{cancel_number, cancel_of, limit_number, limit_of, path_or_none, reason_of};
 ghost use Rattle.rx_session.specs.ReplyReading.{limit_path_of, some_path_of};
 ghost use Rattle.rx_session.specs.Typed.{IsOwn};
 ghost use Rattle.rx_session.specs.declared.reply_fault.ReplyFault.TheVariants.{NoMemory};
 
 use crate::bad::BadReason;
+use crate::cancels::CancelReason;
 use crate::path_texts::{path_text, read_path};
 use crate::reply_fault::ReplyFault;
 use rx_base::{NoMemory, RelPath, Text};
@@ -70,6 +71,29 @@ pub(crate) fn limit_of(number: u64) -> Result<Limit, ReplyFault>
         3 => Ok(Limit::ScanBytes),
         4 => Ok(Limit::ListFiles),
         5 => Ok(Limit::ListBytes),
+        _ => Err(ReplyFault::BadReply),
+    }
+}
+
+pub(crate) fn cancel_number(reason: CancelReason) -> u64
+    ensures { result ≡ cancel_number reason }
+{
+    match reason {
+        CancelReason::Asked => 1,
+        CancelReason::Ended => 2,
+        CancelReason::OtherBytes => 3,
+        CancelReason::Lost => 4,
+    }
+}
+
+pub(crate) fn cancel_of(number: u64) -> Result<CancelReason, ReplyFault>
+    ensures { result ≡ cancel_of number }
+{
+    match number {
+        1 => Ok(CancelReason::Asked),
+        2 => Ok(CancelReason::Ended),
+        3 => Ok(CancelReason::OtherBytes),
+        4 => Ok(CancelReason::Lost),
         _ => Err(ReplyFault::BadReply),
     }
 }

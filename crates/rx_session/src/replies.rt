@@ -10,6 +10,7 @@ ghost use Rattle.rx_session.specs.declared.replies.Reply.{Reply};
 ghost use Rattle.rx_session.specs.declared.reply_fault.ReplyFault.TheVariants.{NoMemory};
 
 use crate::bad::Bad;
+use crate::cancels::CancelReason;
 use crate::payload_replies::reply_by;
 use crate::payloads::message_of;
 use crate::reply_fault::ReplyFault;
@@ -60,6 +61,10 @@ pub enum Reply {
     /// 7: every attempt ended, and none has an outcome that may be published.
     AllFailed {
         failures: Items<Failure>,
+    },
+    /// 8: the client cancelled, and no attempt's outcome was kept.
+    Cancelled {
+        reason: CancelReason,
     },
     /// 9: the place failed after so many files of the receipt were placed.
     PlaceFault {

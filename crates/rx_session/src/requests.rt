@@ -40,7 +40,7 @@ pub struct Request {
     pub platform: Items<Pair>,
     /// Whether a result of the farm's action cache will do.
     pub accept_cached: bool,
-    /// Whether the client may cancel: it sends another frame, or closes its end.
+    /// Whether the client may cancel: it sends a Cancel frame, or closes its end.
     pub watch: bool,
     /// How long the command may run remotely, in seconds; 0 says nothing.
     pub timeout_seconds: u32,
@@ -50,7 +50,7 @@ impl Request {
     /// The payload of the request's frame: its message, of version 1.
     pub fn encode(&self, alloc: Global) -> Result<Vec<u8>, NoMemory>
         ensures payload { IfOk result (λ payload. payload.items ≡ request_payload self.now) }
-        // It is read again by a proxy that serves its root, if that serves the request at all.
+        // It is read again by a proxy that serves its root, where its fields meet their rules.
         ensures again { IfOk result (λ payload. (root : List ℕ) → IsServed root self.now →
             payload_request root payload.items ≡ Ok self.now) }
     {

@@ -3,7 +3,7 @@
 ghost use Rattle.std.specs.Prelude.{◌≡◌, ◌<◌, ◌^◌, IfErr, IfOk};
 ghost use Rattle.rx_session.specs.Bad.{Decodes};
 ghost use Rattle.rx_session.specs.Streams.{IsNoCut};
-ghost use Rattle.rx_session.specs.Rules.{bad_field, bad_last_field, kind_of, request_by, request_from, strategy_of, unbuilt_field};
+ghost use Rattle.rx_session.specs.Rules.{bad_field, bad_last_field, kind_of, request_by, request_from, strategy_of};
 
 use crate::bad::{BadReason, SessionFault, refuse};
 use crate::field_rules::{environment_holds, is_within, platform_holds, words_hold};
@@ -54,9 +54,6 @@ pub(crate) fn request_by(
     }
     if let Some(number) = bad_field(alloc, &raw)? {
         return refuse(BadReason::BadField, u64::from(number));
-    }
-    if let Some(number) = unbuilt_field(&raw) {
-        return refuse(BadReason::NotBuilt, u64::from(number));
     }
     Ok(request_from(raw))
 }
@@ -112,17 +109,6 @@ fn bad_last_field(raw: &RawRequest) -> Option<u32>
     }
     if !is_within(0, MAX_TIMEOUT_SECONDS, raw.timeout_seconds) {
         return Some(request::TIMEOUT_SECONDS);
-    }
-    None
-}
-
-/// The least field whose value isn't served yet. A line goes with what is built.
-#[tactic(auto, unfolding(crate::specs::Rules::unbuilt_field))]
-fn unbuilt_field(raw: &RawRequest) -> Option<u32>
-    ensures { result ≡ unbuilt_field raw.now }
-{
-    if raw.watch != 0 {
-        return Some(request::WATCH);
     }
     None
 }

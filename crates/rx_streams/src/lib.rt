@@ -10,5 +10,5 @@ mod streams;
 
 pub use faults::Faults;
 pub use pieces::{print_some, read_some, write_some};
-pub use sockets::{Socket, SocketSink, SocketSource, ends_of};
+pub use sockets::{Socket, SocketEnd, SocketSink, SocketSource, ends_of};
 pub use streams::{HostSink, HostSource};

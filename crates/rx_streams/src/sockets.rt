@@ -68,11 +68,20 @@ impl Socket {
         }
     }
 
-    /// Closes the sending side of all handles of the stream.
-    fn end_sending(&self) -> io::Result<()> {
+    /// Lets the other side send nothing for as long as it takes, while bytes are awaited by any handle
+    /// of the stream.
+    fn allow_silence(&self) -> io::Result<()> {
         match self {
-            Socket::Unix { stream } => stream.shutdown(Shutdown::Write),
-            Socket::Tcp { stream } => stream.shutdown(Shutdown::Write),
+            Socket::Unix { stream } => stream.set_read_timeout(None),
+            Socket::Tcp { stream } => stream.set_read_timeout(None),
+        }
+    }
+
+    /// Closes the receiving side of all handles of the stream.
+    fn end_receiving(&self) -> io::Result<()> {
+        match self {
+            Socket::Unix { stream } => stream.shutdown(Shutdown::Read),
+            Socket::Tcp { stream } => stream.shutdown(Shutdown::Read),
         }
     }
 
@@ -118,6 +127,13 @@ impl Model for SocketSource {
     ghost view = { λ s. s.faults.count };
 }
 
+/// Another handle of what comes in over a connection, for whoever doesn't read it. The connection stays
+/// open as long as this is there.
+#[derive(Debug, Drop)]
+pub struct SocketEnd {
+    socket: Socket,
+}
+
 /// What goes out over a connection, until it is closed here.
 #[derive(Debug, Drop)]
 pub struct SocketSink {
@@ -152,11 +168,13 @@ fn closed() -> Error {
 }
 
 impl SocketSource {
-    /// Tells the other side that nothing more comes from this one. Where that fails the connection is
-    /// lost, which the next read tells.
-    pub fn end_sending(&self) {
-        if let Some(socket) = &self.socket {
-            let _ = socket.end_sending();
+    /// Another handle of this direction.
+    pub fn share_end(&self) -> io::Result<SocketEnd> {
+        match &self.socket {
+            Some(socket) => Ok(SocketEnd {
+                socket: socket.try_clone()?,
+            }),
+            None => Err(closed()),
         }
     }
 
@@ -175,6 +193,20 @@ impl SocketSource {
             socket: None,
             faults: self.faults,
         }
+    }
+}
+
+impl SocketEnd {
+    /// Lets the other side send nothing for as long as it takes, while bytes are awaited. Where that fails, a
+    /// long silence is still a fault of the read.
+    pub fn allow_silence(&self) {
+        let _ = self.socket.allow_silence();
+    }
+
+    /// Has a read that waits end at once, and each later one: nothing more comes in. Where that fails the
+    /// connection is lost, which ends the read too.
+    pub fn end_receiving(&self) {
+        let _ = self.socket.end_receiving();
     }
 }
 

@@ -1,5 +1,5 @@
 -- What a client asks of the proxy.
-use Rattle.std.specs.Prelude.{ℕ, List, [], ◌∷◌, false, Option, Some, None, Result, Ok, Err, codes, if◌then◌else◌}
+use Rattle.std.specs.Prelude.{ℕ, List, [], ◌∷◌, true, Option, Some, None, Result, Ok, Err, codes, if◌then◌else◌}
 use Rattle.std.specs.List.{filter_map, find}
 use Rattle.std.specs.Str.{bytes_eq}
 use Rattle.rx_base.specs.Results.{◌>>=◌}
@@ -65,7 +65,7 @@ request_of values settings command variables root directory = record {
   outputs = items_of OutputFiles settings;
   platform = values.platform;
   accept_cached = values.accept_cached;
-  watch = false;
+  watch = true;
   timeout_seconds = values.timeout_seconds;
 }
 

@@ -158,7 +158,7 @@ fn run_by(
             outputs: items_of(alloc, settings, Flag::OutputFiles)?,
             platform: values.platform,
             accept_cached: values.accept_cached,
-            watch: false,
+            watch: true,
             timeout_seconds: values.timeout_seconds,
         }),
     })

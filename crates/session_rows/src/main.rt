@@ -3,6 +3,7 @@
 
 mod arguments;
 mod boards;
+mod cancels;
 mod ends;
 mod replies;
 mod requests;
@@ -31,6 +32,8 @@ impl Calls for Session {
         match row.word()? {
             "request" => requests::answer_request(alloc, row, answer),
             "shutdown" => requests::answer_shutdown(answer),
+            "cancel_frame" => cancels::answer_cancel_frame(answer),
+            "cancel" => cancels::answer_cancel(alloc, row, answer),
             "taken" => requests::answer_taken(alloc, row, answer),
             "command" => requests::answer_command(alloc, row, answer),
             "inputs" => requests::answer_inputs(alloc, row, answer),

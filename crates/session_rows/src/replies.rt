@@ -5,7 +5,7 @@ use crate::ends::read_failures;
 use crate::seen::read_changed;
 use rx_base::{Bytes, Text};
 use rx_rows::{Answer, Row, RowFault};
-use rx_session::{Bad, BadReason, Reply, Room, encode};
+use rx_session::{Bad, BadReason, CancelReason, Reply, Room, encode};
 use rx_world::{Limit, LocalCause, Origin};
 use std::alloc::Global;
 
@@ -55,6 +55,7 @@ fn read_reply(alloc: Global, row: &mut Row<'_>) -> Result<Reply, RowFault> {
         "source_fault" => read_source_fault(alloc, row),
         "too_large" => read_too_large(alloc, row),
         "all_failed" => read_all_failed(alloc, row),
+        "cancelled" => read_cancelled(row),
         "place_fault" => read_place_fault(row),
         "journal_full" => Ok(Reply::JournalFull),
         "no_memory" => Ok(Reply::NoMemory),
@@ -93,6 +94,11 @@ fn read_source_fault(alloc: Global, row: &mut Row<'_>) -> Result<Reply, RowFault
 fn read_all_failed(alloc: Global, row: &mut Row<'_>) -> Result<Reply, RowFault> {
     let failures = read_failures(alloc, row)?;
     Ok(Reply::AllFailed { failures })
+}
+
+fn read_cancelled(row: &mut Row<'_>) -> Result<Reply, RowFault> {
+    let reason = read_cancel_reason(row)?;
+    Ok(Reply::Cancelled { reason })
 }
 
 fn read_place_fault(row: &mut Row<'_>) -> Result<Reply, RowFault> {
@@ -138,6 +144,16 @@ fn read_reason(row: &mut Row<'_>) -> Result<BadReason, RowFault> {
         "BadField" => Ok(BadReason::BadField),
         "Trailing" => Ok(BadReason::Trailing),
         "NotBuilt" => Ok(BadReason::NotBuilt),
+        _ => Err(RowFault::BadCall),
+    }
+}
+
+fn read_cancel_reason(row: &mut Row<'_>) -> Result<CancelReason, RowFault> {
+    match row.word()? {
+        "Asked" => Ok(CancelReason::Asked),
+        "Ended" => Ok(CancelReason::Ended),
+        "OtherBytes" => Ok(CancelReason::OtherBytes),
+        "Lost" => Ok(CancelReason::Lost),
         _ => Err(RowFault::BadCall),
     }
 }

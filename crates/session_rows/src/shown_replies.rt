@@ -55,6 +55,10 @@ fn show_reply(reply: &Reply, answer: &mut Answer) -> Result<(), AllocError> {
             answer.word("all_failed")?;
             show_failures(failures.as_slice(), answer)
         }
+        Reply::Cancelled { reason } => {
+            answer.word("cancelled")?;
+            answer.value(reason)
+        }
         Reply::PlaceFault { receipt, placed } => {
             answer.word("place_fault")?;
             show_receipt(*receipt, *placed, answer)

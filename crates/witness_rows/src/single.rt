@@ -5,7 +5,6 @@ ghost use Rattle.rx_engine.specs.Answers.{asked_of};
 ghost use Rattle.rx_engine.specs.Honest.{IsCleanIfDone};
 ghost use Rattle.rx_engine.specs.Quiet.{IsDoneOr};
 ghost use Rattle.rx_fakes.specs.Entries.{stamp_of};
-ghost use Rattle.rx_world.specs.declared.commands.Strategy.TheVariants.{Local};
 ghost use Rattle.rx_world.specs.Toy.{toy_tool};
 ghost use Rattle.witness_rows.specs.Outcomes.{IsOutcomeIfDone};
 ghost use Rattle.witness_rows.specs.Single.{single_frame, single_outcome, single_request, single_text, single_tree};
@@ -64,7 +63,7 @@ fn single_at<K: Contents + Send, R: Threads + Wait + Sync>(
 ) -> Result<Witness, NoMemory>
     requires { K.honest → single_text ≡ K.holds (codes "a") (stamp_of single_text 0) }
     ensures done { K.honest → IfOk result (λ witness.
-        IsDoneOr Local witness.transcript.ending witness.transcript.reply) }
+        IsDoneOr single_request witness.transcript.ending witness.transcript.reply) }
     ensures clean { K.honest → IfOk result (λ witness. IsCleanIfDone toy_tool single_tree
         (asked_of single_request) [] witness.journal.items witness.transcript) }
     ensures tells { K.honest → IfOk result (λ witness. IsOutcomeIfDone single_outcome
@@ -94,7 +93,7 @@ fn single_at<K: Contents + Send, R: Threads + Wait + Sync>(
 pub fn serve_single<R: Threads + Wait + Sync>(rt: &R, alloc: Global) -> Result<Witness, NoMemory>
     // It is done, unless memory runs out.
     ensures done { IfOk result (λ witness.
-        IsDoneOr Local witness.transcript.ending witness.transcript.reply) }
+        IsDoneOr single_request witness.transcript.ending witness.transcript.reply) }
     // Where it is done, that is the clean run of the request on the source tree with the input.
     ensures clean { IfOk result (λ witness. IsCleanIfDone toy_tool single_tree
         (asked_of single_request) [] witness.journal.items witness.transcript) }

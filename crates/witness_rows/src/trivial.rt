@@ -4,7 +4,6 @@ ghost use Rattle.std.specs.Prelude.{◌≡◌, [], IfOk};
 ghost use Rattle.rx_engine.specs.Answers.{asked_of};
 ghost use Rattle.rx_engine.specs.Honest.{IsCleanIfDone};
 ghost use Rattle.rx_engine.specs.Quiet.{IsDoneOr};
-ghost use Rattle.rx_world.specs.declared.commands.Strategy.TheVariants.{Local};
 ghost use Rattle.rx_world.specs.Toy.{toy_tool};
 ghost use Rattle.witness_rows.specs.Outcomes.{IsOutcomeIfDone};
 ghost use Rattle.witness_rows.specs.Trivial.{trivial_frame, trivial_outcome, trivial_request};
@@ -38,7 +37,7 @@ fn trivial_at<K: Contents + Send, R: Threads + Wait + Sync>(
     alloc: Global,
 ) -> Result<Witness, NoMemory>
     ensures done { K.honest → IfOk result (λ witness.
-        IsDoneOr Local witness.transcript.ending witness.transcript.reply) }
+        IsDoneOr trivial_request witness.transcript.ending witness.transcript.reply) }
     ensures clean { K.honest → IfOk result (λ witness. IsCleanIfDone toy_tool []
         (asked_of trivial_request) [] witness.journal.items witness.transcript) }
     ensures tells { K.honest → IfOk result (λ witness. IsOutcomeIfDone trivial_outcome
@@ -66,7 +65,7 @@ fn trivial_at<K: Contents + Send, R: Threads + Wait + Sync>(
 pub fn serve_trivial<R: Threads + Wait + Sync>(rt: &R, alloc: Global) -> Result<Witness, NoMemory>
     // It is done, unless memory runs out.
     ensures done { IfOk result (λ witness.
-        IsDoneOr Local witness.transcript.ending witness.transcript.reply) }
+        IsDoneOr trivial_request witness.transcript.ending witness.transcript.reply) }
     // Where it is done, that is the clean run of the request on the empty source tree.
     ensures clean { IfOk result (λ witness. IsCleanIfDone toy_tool []
         (asked_of trivial_request) [] witness.journal.items witness.transcript) }

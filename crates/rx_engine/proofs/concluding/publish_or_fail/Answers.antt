@@ -13,6 +13,6 @@ returns-clause-journal g c = λ first.
           w.publish-answered.ensures.journal w.publish-answered.ensures.err (rw w.answered-is at c.or_give_up.ensures))
       | in-None w ↦ rw w.board-is
           (unpublished-enters g.P.Place c.args.board.now c.args.board.now c.args.session c.args.attempted.tally.ends c.or_give_up.result refl
-          (failed c.args.attempted.tally.ends w.fail-answered.result c.or_give_up.result
-          (rw w.as_slice.ensures at w.fail-answered.ensures) (rw w.answered-is at c.or_give_up.ensures)))
+          (failed c.args.attempted.heard.cancelled c.args.attempted.tally.ends w.answer_unpublished-answered.result c.or_give_up.result
+          (rw w.as_slice.ensures at w.answer_unpublished-answered.ensures) (rw w.answered-is at c.or_give_up.ensures)))
     ]

@@ -1,15 +1,26 @@
-use Rattle.std.proofs.Common.{refl}
-use Rattle.rx_engine.proofs.PendingLemmas.{pending-end, pending-refusal, pending-request}
+use Rattle.std.proofs.Common.{refl, ◌∙◌}
+use Rattle.rx_engine.proofs.PendingLemmas.{pending-end, pending-refusal, pending-request, pending-starved}
 use Rattle.rx_engine.proofs.pending.undertake.Goals as goal
 
-pub returns-in-Ok-Request : goal.returns-in-Ok-Request
-returns-in-Ok-Request g c =
+pub returns-then-is_err : goal.returns-then-is_err
+returns-then-is_err g c =
+    let read = c.read_asked.ensures in
+    let found = c.in-Ok-Request in
+    let same = c.reserve.ensures.items in
+    pending-starved _ _ _ _ _ _ _ _ _ c.args.root.now c.args.parts c.read_asked.new.source c.reserve.new.self.items c.in-Ok-Request.request c.starved.result
+    (rw same read.read) (rw same (rw (found.is, found.field-0-is) at read.incoming)) (rw (found.is, found.field-0-is) at read.end) read.later c.starved.ensures
+
+pub returns-else-is_err : goal.returns-else-is_err
+returns-else-is_err g c =
     let read = c.read_asked.ensures in
     let made = c.answer-stage.ensures in
     let found = c.in-Ok-Request in
-    pending-request _ _ _ _ _ _ _ _ _ c.args.root.now c.args.parts c.answer-stage.result.1 c.read_asked.new.source c.from_vec.result c.in-Ok-Request.request c.answer-stage.result.0
-    made.input made.output (rw c.from_vec.ensures read.read) (rw c.from_vec.ensures (rw (found.is, found.field-0-is) at read.incoming))
-    (rw (found.is, found.field-0-is) at read.end) read.later made.answered made.later
+    let grown = rw c.unwrap.ensures at c.extend_from_slice.ensures.items in
+    let whole = rw (c.heard_in.ensures, c.reserve.ensures.items) at grown in
+    pending-request _ _ _ _ _ _ _ _ _ c.args.root.now c.args.parts c.answer-stage.result.1 c.read_asked.new.source c.read_asked.new.read.items c.from_vec.result
+    c.in-Ok-Request.request c.answer-stage.result.0
+    (c.from_vec.ensures ∙ whole) made.heard made.output read.read (rw (found.is, found.field-0-is) at read.incoming) (rw (found.is, found.field-0-is) at read.end)
+    (rw found.is at read.bare) read.later made.answered made.later
 
 pub returns-in-Ok-Shutdown : goal.returns-in-Ok-Shutdown
 returns-in-Ok-Shutdown g c =

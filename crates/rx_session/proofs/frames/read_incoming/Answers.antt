@@ -1,10 +1,10 @@
-use Rattle.std.proofs.Common.{◌≡◌, ◌+◌, ◌<◌, ◌≤◌, ℕ, ap, arith, length, ◌∙◌}
+use Rattle.std.proofs.Common.{◌≡◌, ◌+◌, ◌<◌, ◌≤◌, [], ap, append-nil, arith, length, sym, ◌∙◌}
 use Rattle.std.proofs.lemmas.Result.{err_from_is_err_and}
 use Rattle.rx_session.specs.declared.frames.Incoming.{Incoming}
 use Rattle.rx_session.specs.declared.headers.Head.{Head}
 use Rattle.rx_session.specs.declared.requests.Request.{Request}
 use Rattle.rx_session.specs.Frames.{or_request}
-use Rattle.rx_session.proofs.FrameLemmas.{header_ends_all, header_refused, incoming_of-header, reach-told, reads_join, reads_whole, within_alone, within_cut, within_refused, within_trailing}
+use Rattle.rx_session.proofs.FrameLemmas.{bare_told, header_ends_all, header_refused, incoming_of-header, reach-told, reads_join, reads_whole, within_alone, within_cut, within_refused, within_trailing, within_watched}
 use Rattle.rx_session.proofs.frames.read_incoming.Goals as goal
 
 pub returns-in_err-head-clause-incoming : goal.returns-in_err-head-clause-incoming
@@ -49,7 +49,7 @@ returns-then-len-2-clause-incoming g c =
     let past : 5 + c.in-Request.len < length c.read_up_to-3.new.read.items = omega (arith, c.read_up_to-3.new.read.ok.0, c.len-2.ensures) in
     let more = reads_join _ _ _ _ _ _ c.in_ok-read_up_to-2.ensures.read c.in_ok-read_up_to-3.ensures.read in
     rw c.refuse-then-len-2.ensures
-    (incoming_of-header _ _ _ _ _ told more.grown ∙ ap or_request (within_trailing _ _ _ _ _ _ size c.in_ok-read_up_to-3.ensures.read.grown payload past))
+    (incoming_of-header _ _ _ _ _ told more.grown ∙ ap or_request (within_trailing _ _ _ _ _ _ size c.in_ok-read_up_to-3.ensures.read.grown payload c.if-request.false past))
 
 pub returns-clause-read : goal.returns-clause-read
 returns-clause-read g c =
@@ -64,7 +64,7 @@ returns-clause-incoming g c =
     omega (arith, c.read_up_to-2.new.read.ok.0, c.len.ensures, c.in_ok-read_up_to-2.ensures.most, c.in_ok-read_up_to.ensures.most, c.clear.ensures.len) in
     let within : length c.read_up_to-3.new.read.items ≤ 5 + c.in-Request.len = omega (arith, c.read_up_to-3.new.read.ok.0, c.len-2.ensures) in
     let more = reads_join _ _ _ _ _ _ c.in_ok-read_up_to-2.ensures.read c.in_ok-read_up_to-3.ensures.read in
-    incoming_of-header _ _ _ _ _ told more.grown ∙ ap or_request (within_alone _ _ _ _ _ _ size c.in_ok-read_up_to-3.ensures.read.grown payload within)
+    incoming_of-header _ _ _ _ _ told more.grown ∙ ap or_request (within_alone _ _ _ _ _ _ size c.in_ok-read_up_to-3.ensures.read.grown payload c.if-request.false within)
 
 pub returns-in_err-read_up_to-2-clause-reach : goal.returns-in_err-read_up_to-2-clause-reach
 returns-in_err-read_up_to-2-clause-reach g c =
@@ -112,3 +112,36 @@ pub returns-in_default-clause-incoming : goal.returns-in_default-clause-incoming
 returns-in_default-clause-incoming g c =
     let told = rw (c.deref.ensures.value, c.in_default.is) at c.in_ok-head.ensures.head in
     header_ends_all _ _ told
+
+pub returns-then-request-clause-read : goal.returns-then-request-clause-read
+returns-then-request-clause-read g c =
+    reads_whole _ _ _ _ c.clear.ensures.items (reads_join _ _ _ _ _ _ c.in_ok-read_up_to.ensures.read c.in_ok-read_up_to-2.ensures.read)
+
+pub returns-then-request-clause-reach : goal.returns-then-request-clause-reach
+returns-then-request-clause-reach g c =
+    let told = rw (c.deref.ensures.value, c.in-Request.is) at c.in_ok-head.ensures.head in
+    let within : length c.read_up_to-2.new.read.items ≤ 5 + c.in-Request.len + 1 =
+    omega (arith, c.read_up_to-2.new.read.ok.0, c.in_ok-read_up_to-2.ensures.most, c.in_ok-read_up_to.ensures.most, c.clear.ensures.len) in
+    reach-told _ _ _ _ told c.in_ok-read_up_to-2.ensures.read.grown within
+
+pub returns-then-request-clause-incoming : goal.returns-then-request-clause-incoming
+returns-then-request-clause-incoming g c =
+    let told = rw (c.deref.ensures.value, c.in-Request.is) at c.in_ok-head.ensures.head in
+    let payload = rw (c.split_at.ensures.back, c.deref-2.ensures.value) at c.in_ok-request.ensures.request in
+    let size : length c.read_up_to-2.new.read.items ≡ 5 + c.in-Request.len =
+    omega (arith, c.read_up_to-2.new.read.ok.0, c.len.ensures, c.in_ok-read_up_to-2.ensures.most, c.in_ok-read_up_to.ensures.most, c.clear.ensures.len) in
+    incoming_of-header _ _ _ _ _ told c.in_ok-read_up_to-2.ensures.read.grown
+    ∙ ap or_request (within_watched _ _ _ _ [] _ size (sym (append-nil _)) payload c.if-request.true)
+
+pub returns-then-request-clause-bare : goal.returns-then-request-clause-bare
+returns-then-request-clause-bare g c =
+    let told = rw (c.deref.ensures.value, c.in-Request.is) at c.in_ok-head.ensures.head in
+    let within : length c.read_up_to-2.new.read.items ≤ 5 + c.in-Request.len =
+    omega (arith, c.read_up_to-2.new.read.ok.0, c.in_ok-read_up_to-2.ensures.most, c.in_ok-read_up_to.ensures.most, c.clear.ensures.len) in
+    bare_told _ _ _ _ told c.in_ok-read_up_to-2.ensures.read.grown within
+
+pub returns-clause-bare : goal.returns-clause-bare
+returns-clause-bare g c =
+    let told = rw (c.deref.ensures.value, c.in-Request.is) at c.in_ok-head.ensures.head in
+    let within : length c.read_up_to-3.new.read.items ≤ 5 + c.in-Request.len = omega (arith, c.read_up_to-3.new.read.ok.0, c.len-2.ensures) in
+    bare_told _ _ _ _ told (reads_join _ _ _ _ _ _ c.in_ok-read_up_to-2.ensures.read c.in_ok-read_up_to-3.ensures.read).grown within

@@ -1,0 +1,6 @@
+use denote.Param.Send.{sendable}
+use Rattle.run_rows.proofs.Crossing.{script_send}
+use Rattle.run_rows.proofs.runs.run.Goals as goal
+
+pub run_front-ran-requires-send-C : goal.run_front-ran-requires-send-C
+run_front-ran-requires-send-C g c κs within = search (script_send, sendable)
