@@ -121,22 +121,22 @@ module _ {P W B : Type 0} (m : Meanings P W B) (g : Grounds P) (request : Reques
   no-memory-answers a run h = rw h.reply_is (run, h.receipt_is)
 
   unpublished-answers : (run : HasRun m g request tally) (cancelled : Option CancelReason) (a : Answered) → winner run.gathered.plan run.attempts ≡ None
-      → is_some cancelled ≡ is_cancelled tally.passes.cancel → (request.watch ≡ false → tally.passes.cancel ≡ Unused) → IsUnpublishedEnd cancelled tally.ends a
+      → is_some cancelled ≡ is_cancelled tally.passes.cancel → IsUnpublishedEnd cancelled tally.ends a
       → (a.frame.items ≡ frame_of a.reply) × Answers m g request a.receipt tally a.reply
-  unpublished-answers run (Some reason) a none is unwatched h =
+  unpublished-answers run (Some reason) a none is h =
       let cancelled : tally.passes.cancel ≡ Told WonRace = cancelled-told tally.passes.cancel (sym is) in
-      (h.frame, rw h.reply_is (record { run = run; cancelled = cancelled; watched = by-watch request.watch (λ e. unused-told WonRace (sym (unwatched e) ∙ cancelled)) }, h.receipt_is))
-  unpublished-answers run None a none is unwatched h =
+      (h.frame, rw h.reply_is (record { run = run; cancelled = cancelled; watched = by-watch request.watch (λ e. unused-told WonRace (sym (run.unwatched e) ∙ cancelled)) }, h.receipt_is))
+  unpublished-answers run None a none is h =
       let plain = h.plain in
       (plain.frame, rw plain.reply_is (record { run = run; none_won = none; uncancelled = sym is; tellable = h.tellable }, refl, plain.receipt_is))
 
   run-answers : (run : HasRun m g request tally) (cancelled : Option CancelReason) (answered : Option Answered)
-      → is_some cancelled ≡ is_cancelled tally.passes.cancel → (request.watch ≡ false → tally.passes.cancel ≡ Unused)
+      → is_some cancelled ≡ is_cancelled tally.passes.cancel
       → IfSome answered (AnswersMade (winner run.gathered.plan run.attempts) cancelled tally.ends) → AnswersAs m g request tally answered
-  run-answers run cancelled None is unwatched h = inr run
-  run-answers run cancelled (Some a) is unwatched (inl h) = (h.2.frame, publication-answers h.0 a a.reply (record { run = run; won_is = h.1 }) h.2.tells)
-  run-answers run cancelled (Some a) is unwatched (inr (inl h)) = unpublished-answers run cancelled a h.0 is unwatched h.1
-  run-answers run cancelled (Some a) is unwatched (inr (inr h)) = (h.frame, no-memory-answers a (inr run) h)
+  run-answers run cancelled None is h = inr run
+  run-answers run cancelled (Some a) is (inl h) = (h.2.frame, publication-answers h.0 a a.reply (record { run = run; won_is = h.1 }) h.2.tells)
+  run-answers run cancelled (Some a) is (inr (inl h)) = unpublished-answers run cancelled a h.0 is h.1
+  run-answers run cancelled (Some a) is (inr (inr h)) = (h.frame, no-memory-answers a (inr run) h)
 
   -- ---- the replies to a refused gathering
 
@@ -164,7 +164,7 @@ module _ {P W B : Type 0} (m : Meanings P W B) (g : Grounds P) (request : Reques
 pub tried-answers : {P W B : Type 0} (m : Meanings P W B) (g : Grounds P) (request : Request) (attempted : Attempted) (answered : Option Answered) → HasTried m g request attempted
     → IfSome answered (AnswersMade attempted.won attempted.heard.cancelled attempted.tally.ends) → AnswersAs m g request attempted.tally answered
 tried-answers m g request attempted answered h a =
-    run-answers m g request attempted.tally h.run attempted.heard.cancelled answered h.cancelled_is h.unwatched
+    run-answers m g request attempted.tally h.run attempted.heard.cancelled answered h.cancelled_is
     (subst (λ x. IfSome answered (AnswersMade x attempted.heard.cancelled attempted.tally.ends)) h.won_is a)
 
 -- it tells of a cancel only where the race was cancelled for that
@@ -204,10 +204,10 @@ module _ {W I O T L M B R C : Type 0} (w : world.Ghosts W) (i : inputs.Ghosts I)
             made = attempts-move w i o t l k b v z q r p r gathered request.accept_cached made.attempts (same-back p q same) (same-none r)
                 (subst (λ x. HasAttempts (meanings w i o t l k b v z) gathered x q r made.attempts) is made.each);
             tally_is = made.tally_is;
+            unwatched = λ e. (listens.unwatched e).slip_is;
           };
           won_is = made.won_is;
           cancelled_is = listens.heard_is.cancelled_is;
-          unwatched = λ e. (listens.unwatched e).slip_is;
         };
       }
 

@@ -34,7 +34,7 @@ use Rattle.rx_engine.specs.Journal.{JournalsBoard, files_of}
 use Rattle.rx_engine.specs.Meanings.{Meanings, meanings}
 use Rattle.rx_engine.specs.Pending.{HasTried, IsConcluded, IsFirstWon, IsPending, IsStage}
 use Rattle.rx_engine.specs.Ready.{EntersAs, FinishesAs, IsLost, IsReadyAs, WroteEnd}
-use Rattle.rx_engine.specs.Session.{IsSession, IsUntouched, WasCancelledBy}
+use Rattle.rx_engine.specs.Session.{IsReadTo, IsSession, IsUntouched, WasCancelledBy}
 use Rattle.rx_engine.proofs.AnswerLemmas.{tells-cancel, tried-answers}
 use Rattle.rx_engine.proofs.CourseLemmas.{appends-none, course-ended, session-finished}
 use Rattle.rx_engine.proofs.Entries.{enters-nothing, unpublished-enters}
@@ -61,7 +61,7 @@ module _ {W I O T L M B R C : Type 0} (w : world.Ghosts W) (i : inputs.Ghosts I)
       let last : Parts I O T L M R C = record q { output = sink } in
       let same : AreSame p q p last = record { tree_before = refl; tree_after = refl; before = same-none p; after = record { here = record { tree_local = refl; benches = refl }; there = record { tree_remote = refl; farm = refl } }; input_after = refl } in
       session-finished (meanings w i o t l k b v z) root p last number pending.read pending.request tally answered kept h.answers h.lists h.view
-      h.read
+      h.read h.reach
       (subst (λ x. Appends x (o.taken sink) kept.written) h.unwritten written)
       (tells-move w i o t l k b v z p q p last h.answers h.lists refl refl h.looked)
       (ready-move w i o t l k b v z p q p last same h.answers h.lists h.view refl root pending.read pending.request tally answered ready)
@@ -85,6 +85,7 @@ module _ {W I O T L M B R C : Type 0} (w : world.Ghosts W) (i : inputs.Ghosts I)
         lists = h.lists;
         view = h.view;
         read = rw lost.read_is h.read;
+        reach = rw (lost.read_is, lost.request_is) (subst (IsReadTo pending.read) at.0 h.reach);
         written = rw lost.written_is (appends-same _ _ h.unwritten);
         looked = h.looked;
         course = rw (lost.ending_is, lost.tally_is) (lost.reply_is, lost.request_is, lost.written_is, lost.receipt_is, at.1);
@@ -109,6 +110,7 @@ module _ {W I O T L M B R C : Type 0} (w : world.Ghosts W) (i : inputs.Ghosts I)
         lists = h.lists;
         view = h.view;
         read = rw wrote.read_is h.read;
+        reach = rw (wrote.read_is, wrote.request_is) (subst (IsReadTo pending.read) stage.1 h.reach);
         written = subst (λ x. Appends x (o.taken sink) kept.written) h.unwritten written;
         looked = tells-move w i o t l k b v z p q p last h.answers h.lists refl refl h.looked;
         course = course-ended (meanings w i o t l k b v z) root (grounds p last h.answers h.lists h.view) number pending.read frame kept kept.ending refl stage.0 stage.3

@@ -17,7 +17,7 @@ use Rattle.rx_engine.specs.Answers.{Grounds, grounds}
 use Rattle.rx_engine.specs.Attempts.{no_tally}
 use Rattle.rx_engine.specs.Meanings.{Meanings}
 use Rattle.rx_engine.specs.Ready.{FinishesAs, IsReadyAs, IsWriting, IsWritingEnd, Wrote, WroteEnd}
-use Rattle.rx_engine.specs.Session.{AreLater, IsCourse, IsSession, IsUntouched, Replies, WasAskedToEnd, tally_in}
+use Rattle.rx_engine.specs.Session.{AreLater, IsCourse, IsReadTo, IsSession, IsUntouched, Replies, WasAskedToEnd, tally_in}
 
 module _ {P W B : Type 0} (m : Meanings P W B) (root : List ℕ) (g : Grounds P) (number : ℕ) (read : List ℕ) (request : Option Request) (tally : Tally) where
   replies-moved : (a : Answered) (t : Transcript) → Replies m root g read request a.receipt tally a.reply → Wrote number read request tally a t → Replies m root g t.read t.request t.receipt (tally_in t) a.reply
@@ -35,9 +35,10 @@ module _ {P W B : Type 0} (m : Meanings P W B) (root : List ℕ) (g : Grounds P)
       rw w.ending_is (w.reply_is, w.written_is, w.receipt_is, rw (w.request_is, w.read_is) ready.0, rw (w.request_is, w.tally_is) ready.1)
   course (Some a) t ready w = course-at a t t.ending refl w.writing ready w
 
-  finished-read : (answered : Option Answered) (t : Transcript) → FinishesAs number read request tally answered t → (t.read ≡ read) × (t.ending ≡ SourceLost → ⊥)
-  finished-read None t w = (w.read_is, λ e. let x = w.ending_is in cc)
-  finished-read (Some a) t w = (w.read_is, λ e. rw e at w.writing)
+  finished-read : (answered : Option Answered) (t : Transcript) → FinishesAs number read request tally answered t
+      → (t.read ≡ read) × (t.request ≡ request) × (t.ending ≡ SourceLost → ⊥)
+  finished-read None t w = (w.read_is, w.request_is, λ e. let x = w.ending_is in cc)
+  finished-read (Some a) t w = (w.read_is, w.request_is, λ e. rw e at w.writing)
 
 was-ended : {P W B : Type 0} (m : Meanings P W B) (g : Grounds P) (number : ℕ) (read frame : List ℕ) (t : Transcript)
     → read ≡ shutdown → IsUntouched m g no_tally → WroteEnd number read frame t → WasAskedToEnd m g t
@@ -52,6 +53,7 @@ was-ended m g number read frame t r u w = record {
 -- a session that wrote what was ready
 pub session-finished : {P W B : Type 0} (m : Meanings P W B) (root : List ℕ) (before after : P) (number : ℕ) (read : List ℕ) (request : Option Request) (tally : Tally) (answered : Option Answered) (t : Transcript) (answers : List Given) (lists : List Listing) (view : List (List ℕ × Look))
     → Consumes (m.input.left before) (m.input.left after) read
+    → IsReadTo read request
     → Appends (m.output.taken before) (m.output.taken after) t.written
     → Tells m.world m.tree before after answers lists
     → IsReadyAs m root (grounds before after answers lists view) read request tally answered
@@ -59,7 +61,7 @@ pub session-finished : {P W B : Type 0} (m : Meanings P W B) (root : List ℕ) (
     → (t.ending ≡ SinkLost → Rose (m.output.faults before) (m.output.faults after))
     → AreLater m before after
     → IsSession m root before after t
-session-finished m root before after number read request tally answered t answers lists view consumed written tells ready finished sink later =
+session-finished m root before after number read request tally answered t answers lists view consumed reach written tells ready finished sink later =
     let g : Grounds _ = grounds before after answers lists view in
     let kept = finished-read m root g number read request tally answered t finished in
     record {
@@ -67,10 +69,11 @@ session-finished m root before after number read request tally answered t answer
       lists = lists;
       view = view;
       read = rw kept.0 consumed;
+      reach = rw (kept.0, kept.1) reach;
       written = written;
       looked = tells;
       course = course m root g number read request tally answered t ready finished;
-      source = λ e. absurd (kept.1 e);
+      source = λ e. absurd (kept.2 e);
       sink = sink;
       later = later;
     }

@@ -42,7 +42,7 @@ use Rattle.rx_engine.specs.Attempts.{AreLaterThan, no_tally}
 use Rattle.rx_engine.specs.Meanings.{Meanings, meanings}
 use Rattle.rx_engine.specs.Pending.{HasAnswered, HasOutputsIfAsked, IsEndOfRun, IsPending, IsRefusalOf, IsStage, IsStageOf, IsStarved}
 use Rattle.rx_engine.specs.Ready.{AnswersAs, IsReadyAs}
-use Rattle.rx_engine.specs.Session.{IsAsked, IsUntouched, Replies, WasCancelledBy}
+use Rattle.rx_engine.specs.Session.{IsAsked, IsReadTo, IsUntouched, Replies, WasCancelledBy}
 use Rattle.rx_engine.specs.Watching.{ListensIn, heard_in}
 use Rattle.rx_engine.proofs.AnswerLemmas.{tells-none}
 use Rattle.rx_engine.proofs.AttemptLemmas.{idle-none}
@@ -179,6 +179,13 @@ module _ {W I O T L M B R C : Type 0} (w : world.Ghosts W) (i : inputs.Ghosts I)
   heard-later watch source after (stages.Refused answered) h = let e = h.1 in omega arith
   heard-later watch source after (stages.Attempted attempted) h = h.heard_is.later
 
+  -- as much at most as a Cancel has
+  heard-few : (watch : Bool) (source after : I) (stage : Stage) → ListensIn i watch source after stage → length (heard_in stage) ≤ 5
+  heard-few watch source after stages.Lost h = omega arith
+  heard-few watch source after (stages.ShutDown frame) h = omega arith
+  heard-few watch source after (stages.Refused answered) h = omega arith
+  heard-few watch source after (stages.Attempted attempted) h = h.heard_is.few
+
   heard-none : (source after : I) (stage : Stage) → ListensIn i false source after stage → (heard_in stage ≡ []) × (i.left after ≡ i.left source)
   heard-none source after stages.Lost h = (refl, h.0)
   heard-none source after (stages.ShutDown frame) h = (refl, h.0)
@@ -226,6 +233,7 @@ module _ {W I O T L M B R C : Type 0} (w : world.Ghosts W) (i : inputs.Ghosts I)
         lists = answered.lists;
         view = answered.view;
         read = rw is (Consumes-trans (i.left p.input) (i.left source) (i.left q.input) read (heard_in stage) consumed (heard-consumed request.watch source q.input stage heard));
+        reach = rw (is, behind-more root read (heard_in stage) request decodes bare) (heard-few request.watch source q.input stage heard);
         looked = tells-move w i o t l k b v z first q p q answered.answers answered.lists refl refl answered.looked;
         stage = rw is (stage-asked (meanings w i o t l k b v z) root g (read ++ heard_in stage) request stage
             (record {
@@ -247,17 +255,18 @@ module _ {W I O T L M B R C : Type 0} (w : world.Ghosts W) (i : inputs.Ghosts I)
 
   -- this was made of the bytes, where nothing was touched
   unserved : (root : List ℕ) (p : Parts I O T L M R C) (source : I) (read : List ℕ) (request : Option Request) (stage : Stage)
-      → Consumes (i.left p.input) (i.left source) read → i.faults p.input ≤ i.faults source
+      → Consumes (i.left p.input) (i.left source) read → IsReadTo read request → i.faults p.input ≤ i.faults source
       → (IsUntouched (meanings w i o t l k b v z) (grounds p (record p { input = source }) [] [] []) no_tally
       → IsStage (meanings w i o t l k b v z) root (grounds p (record p { input = source }) [] [] []) read request stage)
       → IsPending (meanings w i o t l k b v z) root p (record p { input = source }) (record { read = read; request = request; stage = stage })
-  unserved root p source read request stage consumed risen made =
+  unserved root p source read request stage consumed reach risen made =
       let last : Parts I O T L M R C = record p { input = source } in
       record {
         answers = [];
         lists = [];
         view = [];
         read = consumed;
+        reach = reach;
         looked = tells-move w i o t l k b v z p p p last [] [] refl refl (tells-in w t (λ (x : Parts I O T L M R C). x.tree) p p [] [] (tells-none w t p.tree));
         stage = made (record {
           answers_are = refl;
@@ -276,23 +285,23 @@ module _ {W I O T L M B R C : Type 0} (w : world.Ghosts W) (i : inputs.Ghosts I)
 
   -- there was no memory to serve a request
   pub pending-starved : (root : List ℕ) (p : Parts I O T L M R C) (source : I) (read : List ℕ) (request : Request) (pending : Pending)
-      → Consumes (i.left p.input) (i.left source) read → IsRequest root read request → EndsRead (i.left source) (Ok (incomings.Request request)) → i.faults p.input ≤ i.faults source
-      → IsStarved read request pending → IsPending (meanings w i o t l k b v z) root p (record p { input = source }) pending
-  pending-starved root p source read request pending consumed decodes ended risen starved =
+      → Consumes (i.left p.input) (i.left source) read → IsRequest root read request → EndsRead (i.left source) (Ok (incomings.Request request)) → behind read ≡ []
+      → i.faults p.input ≤ i.faults source → IsStarved read request pending → IsPending (meanings w i o t l k b v z) root p (record p { input = source }) pending
+  pending-starved root p source read request pending consumed decodes ended bare risen starved =
       subst (IsPending (meanings w i o t l k b v z) root p (record p { input = source }))
       (sym (pending-is pending read (Some request) (stages.Refused starved.answered) starved.read_is starved.request_is starved.stage_is))
-      (unserved root p source read (Some request) (stages.Refused starved.answered) consumed risen
+      (unserved root p source read (Some request) (stages.Refused starved.answered) consumed (rw bare (omega arith)) risen
       (λ untouched. stage-starved (meanings w i o t l k b v z) root (grounds p (record p { input = source }) [] [] []) read request starved.answered
       (record { request_is = refl; decoded = decodes; ended = ended }) untouched.unrun starved.given_up))
 
   -- the bytes are refused
   pub pending-refusal : (root : List ℕ) (p : Parts I O T L M R C) (source : I) (read : List ℕ) (fault : SessionFault) (stage : Stage)
       → Consumes (i.left p.input) (i.left source) read
-      → Decodes (λ x. x) (Err fault) (incoming_of root read) → EndsRead (i.left source) (Err fault) → i.faults p.input ≤ i.faults source
+      → Decodes (λ x. x) (Err fault) (incoming_of root read) → length read ≤ reach_of read → EndsRead (i.left source) (Err fault) → i.faults p.input ≤ i.faults source
       → (fault ≡ faults.ReadFault → Rose (i.faults p.input) (i.faults source)) → IsRefusalOf fault stage
       → IsPending (meanings w i o t l k b v z) root p (record p { input = source }) (record { read = read; request = None; stage = stage })
-  pending-refusal root p source read fault stage consumed decodes ended risen rose refused =
-      unserved root p source read None stage consumed risen
+  pending-refusal root p source read fault stage consumed decodes reach ended risen rose refused =
+      unserved root p source read None stage consumed reach risen
       (λ untouched. stage-refused (meanings w i o t l k b v z) root (grounds p (record p { input = source }) [] [] []) read fault stage untouched decodes ended rose refused)
 
   -- the bytes are a Shutdown
@@ -301,5 +310,5 @@ module _ {W I O T L M B R C : Type 0} (w : world.Ghosts W) (i : inputs.Ghosts I)
       → i.faults p.input ≤ i.faults source → IsEndOfRun stage
       → IsPending (meanings w i o t l k b v z) root p (record p { input = source }) (record { read = read; request = None; stage = stage })
   pending-end root p source read stage consumed decodes reach risen made =
-      unserved root p source read None stage consumed risen
+      unserved root p source read None stage consumed reach risen
       (λ untouched. stage-ended (meanings w i o t l k b v z) root (grounds p (record p { input = source }) [] [] []) read stage untouched decodes reach made)

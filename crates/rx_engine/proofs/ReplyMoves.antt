@@ -77,6 +77,7 @@ module _ {W I O T L M B R C : Type 0} (w : world.Ghosts W) (i : inputs.Ghosts I)
         attempts = h.attempts;
         made = attempts-move w i o t l k b v z p q r s h.gathered request.accept_cached h.attempts same.before same.after h.made;
         tally_is = h.tally_is;
+        unwatched = h.unwatched;
       }
 
   may-move : (request : Request) (tally : Tally) → MayHaveRun (meanings w i o t l k b v z) (grounds p q xs ls vs) request tally → MayHaveRun (meanings w i o t l k b v z) (grounds r s xs ls vs) request tally
@@ -158,4 +159,4 @@ module _ {W I O T L M B R C : Type 0} (w : world.Ghosts W) (i : inputs.Ghosts I)
   stage-move request (stages.Refused None) h = (may-move request no_tally h.0, h.1)
   stage-move request (stages.Refused (Some a)) h = ((h.0.0, answers-move request a.receipt no_tally a.reply h.0.1), h.1)
   stage-move request (stages.Attempted attempted) h =
-      record { run = run-move request attempted.tally h.run; won_is = h.won_is; cancelled_is = h.cancelled_is; unwatched = h.unwatched }
+      record { run = run-move request attempted.tally h.run; won_is = h.won_is; cancelled_is = h.cancelled_is }

@@ -4,7 +4,7 @@ use Rattle.std.specs.List.{flat_map}
 use Rattle.rx_action.specs.OutputPaths.{AreBelow}
 use Rattle.rx_board.specs.declared.journal.Receipt.{Receipt}
 use Rattle.rx_race.specs.declared.events.Verdict.TheVariants.{Won as won_race}
-use Rattle.rx_race.specs.declared.slips.Slip.TheVariants.{Told}
+use Rattle.rx_race.specs.declared.slips.Slip.TheVariants.{Told, Unused}
 use Rattle.rx_session.specs.declared.replies.Reply.{Reply}
 use Rattle.rx_session.specs.declared.replies.Reply.TheVariants as reply
 use Rattle.rx_session.specs.declared.requests.Request.{Request}
@@ -73,13 +73,15 @@ pub record IsRefused {P W B : Type 0} (m : Meanings P W B) (g : Grounds P) (requ
 
 -- ---- the attempts
 
--- The attempts of a request were made on what was gathered for it, and each that was started has its end.
+-- The attempts of a request were made on what was gathered for it, and each that was started has its end. Only a client that may cancel used
+-- the right to do so.
 pub record HasRun {P W B : Type 0} (m : Meanings P W B) (g : Grounds P) (request : Request) (tally : Tally) : Type 0 where
   pub gathered : Gathered
   pub inputs : HasGathered m g request gathered
   pub attempts : Attempts
   pub made : HasAttempts m gathered request.accept_cached g.before g.after attempts
   pub tally_is : tally ≡ tally_of attempts
+  pub unwatched : request.watch ≡ false → tally.passes.cancel ≡ Unused
 
 -- the same, and this is the outcome that is to be published
 pub record HasWon {P W B : Type 0} (m : Meanings P W B) (g : Grounds P) (request : Request) (tally : Tally) (won : Won) : Type 0 where

@@ -1,8 +1,7 @@
 -- A session before anything is published: what was read, and what was made of it.
-use Rattle.std.specs.Prelude.{◌≡◌, ◌⊎◌, ℕ, false, List, Option, None, Some, IfSome, is_some}
+use Rattle.std.specs.Prelude.{◌≡◌, ◌⊎◌, ℕ, List, Option, None, Some, IfSome, is_some}
 use Rattle.std.specs.Io.KnownBytes.{Consumes}
 use Rattle.rx_board.specs.Board.{State}
-use Rattle.rx_race.specs.declared.slips.Slip.TheVariants.{Unused}
 use Rattle.rx_session.specs.declared.bad.SessionFault.{SessionFault}
 use Rattle.rx_session.specs.declared.bad.SessionFault.TheVariants as faults
 use Rattle.rx_session.specs.declared.frames.Incoming.{Incoming}
@@ -28,15 +27,14 @@ use Rattle.rx_engine.specs.Journal.{JournalsBoard, files_of}
 use Rattle.rx_engine.specs.Meanings.{Meanings}
 use Rattle.rx_engine.specs.Ready.{AnswersAs, IsReadyAs}
 use Rattle.rx_engine.specs.Racing.{is_cancelled}
-use Rattle.rx_engine.specs.Session.{AreLater, IsAsked, IsSession, IsUntouched, WasCancelledBy}
+use Rattle.rx_engine.specs.Session.{AreLater, IsAsked, IsReadTo, IsSession, IsUntouched, WasCancelledBy}
 
 -- The attempts of a request were made on what was gathered for it, and this is what is to be published of them. The race was cancelled where
--- there is a reason, and only by a client that may do so.
+-- there is a reason.
 pub record HasTried {P W B : Type 0} (m : Meanings P W B) (g : Grounds P) (request : Request) (attempted : Attempted) : Type 0 where
   pub run : HasRun m g request attempted.tally
   pub won_is : attempted.won ≡ winner run.gathered.plan run.attempts
   pub cancelled_is : is_some attempted.heard.cancelled ≡ is_cancelled attempted.tally.passes.cancel
-  pub unwatched : request.watch ≡ false → attempted.tally.passes.cancel ≡ Unused
 
 -- what was made of a request
 abbrev pub IsStageOf : {P W B : Type 0} → Meanings P W B → Grounds P → Request → Stage → Type 0
@@ -102,6 +100,7 @@ pub record IsPending {P W B : Type 0} (m : Meanings P W B) (root : List ℕ) (be
   pub lists : List Listing
   pub view : List (List ℕ × Look)
   pub read : Consumes (m.input.left before) (m.input.left after) pending.read
+  pub reach : IsReadTo pending.read pending.request
   pub looked : Tells m.world m.tree before after answers lists
   pub stage : IsStage m root (grounds before after answers lists view) pending.read pending.request pending.stage
   pub unwritten : m.output.taken after ≡ m.output.taken before

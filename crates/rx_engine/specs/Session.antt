@@ -1,5 +1,5 @@
 -- What a session did, between its desk as it was taken apart and the desk that it hands back. Nothing here speaks of a journal.
-use Rattle.std.specs.Prelude.{◌≡◌, ◌⊎◌, ℕ, ◌≤◌, false, List, [], Option, None, Some, Err, IfSome, take}
+use Rattle.std.specs.Prelude.{◌≡◌, ◌⊎◌, ℕ, ◌≤◌, false, List, [], Option, None, Some, Err, IfSome, length, take}
 use Rattle.std.specs.Io.KnownBytes.{Appends, Consumes, IsAtEnd}
 use Rattle.rx_board.specs.declared.journal.Receipt.{Receipt}
 use Rattle.rx_session.specs.declared.bad.BadReason.TheVariants.{CutShort}
@@ -7,8 +7,8 @@ use Rattle.rx_session.specs.declared.cancels.CancelReason.{CancelReason}
 use Rattle.rx_session.specs.declared.replies.Reply.{Reply}
 use Rattle.rx_session.specs.declared.replies.Reply.TheVariants as reply
 use Rattle.rx_session.specs.declared.requests.Request.{Request}
-use Rattle.rx_session.specs.Cancels.{IsCancelBy}
-use Rattle.rx_session.specs.Frames.{IsRequest, behind, incoming_of, shutdown, shutdown_done}
+use Rattle.rx_session.specs.Cancels.{IsCancelBy, cancel_length}
+use Rattle.rx_session.specs.Frames.{IsRequest, behind, incoming_of, reach_of, shutdown, shutdown_done}
 use Rattle.rx_session.specs.Replies.{frame_of}
 use Rattle.rx_scan.specs.Lists.{Listing, Tells}
 use Rattle.rx_world.specs.declared.looks.Look.{Look}
@@ -121,12 +121,18 @@ pub record AreLater {P W B : Type 0} (m : Meanings P W B) (before after : P) : T
   pub tree : m.tree.faults before ≤ m.tree.faults after
   pub attempts : AreLaterThan m before after
 
+-- No more was read than tells what the bytes are and, behind a request, than a client can cancel by.
+abbrev pub IsReadTo : List ℕ → Option Request → Type 0
+IsReadTo read None = length read ≤ reach_of read
+IsReadTo read (Some asked) = length (behind read) ≤ cancel_length
+
 -- The session's own part of a transcript.
 pub record IsSession {P W B : Type 0} (m : Meanings P W B) (root : List ℕ) (before after : P) (t : Transcript) : Type 0 where
   pub answers : List Given
   pub lists : List Listing
   pub view : List (List ℕ × Look)
   pub read : Consumes (m.input.left before) (m.input.left after) t.read
+  pub reach : IsReadTo t.read t.request
   pub written : Appends (m.output.taken before) (m.output.taken after) t.written
   pub looked : Tells m.world m.tree before after answers lists
   pub course : IsCourse m root (grounds before after answers lists view) t t.ending

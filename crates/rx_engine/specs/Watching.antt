@@ -5,7 +5,7 @@ use Rattle.rx_race.specs.declared.slips.Seat.TheVariants.{Canceller}
 use Rattle.rx_race.specs.declared.slips.Slip.{Slip}
 use Rattle.rx_race.specs.declared.slips.Slip.TheVariants.{Unused}
 use Rattle.rx_race.specs.Slips.{Ticket}
-use Rattle.rx_session.specs.Cancels.{IsCancelBy}
+use Rattle.rx_session.specs.Cancels.{IsCancelBy, cancel_length}
 use Rattle.rx_world.specs.declared.streams.Source as inputs
 use Rattle.rx_engine.specs.declared.attempts.Heard.{Heard}
 use Rattle.rx_engine.specs.declared.pending.Stage.{Stage}
@@ -21,7 +21,7 @@ TellsWhy i before after heard =
 pub record HasHeard {I : Type 0} (i : inputs.Ghosts I) (before after : I) (heard : Heard) (slip : Slip) : Type 0 where
   pub consumed : Consumes (i.left before) (i.left after) heard.bytes.items
   pub later : i.faults before ≤ i.faults after
-  pub few : length heard.bytes.items ≤ 5
+  pub few : length heard.bytes.items ≤ cancel_length
   pub why : TellsWhy i before after heard
   pub cancelled_is : is_some heard.cancelled ≡ is_cancelled slip
 

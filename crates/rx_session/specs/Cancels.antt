@@ -1,5 +1,5 @@
 -- How a client cancels: what comes behind a request that watches.
-use Rattle.std.specs.Prelude.{◌≡◌, ◌≢◌, ℕ, List, [], Option}
+use Rattle.std.specs.Prelude.{◌≡◌, ◌≢◌, ℕ, ◌<◌, List, [], Option, length}
 use Rattle.std.specs.Io.KnownBytes.{IsAtEnd}
 use Rattle.rx_world.specs.Causes.{Rose}
 use Rattle.rx_session.specs.declared.cancels.CancelReason.{CancelReason}
@@ -10,12 +10,16 @@ use Rattle.rx_session.specs.Frames.{frame}
 abbrev pub cancel_frame : List ℕ
 cancel_frame = frame 3 []
 
--- What was read behind a request is such a cancel: a Cancel frame, nothing before the end of the input, other bytes or only a front of that
--- frame, or what a fault cut short.
+-- how many bytes it has
+abbrev pub cancel_length : ℕ
+cancel_length = 5
+
+-- What was read behind a request is such a cancel: a Cancel frame, nothing before the end of the input, other bytes, or what a fault cut
+-- short. Other bytes are as many as such a frame has, or all up to the end of the input, as a front of it is.
 abbrev pub IsCancelBy : CancelReason → List ℕ → Option (List ℕ) → ℕ → ℕ → Type 0
 IsCancelBy Asked read left before now = read ≡ cancel_frame
 IsCancelBy Ended read left before now = (read ≡ []) × IsAtEnd left
-IsCancelBy OtherBytes read left before now = (read ≢ []) × (read ≢ cancel_frame)
+IsCancelBy OtherBytes read left before now = (read ≢ []) × (read ≢ cancel_frame) × (length read < cancel_length → IsAtEnd left)
 IsCancelBy Lost read left before now = Rose before now
 
 -- by the bytes alone, where the input didn't fail

@@ -2,7 +2,7 @@
 
 ghost use Rattle.std.specs.Prelude.{◌≢◌, ◌≤◌, ◌<◌, IfOk, length};
 ghost use Rattle.std.specs.Io.KnownBytes.{Consumes, IsAtEnd};
-ghost use Rattle.rx_session.specs.Cancels.{IsCancelBy, IsCancelOf};
+ghost use Rattle.rx_session.specs.Cancels.{IsCancelBy, IsCancelOf, cancel_length};
 
 use crate::bad::SessionFault;
 use crate::streams::read_up_to;
@@ -32,13 +32,13 @@ pub enum CancelReason {
 pub fn read_cancel<S: Source>(source: &mut S, read: &mut Vec<u8>) -> Result<CancelReason, NoMemory>
     // What was taken from the source is what was read.
     ensures read { Consumes (S.left source.old) (S.left source.new) read.new.items }
-    ensures most { length read.new.items ≤ 5 }
+    ensures most { length read.new.items ≤ cancel_length }
     // The reason is that of what was read, at the end that was found, or of the fault.
     ensures reason { IfOk result (λ reason. IsCancelBy reason read.new.items
         (S.left source.new) (S.faults source.old) (S.faults source.new)) }
     // Where the input didn't fail, it was read up to five bytes, or to its end.
     ensures end { IfOk result (λ reason. reason ≢ CancelReason.Lost
-        → length read.new.items < 5 → IsAtEnd (S.left source.new)) }
+        → length read.new.items < cancel_length → IsAtEnd (S.left source.new)) }
     ensures later { S.faults source.old ≤ S.faults source.new }
 {
     read.clear();

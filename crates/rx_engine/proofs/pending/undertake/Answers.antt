@@ -8,7 +8,7 @@ returns-then-is_err g c =
     let found = c.in-Ok-Request in
     let same = c.reserve.ensures.items in
     pending-starved _ _ _ _ _ _ _ _ _ c.args.root.now c.args.parts c.read_asked.new.source c.reserve.new.self.items c.in-Ok-Request.request c.starved.result
-    (rw same read.read) (rw same (rw (found.is, found.field-0-is) at read.incoming)) (rw (found.is, found.field-0-is) at read.end) read.later c.starved.ensures
+    (rw same read.read) (rw same (rw (found.is, found.field-0-is) at read.incoming)) (rw (found.is, found.field-0-is) at read.end) (rw same (rw found.is at read.bare)) read.later c.starved.ensures
 
 pub returns-else-is_err : goal.returns-else-is_err
 returns-else-is_err g c =
@@ -35,5 +35,5 @@ returns-in-Err g c =
     let read = c.read_asked.ensures in
     rw c.unasked-in-Err.ensures
     (pending-refusal _ _ _ _ _ _ _ _ _ c.args.root.now c.args.parts c.read_asked.new.source c.read_asked.new.read.items c.in-Err.fault c.refusal.result
-    read.read (rw c.in-Err.is at read.incoming) (rw c.in-Err.is at read.end) read.later
+    read.read (rw c.in-Err.is at read.incoming) read.reach (rw c.in-Err.is at read.end) read.later
     (λ e. read.failed (rw (c.in-Err.is, e) refl)) c.refusal.ensures)
