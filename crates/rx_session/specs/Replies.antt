@@ -9,6 +9,7 @@ use Rattle.rx_world.specs.declared.refusals.Limit.{Limit}
 use Rattle.rx_world.specs.declared.refusals.Limit.TheVariants as limits
 use Rattle.rx_world.specs.declared.refusals.LocalCause.{LocalCause}
 use Rattle.rx_world.specs.declared.refusals.LocalCause.TheVariants as locals
+use Rattle.rx_session.specs.declared.bad.Bad.{Bad}
 use Rattle.rx_session.specs.declared.bad.BadReason.{BadReason}
 use Rattle.rx_session.specs.declared.bad.BadReason.TheVariants as reasons
 use Rattle.rx_session.specs.declared.cancels.CancelReason.{CancelReason}
@@ -101,6 +102,13 @@ bare_reply kind = record {
   ends = [];
 }
 
+-- a reason and its value
+abbrev pub bad_request_message : Bad → ReplyMessage
+bad_request_message bad = record (bare_reply 1) { reason = reason_number bad.reason; value = bad.value }
+
+abbrev pub cancelled_message : CancelReason → ReplyMessage
+cancelled_message reason = record (bare_reply 8) { reason = cancel_number reason }
+
 abbrev pub path_reply : ℕ → List ℕ → ReplyMessage
 path_reply kind path = record (bare_reply kind) { path = path }
 
@@ -130,14 +138,14 @@ all_failed_message failures = record (bare_reply 7) { ends = map end_of failures
 abbrev pub message_of : Reply → ReplyMessage
 message_of (replies.Done exit stdout stderr origin receipt placed) =
     record (exit_message exit stdout stderr) { origin = origin_number origin; receipt = receipt; placed = placed }
-message_of (replies.BadRequest bad) = record (bare_reply 1) { reason = reason_number bad.reason; value = bad.value }
+message_of (replies.BadRequest bad) = bad_request_message bad
 message_of (replies.NotRemotable cause) = not_remotable_message cause
 message_of (replies.InputMissing path) = path_reply 3 path
 message_of (replies.InputChanged input) = input_changed_message input
 message_of (replies.SourceFault path) = path_reply 5 path
 message_of (replies.TooLarge limit n path) = too_large_message limit n path
 message_of (replies.AllFailed failures) = all_failed_message failures
-message_of (replies.Cancelled reason) = record (bare_reply 8) { reason = cancel_number reason }
+message_of (replies.Cancelled reason) = cancelled_message reason
 message_of (replies.PlaceFault receipt placed) = record (bare_reply 9) { receipt = receipt; placed = placed }
 message_of replies.JournalFull = bare_reply 10
 message_of replies.NoMemory = bare_reply 11

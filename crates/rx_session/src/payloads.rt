@@ -3,9 +3,11 @@
 ghost use Rattle.std.specs.Prelude.{◌≡◌, IfOk, IfSome, IsOk, map};
 ghost use Rattle.std.specs.List.{AllByRecursion};
 ghost use Rattle.rx_session.specs.Ends.{end_of};
-ghost use Rattle.rx_session.specs.Replies.{all_failed_message, bare_reply, exit_message, input_changed_message, message_of, not_remotable_message, origin_number, path_reply, too_large_message};
+ghost use Rattle.rx_session.specs.Replies.{all_failed_message, bad_request_message, bare_reply, cancelled_message, exit_message, input_changed_message, message_of, not_remotable_message, origin_number, path_reply, too_large_message};
 ghost use Rattle.rx_session.specs.Typed.{IsOwn, failure_is_typed, local_cause_is_typed, reply_is_typed};
 
+use crate::bad::Bad;
+use crate::cancels::CancelReason;
 use crate::end_message::EndMessage;
 use crate::ends::end_of;
 use crate::path_texts::path_text;
@@ -79,6 +81,27 @@ fn bare_reply(alloc: Global, kind: u64) -> ReplyMessage
         first: None,
         second: None,
         ends: Items::new(alloc),
+    }
+}
+
+/// Why the bytes that were read are no request.
+fn bad_request_message(alloc: Global, bad: &Bad) -> ReplyMessage
+    ensures { result ≡ bad_request_message bad.now }
+{
+    ReplyMessage {
+        reason: reason_number(bad.reason),
+        value: bad.value,
+        ..bare_reply(alloc, kind::BAD_REQUEST)
+    }
+}
+
+/// Why the session was cancelled.
+fn cancelled_message(alloc: Global, reason: CancelReason) -> ReplyMessage
+    ensures { result ≡ cancelled_message reason }
+{
+    ReplyMessage {
+        reason: cancel_number(reason),
+        ..bare_reply(alloc, kind::CANCELLED)
     }
 }
 
@@ -203,21 +226,14 @@ pub(crate) fn message_of(alloc: Global, reply: &Reply) -> Result<ReplyMessage, N
             placed: *placed,
             ..exit_message(alloc, *exit, stdout, stderr)?
         }),
-        Reply::BadRequest { bad } => Ok(ReplyMessage {
-            reason: reason_number(bad.reason),
-            value: bad.value,
-            ..bare_reply(alloc, kind::BAD_REQUEST)
-        }),
+        Reply::BadRequest { bad } => Ok(bad_request_message(alloc, bad)),
         Reply::NotRemotable { cause } => not_remotable_message(alloc, cause),
         Reply::InputMissing { path } => path_reply(alloc, kind::INPUT_MISSING, path),
         Reply::InputChanged(input) => input_changed_message(alloc, input),
         Reply::SourceFault { path } => path_reply(alloc, kind::SOURCE_FAULT, path),
         Reply::TooLarge { limit, n, path } => too_large_message(alloc, *limit, *n, path),
         Reply::AllFailed { failures } => all_failed_message(alloc, failures.as_slice()),
-        Reply::Cancelled { reason } => Ok(ReplyMessage {
-            reason: cancel_number(*reason),
-            ..bare_reply(alloc, kind::CANCELLED)
-        }),
+        Reply::Cancelled { reason } => Ok(cancelled_message(alloc, *reason)),
         Reply::PlaceFault { receipt, placed } => Ok(ReplyMessage {
             receipt: *receipt,
             placed: *placed,
