@@ -258,7 +258,7 @@ impl RunCalls {
             "local" | "remote" | "later" => self.call_trees(word, row)?,
             "farm" => self.add_line(row)?,
             "file" | "sized" | "dir" | "other" => self.call_paths(word, row)?,
-            "meet" | "waits" | "patience" | "starves" | "withholds" => {
+            "meet" | "waits" | "crowd" | "patience" | "starves" | "withholds" => {
                 plan_meeting(self.alloc, word, row, &mut self.desk()?.meeting)?
             }
             _ => return Err(RowFault::NoCall),

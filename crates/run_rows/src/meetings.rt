@@ -55,10 +55,29 @@ pub(crate) struct Waiting {
     pub has_come: bool,
 }
 
+/// Desks that are all alike and share one meeting: the call of this part and number waits in each of them until it
+/// has begun in all.
+#[derive(Clone, Copy, Debug)]
+pub(crate) struct Crowd {
+    pub part: Part,
+    pub number: u64,
+    /// In how many desks it has yet to begin: at first, how many desks there are.
+    pub missing: u64,
+}
+
+impl Crowd {
+    /// Whether it is this call.
+    fn has(&self, part: Part, number: u64) -> bool {
+        self.part == part && self.number == number
+    }
+}
+
 /// What rows say of the meeting of a desk.
 #[derive(Drop)]
 pub(crate) struct MeetingPlan {
     pub waits: Vec<Waiting>,
+    /// The desk stands for so many.
+    pub crowd: Option<Crowd>,
     /// The calls for which memory is wanting.
     pub starved: Vec<FailingCall>,
     /// The outputs that benches don't give.
@@ -72,6 +91,7 @@ impl MeetingPlan {
     pub(crate) fn new(alloc: Global) -> MeetingPlan {
         MeetingPlan {
             waits: Vec::new(alloc),
+            crowd: None,
             starved: Vec::new(alloc),
             withheld: Vec::new(alloc),
             patience: PATIENCE,
@@ -83,6 +103,7 @@ impl MeetingPlan {
 #[derive(Drop)]
 struct Progress {
     waits: Vec<Waiting>,
+    crowd: Option<Crowd>,
     is_input_halted: bool,
     /// Whether a call waited too long.
     has_given_up: bool,
@@ -97,6 +118,11 @@ impl Progress {
             {
                 wait.has_come = true;
             }
+        }
+        if let Some(crowd) = &mut self.crowd
+            && crowd.has(part, number)
+        {
+            crowd.missing = crowd.missing.saturating_sub(1);
         }
     }
 
@@ -123,8 +149,14 @@ impl Progress {
 
     /// Whether a call has to wait now.
     fn holds(&self, part: Part, number: u64) -> bool {
-        !self.has_given_up
-            && self
+        if self.has_given_up {
+            return false;
+        }
+        let waits_for_all = self
+            .crowd
+            .is_some_and(|crowd| crowd.missing > 0 && crowd.has(part, number));
+        waits_for_all
+            || self
                 .waits
                 .iter()
                 .any(|wait| !wait.has_come && wait.calls.has(part, number))
@@ -132,7 +164,11 @@ impl Progress {
 
     /// Whether a call fails, since it or one before it waited too long.
     fn fails(&self, part: Part, number: u64) -> bool {
-        self.has_given_up && self.waits.iter().any(|wait| wait.calls.has(part, number))
+        if !self.has_given_up {
+            return false;
+        }
+        self.crowd.is_some_and(|crowd| crowd.has(part, number))
+            || self.waits.iter().any(|wait| wait.calls.has(part, number))
     }
 
     /// How a call goes on that doesn't wait any more.
@@ -147,7 +183,7 @@ impl Progress {
     }
 }
 
-/// What the parts of one desk share.
+/// What the parts of one desk share, or of a crowd of them.
 #[derive(Drop)]
 pub(crate) struct Meeting {
     progress: Mutex<Progress>,
@@ -162,6 +198,7 @@ impl Meeting {
     pub(crate) fn new(plan: MeetingPlan) -> Meeting {
         let MeetingPlan {
             waits,
+            crowd,
             starved,
             withheld,
             patience,
@@ -169,6 +206,7 @@ impl Meeting {
         Meeting {
             progress: Mutex::new(Progress {
                 waits,
+                crowd,
                 is_input_halted: false,
                 has_given_up: false,
             }),

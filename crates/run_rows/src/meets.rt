@@ -1,7 +1,7 @@
 //! The rows that say how the parts of a desk wait for each other, and what memory and benches lack.
 
 use crate::arguments::{part_in, part_of};
-use crate::meetings::{Event, MeetingPlan, PartCalls, Waiting};
+use crate::meetings::{Crowd, Event, MeetingPlan, PartCalls, Waiting};
 use crate::plans::{FailingCall, Part};
 use rx_base::NoMemory;
 use rx_row_values::read_path;
@@ -106,6 +106,20 @@ fn add_starved(row: &mut Row<'_>, plan: &mut MeetingPlan) -> Result<(), RowFault
     Ok(())
 }
 
+/// `crowd COUNT PART N`: the desk stands for so many, and the part's call of this number waits in each for all.
+fn add_crowd(row: &mut Row<'_>, plan: &mut MeetingPlan) -> Result<(), RowFault> {
+    let missing = row.number()?;
+    let part = part_in(row)?;
+    attempt_of(part)?;
+    let number = row.number()?;
+    plan.crowd = Some(Crowd {
+        part,
+        number,
+        missing,
+    });
+    Ok(())
+}
+
 /// A row that says something of a desk's meeting.
 pub(crate) fn plan_meeting(
     alloc: Global,
@@ -116,6 +130,7 @@ pub(crate) fn plan_meeting(
     match word {
         "meet" => add_meet(row, plan),
         "waits" => add_waits(row, plan),
+        "crowd" => add_crowd(row, plan),
         "starves" => add_starved(row, plan),
         "withholds" => {
             plan.withheld.push(read_path(alloc, row)?)?;

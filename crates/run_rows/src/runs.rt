@@ -5,7 +5,7 @@ ghost use Rattle.std.specs.Prelude.{◌≡◌, IfOk};
 use crate::desks::{ListFront, MeetingDesk, MemoryDesk, ScriptedDesk, Unheard};
 use crate::plans::{DeskPlan, FailingCall, Part, script_for};
 use crate::seats::Hands;
-use crate::trees::desk_of;
+use crate::trees::{crowd_of, desk_of};
 use crate::worlds::RowWorld;
 use rx_base::{Items, NoMemory, Text};
 use rx_blobs::Presence;
@@ -42,7 +42,10 @@ fn desks_of<H: Hands>(
 ) -> Result<Vec<ScriptedDesk<H>>, NoMemory> {
     let mut desks = Vec::new(alloc);
     for plan in plans {
-        desks.push(desk_of(*rt, alloc, plan)?)?;
+        match plan.meeting.crowd {
+            Some(crowd) => desks.append(&mut crowd_of(*rt, alloc, plan, crowd.missing)?)?,
+            None => desks.push(desk_of(*rt, alloc, plan)?)?,
+        }
     }
     Ok(desks)
 }

@@ -120,26 +120,49 @@ fn trees_of(alloc: Global, plan: &DeskPlan) -> Result<Trees, NoMemory> {
     })
 }
 
+/// The parts of a plan's desk. Its farm's client answers no call.
+fn parts_of(alloc: Global, plan: &DeskPlan) -> Result<MemoryDesk, NoMemory> {
+    let trees = trees_of(alloc, plan)?;
+    Ok(Parts {
+        input: input_of(alloc, plan)?,
+        output: output_of(alloc, plan)?,
+        tree: trees.gathered,
+        tree_local: trees.local,
+        benches: benches_of(alloc, plan)?,
+        tree_remote: trees.remote,
+        farm: FarmScript::new(alloc, Vec::new(alloc), Dialect::New),
+    })
+}
+
 /// The desk of a plan.
 pub(crate) fn desk_of<H: Hands>(
     hands: H,
     alloc: Global,
     plan: DeskPlan,
 ) -> Result<ScriptedDesk<H>, NoMemory> {
-    let input = input_of(alloc, &plan)?;
-    let output = output_of(alloc, &plan)?;
-    let trees = trees_of(alloc, &plan)?;
-    let parts = Parts {
-        input,
-        output,
-        tree: trees.gathered,
-        tree_local: trees.local,
-        benches: benches_of(alloc, &plan)?,
-        tree_remote: trees.remote,
-        farm: FarmScript::new(alloc, plan.lines, Dialect::New),
-    };
+    let mut parts = parts_of(alloc, &plan)?;
+    parts.farm = FarmScript::new(alloc, plan.lines, Dialect::New);
     let meeting = Arc::new(alloc, Meeting::new(plan.meeting))?;
     seated(hands, parts, &meeting)
+}
+
+/// The desks of a plan that stands for so many. They share one meeting, and their farm's clients answer no call.
+pub(crate) fn crowd_of<H: Hands>(
+    hands: H,
+    alloc: Global,
+    plan: DeskPlan,
+    count: u64,
+) -> Result<Vec<ScriptedDesk<H>>, NoMemory> {
+    let mut parts = Vec::new(alloc);
+    for _ in 0..count {
+        parts.push(parts_of(alloc, &plan)?)?;
+    }
+    let meeting = Arc::new(alloc, Meeting::new(plan.meeting))?;
+    let mut desks = Vec::new(alloc);
+    for own in parts {
+        desks.push(seated(hands, own, &meeting)?)?;
+    }
+    Ok(desks)
 }
 
 /// The desk of these parts. Each that may wait has its seat in one meeting.
