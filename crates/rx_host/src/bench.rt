@@ -30,6 +30,8 @@ pub struct HostBench<H> {
     /// The directories there that were made since the last run.
     made: MadeDirs,
     runner: Runner<H>,
+    /// How many files were put.
+    pub(crate) files: u64,
     pub(crate) faults: Faults,
     /// The step of the last call that failed.
     pub(crate) failed: Option<BenchStep>,
@@ -45,6 +47,7 @@ impl<H: Hands> HostBench<H> {
             tree: Below::new(runner.rt, root),
             made: MadeDirs::new(runner.rt.alloc()),
             runner,
+            files: 0,
             faults: Faults::new(),
             failed: None,
         }
@@ -173,6 +176,7 @@ impl<H: Hands> Bench<HostWorld> for HostBench<H> {
     }
 
     fn put(&mut self, path: &RelPath, bytes: &[u8], executable: bool) -> Result<(), Failed> {
+        self.files = self.files.saturating_add(1);
         match put_into(&self.tree, &mut self.made, path, bytes, executable) {
             Ok(()) => Ok(()),
             Err(error) => {

@@ -8,20 +8,24 @@ use crate::halting::Halting;
 use crate::hands::Hands;
 use crate::names::FreshNames;
 use crate::runs::Runner;
-use crate::staged::{Staged, give_up};
+use crate::staged::{Staged, clear, give_up};
 use crate::tells::tell;
 use crate::world::HostWorld;
 use rx_streams::Faults;
 use rx_world::{BenchMaker, Failed};
-use std::alloc::AllocError;
+use std::alloc::{AllocError, Global};
 use std::fs::{DirBuilder, Files};
-use std::io;
 use std::io::{Error, ErrorKind};
 use std::os::unix::fs::DirBuilderExt;
 use std::sync::Arc;
+use std::{io, thread};
 
 /// How many names are tried for one directory.
 const MAKE_TRIES: u32 = 4096;
+
+/// The directory of a bench that has put more files is removed by a thread of its own: of fewer, starting the thread
+/// costs as much.
+const FEW_FILES: u64 = 32;
 
 /// The owner alone may enter a staged directory.
 const STAGED_MODE: u32 = 0o700;
@@ -82,6 +86,22 @@ impl<H: Hands> HostBenches<H> {
     }
 }
 
+impl<H: Hands> HostBenches<H> {
+    /// Has a thread give up a bench's use of its directory, so that nobody waits until all that is in it is removed.
+    fn clear_aside(&self, staged: Arc<Staged, Global>) {
+        let rt = self.rt;
+        let Ok(children) = self.children.share() else {
+            let _ = give_up(&rt, staged);
+            return;
+        };
+        children.begin();
+        let clearing = move || clear(rt, staged, children);
+        if let Err(refused) = thread::spawn(&self.hands, clearing) {
+            (refused.value)();
+        }
+    }
+}
+
 /// Makes a directory that wasn't there, and answers its path.
 fn make_root<R: Files + AllocGlobal>(
     rt: &R,
@@ -127,8 +147,12 @@ impl<H: Hands + Send> BenchMaker<HostWorld> for HostBenches<H> {
 
     fn done(&mut self, bench: HostBench<H>) {
         let faults = bench.faults.count;
-        let is_left = give_up(&self.rt, bench.into_staged()).is_err();
-        if faults > 0 || is_left {
+        if bench.files > FEW_FILES {
+            self.clear_aside(bench.into_staged());
+        } else {
+            let _ = give_up(&self.rt, bench.into_staged());
+        }
+        if faults > 0 {
             self.faults.raise();
         }
     }

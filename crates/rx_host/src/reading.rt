@@ -11,6 +11,10 @@ use std::{fs, io};
 /// How often a file is opened anew that another one took the place of while it was opened.
 const OPEN_TRIES: u32 = 8;
 
+/// The most bytes for which room is taken by what the system tells of a file's size. Of a longer file, and of one that
+/// isn't as long as it is told to be, room is taken as its bytes come.
+const MOST_ROOM: u64 = 1 << 20;
+
 /// A path with the bytes of its file; anything else has none.
 #[derive(Drop)]
 pub(crate) struct ReadFile {
@@ -21,8 +25,8 @@ pub(crate) struct ReadFile {
 /// What came of opening a path.
 #[derive(Drop)]
 enum Opened {
-    /// The regular file there.
-    File(File),
+    /// The regular file there, and its size a moment ago.
+    File { file: File, size: u64 },
     /// No regular file stands there.
     Other(Option<Metadata>),
     /// Something else came there meanwhile.
@@ -34,24 +38,32 @@ impl<R: Files<File = File> + AllocGlobal> Below<R> {
     /// there once it was opened; what is told of it is told once they are read.
     pub(crate) fn read(&mut self, path: &RelPath) -> io::Result<ReadFile> {
         for _ in 0..OPEN_TRIES {
-            let mut bytes = Vec::new(self.rt.alloc());
             match self.open(path)? {
-                Opened::File(mut file) => {
-                    file.read_to_end(&mut bytes)?;
-                    let metadata = Some(file.metadata()?);
+                Opened::File { file, size } => return self.read_all(file, size),
+                Opened::Other(metadata) => {
+                    let bytes = Vec::new(self.rt.alloc());
                     return Ok(ReadFile { metadata, bytes });
                 }
-                Opened::Other(metadata) => return Ok(ReadFile { metadata, bytes }),
                 Opened::Replaced => {}
             }
         }
         Err(Error::other("the file was replaced each time it was opened"))
     }
 
+    /// The bytes of a file that had this size a moment ago. With room for one byte more its end shows without growing.
+    fn read_all(&self, file: File, size: u64) -> io::Result<ReadFile> {
+        let mut file = file;
+        let room = size.min(MOST_ROOM) as usize + 1;
+        let mut bytes = Vec::with_capacity(self.rt.alloc(), room)?;
+        file.read_to_end(&mut bytes)?;
+        let metadata = Some(file.metadata()?);
+        Ok(ReadFile { metadata, bytes })
+    }
+
     /// Opens the file at a path: at once, or where that doesn't do, name by name before and after.
     fn open(&mut self, path: &RelPath) -> io::Result<Opened> {
-        if let Some(file) = self.open_at_once(path)? {
-            return Ok(Opened::File(file));
+        if let Some(opened) = self.open_at_once(path)? {
+            return Ok(opened);
         }
         let before = self.find(path)?;
         if !before.is_file() {
@@ -60,22 +72,24 @@ impl<R: Files<File = File> + AllocGlobal> Below<R> {
         let Some(file) = told(fs::open(&self.rt, before.text.as_str()))? else {
             return Ok(Opened::Replaced);
         };
-        if self.find(path)?.is_same(&file.metadata()?) {
-            Ok(Opened::File(file))
+        let metadata = file.metadata()?;
+        if self.find(path)?.is_same(&metadata) {
+            let size = metadata.len();
+            Ok(Opened::File { file, size })
         } else {
             Ok(Opened::Replaced)
         }
     }
 
     /// The regular file at a path, where the system says that what was opened stands there.
-    fn open_at_once(&mut self, path: &RelPath) -> io::Result<Option<File>> {
+    fn open_at_once(&mut self, path: &RelPath) -> io::Result<Option<Opened>> {
         let text = self.text_of(path.as_str())?;
-        match fs::symlink_metadata(&self.rt, text.as_str()) {
-            Ok(metadata) if metadata.is_file() => {}
+        let size = match fs::symlink_metadata(&self.rt, text.as_str()) {
+            Ok(metadata) if metadata.is_file() => metadata.len(),
             _ => return Ok(None),
-        }
+        };
         match fs::open(&self.rt, text.as_str()) {
-            Ok(file) if self.is_in_place(path, &file)? => Ok(Some(file)),
+            Ok(file) if self.is_in_place(path, &file)? => Ok(Some(Opened::File { file, size })),
             _ => Ok(None),
         }
     }

@@ -1,5 +1,6 @@
 //! Staged directories, each of which is removed when it is no longer used.
 
+use crate::children::Children;
 use crate::tells::tell;
 use std::alloc::Global;
 use std::fs::Files;
@@ -28,6 +29,12 @@ pub(crate) fn give_up<R: Files + AllocGlobal + Eprint>(
         Some(last) => remove(rt, last.root.as_str()),
         None => Ok(()),
     }
+}
+
+/// Does so in a thread of its own, for which whoever ends the process waits as for programs.
+pub(crate) fn clear(rt: HostRuntime, staged: Arc<Staged, Global>, children: Children) {
+    let _ = give_up(&rt, staged);
+    children.end();
 }
 
 fn remove<R: Files + AllocGlobal + Eprint>(rt: &R, root: &str) -> io::Result<()> {
