@@ -22,6 +22,8 @@ calls=${2:-50}
 build_reproxy "$top" "${TMPDIR:-/tmp}/reproxy-build.log"
 
 work=$(mktemp -d /tmp/reproxy-bench.XXXXXX)
+# (each sandbox is a directory that is made and removed, which on some disks costs more than all else)
+scratch=${BENCH_SCRATCH:-/dev/shm}
 trap 'rm -rf "$work"' EXIT
 root=$work/root
 mkdir "$root"
@@ -42,23 +44,24 @@ for strategy in "$local" "$racing"; do
     frame 1 "$work/payload" > "$work/request-$strategy"
 done
 
+# (a file that is cut and written again costs a write to the disk, so what is printed goes nowhere)
 run_alone() {
-    "$alone" < /dev/null > "$work/out"
+    "$alone" < /dev/null > /dev/null
 }
 
 run_exec() {
-    "$reproxy" exec --root "$root" < "$work/request-$1" > "$work/out" 2> "$work/log"
+    "$reproxy" exec --root "$root" --scratch "$scratch" < "$work/request-$1" > "$2" 2> /dev/null
 }
 
 for strategy in "$local" "$racing"; do
-    run_exec "$strategy"
+    run_exec "$strategy" "$work/out"
     reply_in_words "$work/out" | grep -qx 'kind: Done' || { echo "the reply is no Done" >&2; exit 1; }
 done
 
 for ((round = 0; round <= rounds; round++)); do
     of_alone=$(time_of run_alone)
-    of_local=$(time_of run_exec "$local")
-    of_racing=$(time_of run_exec "$racing")
+    of_local=$(time_of run_exec "$local" /dev/null)
+    of_racing=$(time_of run_exec "$racing" /dev/null)
     if ((round > 0)); then
         echo "$of_alone $of_local $of_racing"
     fi
