@@ -23,8 +23,8 @@ use std::{io, thread};
 /// How many names are tried for one directory.
 const MAKE_TRIES: u32 = 4096;
 
-/// The directory of a bench that has put more files is removed by a thread of its own: of fewer, starting the thread
-/// costs as much.
+/// The directory of a bench that has put more files is removed by a thread of its own. For fewer no thread is started,
+/// which isn't free either.
 const FEW_FILES: u64 = 32;
 
 /// The owner alone may enter a staged directory.
