@@ -1,15 +1,14 @@
 #!/usr/bin/env bash
 # What the client and a proxy that serves add to steps that read many files, and to a whole build, strategy local: the time of a step that
-# includes 299 headers, whose digests are kept, beside that of g++ alone; and that of a build of 160 such steps with ninja, 16 at once, beside
-# that of the same build without a proxy.
+# includes 299 headers, whose digests are kept, beside that of g++ alone, and of g++ behind a client and a daemon in C that do the same
+# file work (bench/pair.c); and that of a build of 160 such steps with ninja, 16 at once, beside that of the same build without a proxy.
 #
 #   bash bench/builds.sh [ROUNDS]
 #
 # Run by hand, on a machine that does nothing else. All are measured in one run and by turns: each of ROUNDS rounds (10) times four steps
 # of each kind, and one build of each. The script prints the medians over the rounds, and those of the rounds' differences and ratios. The
-# first round warms up and doesn't count. Objects are removed between the rounds. The source tree and the objects are in the variable
-# BENCH_ROOT (/var/tmp). There are two proxies, one with its sandboxes in memory, in BENCH_SCRATCH (/dev/shm), and one with them in /tmp.
-# Where there is no ninja the build is left out.
+# first round warms up and doesn't count. Objects are removed between the rounds. bench/proxies.sh says where the files are. There are two
+# proxies, one with its sandboxes in memory, as the daemon in C has, and one with them in /tmp. Where there is no ninja the build is left out.
 set -eu
 export LC_ALL=C
 
@@ -21,22 +20,12 @@ calls=4
 build_reproxy "$top" "${TMPDIR:-/tmp}/reproxy-build.log"
 build_rewrapper "$top" "${TMPDIR:-/tmp}/rewrapper-build.log"
 
-# How many tenths of a second a proxy may take to begin to listen.
-start_limit=100
 header_count=299
 source_count=160
 at_once=16
 
-work=$(mktemp -d "${BENCH_ROOT:-/var/tmp}/reproxy-bench.XXXXXX")
-scratch=${BENCH_SCRATCH:-/dev/shm}
-proxies=()
-stop() {
-    [ ${#proxies[@]} -eq 0 ] || kill "${proxies[@]}" 2> /dev/null || true
-    rm -rf "$work"
-}
-trap stop EXIT
-root=$work/root
-mkdir -p "$root/include"
+. "$top/bench/proxies.sh"
+mkdir "$root/include"
 cd "$root"
 
 # A header is about 1 kB; the source of the single step includes all, and the ones of the build twenty each.
@@ -60,26 +49,19 @@ for ((source = 0; source < source_count; source++)); do
     echo "int value$source() { return $source; }" >> "source$source.cc"
 done
 
-# serve_at NAME DIRECTORY: a proxy that listens at the socket NAME, and has its sandboxes in DIRECTORY
-serve_at() {
-    "$reproxy" serve --root "$root" --listen "unix://$work/$1" --scratch "$2" --slots "$at_once" 2> "$work/log-$1" &
-    proxies+=($!)
-    for ((tenth = 0; tenth < start_limit; tenth++)); do
-        [ -S "$work/$1" ] && break
-        sleep 0.1
-    done
-}
-serve_at in-memory "$scratch"
-serve_at in-tmp /tmp
-
-# client NAME: the words by which a step goes through the proxy at this socket
-client() {
-    echo "$rewrapper -server_address=unix://$work/$1 -exec_root=$root -exec_strategy=local -labels=type=compile -env_var_allowlist=PATH --"
-}
+serve_at in-memory "$scratch" "$at_once"
+serve_at in-tmp /tmp "$at_once"
+start_pair step.cc include/*/*.h
 
 # step WORDS: the single step, behind these words
 step() {
     $1 g++ -Iinclude -c step.cc -o "step-$call.o"
+}
+
+step_in_c() {
+    if [ -n "$pair" ]; then
+        "$pair" client "$in_c" "step-$call.o" g++ -Iinclude -c step.cc -o "step-$call.o"
+    fi
 }
 
 # ninja_file NAME WORDS: the build file of a build whose steps go behind these words
@@ -120,10 +102,12 @@ for ((round = 0; round <= rounds; round++)); do
     rm step-*.o
     of_tmp=$(time_of step "$in_tmp")
     rm step-*.o
+    of_pair=$(time_of step_in_c)
+    rm -f step-*.o
     builds="0 0 0"
     [ -z "$ninja" ] || builds="$(build alone) $(build through-memory) $(build through-tmp)"
     if ((round > 0)); then
-        echo "$of_alone $of_memory $of_tmp $builds"
+        echo "$of_alone $of_memory $of_tmp $builds $of_pair"
     fi
 done > "$work/times"
 
@@ -140,6 +124,7 @@ ratio() {
 echo "$rounds rounds, by turns; milliseconds"
 echo "a step of $((header_count + 1)) files, g++ alone: $(milliseconds '$1' "$calls")"
 echo "through the proxy, sandboxes in $scratch: it adds $(milliseconds '$2 - $1' "$calls"); in /tmp: $(milliseconds '$3 - $1' "$calls")"
+[ -z "$pair" ] || echo "through the client and daemon in C: it adds $(milliseconds '$7 - $1' "$calls")"
 if [ -n "$ninja" ]; then
     echo "a build of $source_count steps, $at_once at once, g++ alone: $(milliseconds '$4' 1)"
     echo "through the proxy, sandboxes in $scratch: $(ratio '$5 / $4') times as long; in /tmp: $(ratio '$6 / $4') times"

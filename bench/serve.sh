@@ -1,16 +1,15 @@
 #!/usr/bin/env bash
 # What the client and a proxy that serves add to a compile step: the time of `g++ -c` on an empty source through `rewrapper` and
-# `reproxy serve`, strategy local, beside that of g++ alone and, where it is installed, of g++ behind ccache that keeps nothing; what the
-# client's own start costs; and how long the proxy has the processor while 16 sessions wait for a command that sleeps. There is no farm:
+# `reproxy serve`, strategy local, beside that of g++ alone, of g++ behind a client and a daemon in C that do the same file work
+# (bench/pair.c), and, where it is installed, of g++ behind ccache that keeps nothing; what the client's own start costs; and how long the proxy has the processor while 16 sessions wait for a command that sleeps. There is no farm:
 # the remote side of each race has failed by then, so what waits is the local one. Few calls, or a busy machine, tell nothing of a difference.
 #
 #   bash bench/serve.sh [ROUNDS] [CALLS]
 #
 # Run by hand, on a machine that does nothing else. All are measured in one run and by turns: each of ROUNDS rounds (20) times CALLS calls
 # (20) of each. The script prints the median over the rounds of the time per call, and the medians of the rounds' differences. The first
-# round warms up and doesn't count. Each call of a round writes an object of its own, as in a first build. The source tree and the objects
-# are in the variable BENCH_ROOT (/var/tmp). There are two proxies, one with its sandboxes in memory, in BENCH_SCRATCH (/dev/shm), and one
-# with them in /tmp. On ext4 a new file or directory takes the longer the more of its neighbours were removed in the last minutes, and each
+# round warms up and doesn't count. Each call of a round writes an object of its own, as in a first build. bench/proxies.sh says where
+# the files are. There are two proxies, one with its sandboxes in memory, as the daemon in C has, and one with them in /tmp. On ext4 a new file or directory takes the longer the more of its neighbours were removed in the last minutes, and each
 # sandbox that goes is such a neighbour of the next one.
 set -eu
 export LC_ALL=C
@@ -23,47 +22,33 @@ calls=${2:-20}
 build_reproxy "$top" "${TMPDIR:-/tmp}/reproxy-build.log"
 build_rewrapper "$top" "${TMPDIR:-/tmp}/rewrapper-build.log"
 
-# How many tenths of a second the proxy may take to begin to listen.
-start_limit=100
 # How many sessions wait at once, and for how many seconds.
 sleepers=16
 sleep_seconds=5
 
-work=$(mktemp -d "${BENCH_ROOT:-/var/tmp}/reproxy-bench.XXXXXX")
-scratch=${BENCH_SCRATCH:-/dev/shm}
-proxies=()
-stop() {
-    [ ${#proxies[@]} -eq 0 ] || kill "${proxies[@]}" 2> /dev/null || true
-    rm -rf "$work"
-}
-trap stop EXIT
-root=$work/root
-mkdir "$root"
+. "$top/bench/proxies.sh"
 cd "$root"
 : > empty.cc
-
-# serve_at NAME DIRECTORY: a proxy that listens at the socket NAME, and has its sandboxes in DIRECTORY
-serve_at() {
-    "$reproxy" serve --root "$root" --listen "unix://$work/$1" --scratch "$2" --slots "$sleepers" 2> "$work/log-$1" &
-    proxies+=($!)
-    for ((tenth = 0; tenth < start_limit; tenth++)); do
-        [ -S "$work/$1" ] && break
-        sleep 0.1
-    done
-}
-serve_at in-memory "$scratch"
-serve_at in-tmp /tmp
-socket=unix://$work/in-memory
+serve_at in-memory "$scratch" "$sleepers"
+serve_at in-tmp /tmp "$sleepers"
+start_pair empty.cc
+in_memory=$(client in-memory)
+in_tmp=$(client in-tmp)
 
 # In what follows CALL is the number of the call in its round.
 run_alone() {
     g++ -c empty.cc -o "alone-$call.o"
 }
 
-# run_proxy NAME: through the proxy at this socket
+# run_proxy WORDS: behind these words
 run_proxy() {
-    "$rewrapper" -server_address="unix://$work/$1" -exec_root="$root" -exec_strategy=local -labels=type=compile \
-        -env_var_allowlist=PATH -- g++ -c empty.cc -o "through-$call.o"
+    $1 g++ -c empty.cc -o "through-$call.o"
+}
+
+run_pair() {
+    if [ -n "$pair" ]; then
+        "$pair" client "$in_c" "in-c-$call.o" g++ -c empty.cc -o "in-c-$call.o"
+    fi
 }
 
 run_ccache() {
@@ -85,23 +70,24 @@ alone=$(type -P true)
 ccache=$(type -P ccache || true)
 call=0
 run_alone
-for name in in-memory in-tmp; do
-    run_proxy "$name"
+for words in "$in_memory" "$in_tmp"; do
+    run_proxy "$words"
     cmp -s alone-0.o through-0.o || { echo "the object isn't that of g++ alone" >&2; exit 1; }
     rm through-0.o
 done
 
 for ((round = 0; round <= rounds; round++)); do
     of_alone=$(time_of run_alone)
-    of_proxy=$(time_of run_proxy in-memory)
+    of_proxy=$(time_of run_proxy "$in_memory")
     rm through-*.o
-    of_slow=$(time_of run_proxy in-tmp)
+    of_slow=$(time_of run_proxy "$in_tmp")
+    of_pair=$(time_of run_pair)
     of_ccache=$(time_of run_ccache)
     of_client=$(time_of run_client)
     of_true=$(time_of run_true)
     rm ./*.o
     if ((round > 0)); then
-        echo "$of_alone $of_proxy $of_ccache $of_client $of_true $of_slow"
+        echo "$of_alone $of_proxy $of_ccache $of_client $of_true $of_slow $of_pair"
     fi
 done > "$work/times"
 
@@ -114,16 +100,17 @@ echo "$rounds rounds of $calls calls each, by turns; microseconds a call"
 echo "g++ alone: $(microseconds '$1')"
 echo "through rewrapper and reproxy serve, sandboxes in $scratch: $(microseconds '$2'), which adds $(microseconds '$2 - $1')"
 echo "the same, sandboxes in /tmp: $(microseconds '$6'), which adds $(microseconds '$6 - $1')"
+[ -z "$pair" ] || echo "through the client and daemon in C: $(microseconds '$7'), which adds $(microseconds '$7 - $1')"
 [ -z "$ccache" ] || echo "behind ccache: $(microseconds '$3'), which adds $(microseconds '$3 - $1')"
 echo "rewrapper --help: $(microseconds '$4'), and $alone: $(microseconds '$5')"
 
 # hundredths of a second that the proxy has had a processor
 ticks_of_proxy() {
-    awk '{ print $14 + $15 }' "/proc/${proxies[0]}/stat"
+    awk '{ print $14 + $15 }' "/proc/${started[0]}/stat"
 }
 
 run_sleeper() {
-    "$rewrapper" -server_address="$socket" -exec_root="$root" -exec_strategy=racing -env_var_allowlist=PATH -- sleep "$sleep_seconds"
+    "$rewrapper" -server_address="unix://$work/in-memory" -exec_root="$root" -exec_strategy=racing -env_var_allowlist=PATH -- sleep "$sleep_seconds"
 }
 
 clients=()
