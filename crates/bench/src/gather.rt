@@ -65,27 +65,43 @@ fn gather_timed(
 /// Gathers so many times, and tells once what it is.
 fn measure(rt: &HostRuntime, waits: &impl Wait, task: Task) -> Result<(), Fault> {
     let alloc = rt.alloc();
-    let work = task.work;
     let mut headers = Headers::new(alloc, task.headers)?;
     let shared = DigestCache::new(alloc, DIGEST_CACHE_LIMIT)?;
-    let first = gather_work(waits, alloc, &mut headers, &shared, work)?;
-    println!(rt; "{} files", first.files.len())?;
+    let files = gather_work(waits, alloc, &mut headers, &shared, task.work)?
+        .files
+        .len();
+    println!(rt; "{files} files")?;
+    time_rounds(rt, waits, &mut headers, &shared, task)
+}
+
+fn time_rounds(
+    rt: &HostRuntime,
+    waits: &impl Wait,
+    headers: &mut Headers,
+    shared: &DigestCache<Toy<Brand>>,
+    task: Task,
+) -> Result<(), Fault> {
     for _ in 0..task.rounds {
-        match work {
-            Work::CompileWarm | Work::ToolWarm => gather_timed(
-                rt,
-                waits,
-                &mut headers,
-                &shared,
-                work,
-            )?,
-            Work::CompileCold | Work::ToolCold => {
-                let cache = DigestCache::new(alloc, DIGEST_CACHE_LIMIT)?;
-                gather_timed(rt, waits, &mut headers, &cache, work)?
-            }
-        };
+        time_round(rt, waits, headers, shared, task.work)?;
     }
     Ok(())
+}
+
+/// Gathers over the digests that are kept, or over none.
+fn time_round(
+    rt: &HostRuntime,
+    waits: &impl Wait,
+    headers: &mut Headers,
+    shared: &DigestCache<Toy<Brand>>,
+    work: Work,
+) -> Result<Gathered, Fault> {
+    match work {
+        Work::CompileWarm | Work::ToolWarm => gather_timed(rt, waits, headers, shared, work),
+        Work::CompileCold | Work::ToolCold => {
+            let cache = DigestCache::new(rt.alloc(), DIGEST_CACHE_LIMIT)?;
+            gather_timed(rt, waits, headers, &cache, work)
+        }
+    }
 }
 
 /// Does what the words ask for.

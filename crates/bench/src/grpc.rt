@@ -116,13 +116,23 @@ fn measure<H: Hands>(rt: HostRuntime, hands: H, task: &Task, address: &str) -> R
         Work::Calls => Vec::new(rt.alloc()),
         Work::Write | Work::Read => blob_of(rt.alloc(), task.size)?,
     };
-    let digest = digest_of(&blob);
     let mut farm = farm_at(rt, hands, address)?;
-    ask(&mut farm, 1)?;
+    time_rounds(&rt, &mut farm, task, &blob)
+}
+
+/// Makes the connection, and times the rounds over it.
+fn time_rounds<H: Hands>(
+    rt: &HostRuntime,
+    farm: &mut HostFarm<H>,
+    task: &Task,
+    blob: &[u8],
+) -> Result<(), Fault> {
+    let digest = digest_of(blob);
+    ask(farm, 1)?;
     for _ in 0..task.rounds {
-        let begin = Instant::now(&rt)?;
-        call(&mut farm, task, &digest, &blob)?;
-        let micros = begin.elapsed(&rt)?.as_micros();
+        let begin = Instant::now(rt)?;
+        call(farm, task, &digest, blob)?;
+        let micros = begin.elapsed(rt)?.as_micros();
         eprintln!(rt; "{micros}")?;
     }
     Ok(())

@@ -8,6 +8,7 @@ use rx_exec_messages::{Ask, Caller, NamedBlob, Operation, Script};
 use rx_rows::{Answer, Row, RowFault};
 use rx_world::{CallFault, Dialect, Toy, World};
 use std::alloc::Global;
+use std::fmt::Debug;
 use std::marker::Brand;
 
 /// Writes what each call was answered, and how many of them failed.
@@ -56,28 +57,53 @@ fn make<W: World, C: Caller<W>>(
     answer: &mut Answer,
 ) -> Result<(), RowFault> {
     match ask {
-        Ask::Capabilities => answer.value(&farm.capabilities())?,
-        Ask::GetResult(action) => answer.value(&farm.get_result(action))?,
-        Ask::FindMissing(digests) => match farm.find_missing(digests.as_slice()) {
-            Ok(missing) => write_digests(missing.as_slice(), names, answer)?,
-            Err(fault) => answer.value(&fault)?,
-        },
-        Ask::Update(digests) => {
-            let blobs = empty_blobs(alloc, digests.as_slice())?;
-            write_stored(farm.update(blobs.as_slice()), names, answer)?;
+        Ask::Capabilities => write_value(&farm.capabilities(), answer),
+        Ask::GetResult(action) => write_value(&farm.get_result(action), answer),
+        Ask::FindMissing(digests) => {
+            write_missing(&farm.find_missing(digests.as_slice()), names, answer)
         }
-        Ask::WriteStream(digest) => write_stored(farm.write_stream(digest, b""), names, answer)?,
+        Ask::Update(digests) => { update::<W, C>(alloc, farm, digests.as_slice(), names, answer) }
+        Ask::WriteStream(digest) => write_stored(farm.write_stream(digest, b""), names, answer),
         Ask::Execute { action, skip_cache } => match farm.execute(action, *skip_cache) {
-            Ok(()) => write_state(&farm.next_operation(), answer)?,
-            Err(fault) => answer.value(&fault)?,
+            Ok(()) => write_state(&farm.next_operation(), answer),
+            Err(fault) => write_value(&fault, answer),
         },
         Ask::Wait(name) => match farm.wait(name.as_str()) {
-            Ok(()) => write_state(&farm.next_operation(), answer)?,
-            Err(fault) => answer.value(&fault)?,
+            Ok(()) => write_state(&farm.next_operation(), answer),
+            Err(fault) => write_value(&fault, answer),
         },
-        Ask::Read(_) | Ask::ReadStream(_) | Ask::NextOperation => return Err(RowFault::BadCall),
+        Ask::Read(_) | Ask::ReadStream(_) | Ask::NextOperation => Err(RowFault::BadCall),
+    }
+}
+
+fn write_value(value: &impl Debug, answer: &mut Answer) -> Result<(), RowFault> {
+    answer.value(value)?;
+    Ok(())
+}
+
+/// Writes the digests that a farm lacks, or the fault.
+fn write_missing(
+    missing: &Result<Items<Digest>, CallFault>,
+    names: &Names,
+    answer: &mut Answer,
+) -> Result<(), RowFault> {
+    match missing {
+        Ok(missing) => write_digests(missing.as_slice(), names, answer)?,
+        Err(fault) => answer.value(fault)?,
     }
     Ok(())
+}
+
+/// Updates blobs of these digests, and writes what that was answered.
+fn update<W: World, C: Caller<W>>(
+    alloc: Global,
+    farm: &mut C,
+    digests: &[Digest],
+    names: &Names,
+    answer: &mut Answer,
+) -> Result<(), RowFault> {
+    let blobs = empty_blobs(alloc, digests)?;
+    write_stored(farm.update(blobs.as_slice()), names, answer)
 }
 
 /// Blobs of these digests; the client in memory doesn't read their bytes.

@@ -4,18 +4,15 @@
 ghost use Rattle.std.specs.Prelude.{IfOk};
 ghost use Rattle.rx_blobs.specs.Uploads.{AreMade};
 
-use crate::answers::{write_digests, write_why};
 use crate::lines::read_lines;
 use crate::names::Names;
-use crate::uploads::{input_file, tree_of};
+use crate::uploads::{Uploads, input_file, tree_of};
 use rx_base::{Items, TryClone};
-use rx_blobs::{Blob, Presence, ToUpload, upload};
-use rx_exec_messages::{Ask, Script};
-use rx_fakes::MemorySources;
+use rx_blobs::{Blob, ToUpload};
+use rx_exec_messages::Ask;
 use rx_rows::{Answer, Row, RowFault};
-use rx_world::{Dialect, InputFile, Toy};
+use rx_world::InputFile;
 use std::alloc::Global;
-use std::marker::Brand;
 use std::sync::Wait;
 
 /// Writes what the upload answered, and of each call how many digests it asked for.
@@ -29,26 +26,15 @@ pub(crate) fn answer_copies<R: Wait>(
     let count = row.number()?;
     let blobs = copies_of(alloc, &input_file(alloc, b"aa")?, count)?;
     let lines = read_lines(alloc, row, &mut names)?;
-    let mut farm = Script::new(alloc, lines, Dialect::New);
-    let mut sources = tree_of(alloc, "")?;
+    let sources = tree_of(alloc, "")?;
+    let mut uploads = Uploads::new(alloc, names, sources, lines, 0);
     let what = ToUpload {
         blobs: blobs.as_slice(),
         most: 0,
         fresh: false,
     };
-    let presence = Presence::new(alloc, 0);
-    match upload::<Toy<Brand>, Script, MemorySources<Brand>, R>(
-        rt,
-        alloc,
-        &mut farm,
-        &mut sources,
-        &presence,
-        &what,
-    ) {
-        Ok(left_out) => write_digests(left_out.as_slice(), &names, answer)?,
-        Err(fault) => write_why(&fault, &names, answer)?,
-    }
-    write_counts(farm.asks(), answer)
+    uploads.answer_one(rt, alloc, &what, answer)?;
+    write_counts(uploads.farm.asks(), answer)
 }
 
 /// The file so many times.

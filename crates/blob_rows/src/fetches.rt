@@ -4,7 +4,8 @@
 use crate::answers::{write_asks, write_texts, write_why};
 use crate::lines::read_lines;
 use crate::names::Names;
-use rx_blobs::fetch;
+use rx_base::{Bytes, Items};
+use rx_blobs::{BlobFault, fetch};
 use rx_exec_messages::Script;
 use rx_rows::{Answer, Row, RowFault};
 use rx_world::{Dialect, Toy};
@@ -22,11 +23,21 @@ pub(crate) fn answer_fetch(
     let wanted = names.read_digests(row)?;
     let lines = read_lines(alloc, row, &mut names)?;
     let mut farm = Script::new(alloc, lines, Dialect::New);
-    match fetch::<Toy<Brand>, Script>(alloc, &mut farm, wanted.as_slice(), most) {
+    let fetched = fetch::<Toy<Brand>, Script>(alloc, &mut farm, wanted.as_slice(), most);
+    write_fetched(&fetched, &farm, &names, answer)
+}
+
+fn write_fetched(
+    fetched: &Result<Items<Bytes>, BlobFault>,
+    farm: &Script,
+    names: &Names,
+    answer: &mut Answer,
+) -> Result<(), RowFault> {
+    match fetched {
         Ok(texts) => write_texts(texts.as_slice(), answer)?,
-        Err(fault) => write_why(&fault, &names, answer)?,
+        Err(fault) => write_why(fault, names, answer)?,
     }
-    write_asks(farm.asks(), &names, answer)?;
+    write_asks(farm.asks(), names, answer)?;
     answer.word("faults")?;
     answer.number(farm.faults())?;
     Ok(())

@@ -56,11 +56,9 @@ impl Names {
 
     /// Writes the text that has the digest, or `?` where the row has none.
     pub(crate) fn write(&self, digest: &Digest, answer: &mut Answer) -> Result<(), NoMemory> {
-        for name in &self.all {
-            if name.digest == *digest {
-                return answer.text(&name.text);
-            }
+        match self.all.iter().find(|name| name.digest == *digest) {
+            Some(name) => answer.text(&name.text),
+            None => answer.word("?"),
         }
-        answer.word("?")
     }
 }

@@ -11,7 +11,7 @@ use crate::lines::read_lines;
 use crate::names::Names;
 use rx_base::{Bytes, Items, RelPath, digest_of};
 use rx_blobs::{Blob, Presence, ToUpload, upload};
-use rx_exec_messages::{NamedBlob, Script};
+use rx_exec_messages::{NamedBlob, Script, ScriptLine};
 use rx_fakes::{MemorySources, TreeFault, read_tree};
 use rx_row_values::{path_of, read_string};
 use rx_rows::{Answer, Row, RowFault};
@@ -28,44 +28,86 @@ pub(crate) fn answer_upload<R: Wait>(
     row: &mut Row<'_>,
     answer: &mut Answer,
 ) -> Result<(), RowFault> {
-    let mut names = Names::new(alloc);
-    let limit = row.number()?;
+    let limit = usize::try_from(row.number()?).map_err(|_| RowFault::BadNumber)?;
     let most = row.number()?;
     let (times, fresh) = read_times(row)?;
+    let mut names = Names::new(alloc);
     let blobs = read_blobs(alloc, row, &mut names)?;
-    let mut sources = read_sources(alloc, row)?;
+    let sources = read_sources(alloc, row)?;
     let lines = read_lines(alloc, row, &mut names)?;
-    let mut farm = Script::new(alloc, lines, Dialect::New);
-    let presence = Presence::new(
-        alloc,
-        usize::try_from(limit).map_err(|_| RowFault::BadNumber)?,
-    );
+    let mut uploads = Uploads::new(alloc, names, sources, lines, limit);
     for round in 0..times {
         let what = ToUpload {
             blobs: blobs.as_slice(),
             most,
             fresh: fresh && round > 0,
         };
+        uploads.answer_one(rt, alloc, &what, answer)?;
+    }
+    uploads.write_end(answer)
+}
+
+/// What the uploads of a row go over, one after the other.
+#[derive(Drop)]
+pub(crate) struct Uploads {
+    pub(crate) farm: Script,
+    sources: MemorySources<Brand>,
+    presence: Presence,
+    names: Names,
+}
+
+impl Uploads {
+    /// A farm that answers these lines, a source tree, and a set of at most so many digests.
+    pub(crate) fn new(
+        alloc: Global,
+        names: Names,
+        sources: MemorySources<Brand>,
+        lines: Vec<ScriptLine>,
+        limit: usize,
+    ) -> Uploads {
+        Uploads {
+            farm: Script::new(alloc, lines, Dialect::New),
+            sources,
+            presence: Presence::new(alloc, limit),
+            names,
+        }
+    }
+
+    /// Uploads once, and writes the answer.
+    pub(crate) fn answer_one<R: Wait>(
+        &mut self,
+        rt: &R,
+        alloc: Global,
+        what: &ToUpload<'_>,
+        answer: &mut Answer,
+    ) -> Result<(), RowFault>
+        requires { AreMade what.now.blobs.now }
+    {
         let result = upload::<Toy<Brand>, Script, MemorySources<Brand>, R>(
             rt,
             alloc,
-            &mut farm,
-            &mut sources,
-            &presence,
-            &what,
+            &mut self.farm,
+            &mut self.sources,
+            &self.presence,
+            what,
         );
-        name_reads(&sources, &mut names)?;
+        name_reads(&self.sources, &mut self.names)?;
         match result {
-            Ok(left_out) => write_digests(left_out.as_slice(), &names, answer)?,
-            Err(fault) => write_why(&fault, &names, answer)?,
+            Ok(left_out) => write_digests(left_out.as_slice(), &self.names, answer)?,
+            Err(fault) => write_why(&fault, &self.names, answer)?,
         }
+        Ok(())
     }
-    write_asks(farm.asks(), &names, answer)?;
-    answer.word("faults")?;
-    answer.number(farm.faults())?;
-    answer.word("reads")?;
-    answer.number(sources.reads() as u64)?;
-    Ok(())
+
+    /// Writes the calls that were made, how many of them failed, and how many files were read.
+    fn write_end(&self, answer: &mut Answer) -> Result<(), RowFault> {
+        write_asks(self.farm.asks(), &self.names, answer)?;
+        answer.word("faults")?;
+        answer.number(self.farm.faults())?;
+        answer.word("reads")?;
+        answer.number(self.sources.reads() as u64)?;
+        Ok(())
+    }
 }
 
 /// How many uploads there are, and whether those behind the first are fresh.
@@ -129,12 +171,9 @@ fn read_blob(alloc: Global, text: &[u8], names: &mut Names) -> Result<Blob, RowF
 
 /// The file at the path of a text, as it is gathered where it has just this text.
 pub(crate) fn input_file(alloc: Global, content: &[u8]) -> Result<InputFile, RowFault> {
-    let Ok(name) = std::str::from_utf8(content) else {
-        return Err(RowFault::BadText);
-    };
-    let path: RelPath = path_of(alloc, name)?;
+    let name = std::str::from_utf8(content).map_err(|_| RowFault::BadText)?;
     Ok(InputFile {
-        path,
+        path: path_of(alloc, name)?,
         digest: digest_of(content),
         stamp: Stamp {
             size: content.len() as u64,

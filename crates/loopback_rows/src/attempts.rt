@@ -42,46 +42,71 @@ pub(crate) fn run<H: Hands>(
     hands: H,
     job: Job,
 ) -> Result<End<Outcome, RemoteCause>, RowFault> {
+    let mut farm = client(rt, hands, job.address.as_str())?;
+    let end = run_over(rt, &hands, &mut farm, &job);
+    let _closed = farm.hang_up();
+    end
+}
+
+/// Writes the input, and looks at it. How the attempt on it ends.
+fn run_over<H: Hands>(
+    rt: HostRuntime,
+    hands: &H,
+    farm: &mut HostFarm<H>,
+    job: &Job,
+) -> Result<End<Outcome, RemoteCause>, RowFault> {
     let alloc = rt.alloc();
     let path = format!(in alloc; "{}/a", job.root)?;
     if fs::write(&rt, path.as_str(), job.text.as_slice()).is_err() {
         return Err(RowFault::BadCall);
     }
-    let mut sources = HostSources::new(rt, job.root);
+    let root = String::from_str(alloc, job.root.as_str())?;
+    let mut sources = HostSources::new(rt, root);
     let mut files = Items::new(alloc);
     files.push(input(&mut sources, path_of(alloc, "a")?, &job.text)?)?;
-    let tree = tree_of(alloc, files.as_slice())?;
-    let mut farm = client(rt, hands, job.address)?;
+    attempt(
+        hands,
+        alloc,
+        farm,
+        &mut sources,
+        files.as_slice(),
+        job.accept_cached,
+    )
+}
+
+fn attempt<H: Hands>(
+    hands: &H,
+    alloc: Global,
+    farm: &mut HostFarm<H>,
+    sources: &mut HostSources<HostRuntime>,
+    files: &[InputFile],
+    accept_cached: bool,
+) -> Result<End<Outcome, RemoteCause>, RowFault> {
+    let tree = tree_of(alloc, files)?;
     let job = RemoteJob {
         command: &command(alloc)?,
-        accept_cached: job.accept_cached,
+        accept_cached,
         tree: &tree,
-        files: files.as_slice(),
+        files,
         presence: &Presence::new(alloc, PRESENT),
     };
     let mut stop = Unstopped {
         attempt: Attempt::Remote,
     };
-    let end = run_remote::<HostWorld, HostFarm<H>, HostSources<HostRuntime>, Unstopped, _>(
-        &hands,
-        alloc,
-        &job,
-        &mut farm,
-        &mut sources,
-        &mut stop,
-    );
-    let _closed = farm.hang_up();
-    Ok(end)
+    Ok(run_remote::<HostWorld, HostFarm<H>, HostSources<HostRuntime>, Unstopped, _>(
+        hands, alloc, &job, farm, sources, &mut stop,
+    ))
 }
 
 /// A client of the farm at an address. The names of its uploads are drawn from one seed.
-fn client<H: Hands>(rt: HostRuntime, hands: H, address: String) -> Result<HostFarm<H>, RowFault> {
+fn client<H: Hands>(rt: HostRuntime, hands: H, address: &str) -> Result<HostFarm<H>, RowFault> {
     let alloc = rt.alloc();
     let authority = Vec::from_slice(alloc, address.as_bytes())?;
     if authority.len() > MOST_ADDRESS {
         return Err(RowFault::BadCall);
     }
-    let dial = HostDial::new(rt, hands, Some(address), Halting::new(alloc)?);
+    let address = Some(String::from_str(alloc, address)?);
+    let dial = HostDial::new(rt, hands, address, Halting::new(alloc)?);
     let instance = Text::new(alloc);
     let caller = GrpcCaller::new(alloc, dial, authority, instance, [7; 32]);
     Ok(HostFarm::new(caller))

@@ -13,7 +13,17 @@ use std::alloc::Global;
 pub(crate) fn call(alloc: Global, row: &mut Row<'_>, answer: &mut Answer) -> Result<(), RowFault> {
     let command = command(alloc, row)?;
     let dialect = dialect(row)?;
-    match action_of(alloc, &command, &digest_of(b"abc"), dialect) {
+    write_action(alloc, &command, dialect, answer)
+}
+
+/// Writes the action of a command on the input root of `abc`.
+fn write_action(
+    alloc: Global,
+    command: &Command,
+    dialect: Dialect,
+    answer: &mut Answer,
+) -> Result<(), RowFault> {
+    match action_of(alloc, command, &digest_of(b"abc"), dialect) {
         Ok(key) => write_key(alloc, &key, answer),
         Err(ActionFault::NoMemory) => Err(RowFault::NoMemory),
         Err(fault) => {

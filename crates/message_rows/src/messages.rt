@@ -17,26 +17,31 @@ use std::alloc::Global;
 pub(crate) fn call(alloc: Global, row: &mut Row<'_>, answer: &mut Answer) -> Result<(), RowFault> {
     let kind = row.word()?;
     let bytes = row.text(alloc)?;
+    call_kind(alloc, kind, &bytes, answer)
+}
+
+/// Reads and writes one message of this kind.
+fn call_kind(alloc: Global, kind: &str, bytes: &[u8], answer: &mut Answer) -> Result<(), RowFault> {
     match kind {
-        "Digest" => again::<Digest>(alloc, &bytes, answer),
-        "FileNode" => again::<FileNode>(alloc, &bytes, answer),
-        "DirectoryNode" => again::<DirectoryNode>(alloc, &bytes, answer),
-        "SymlinkNode" => again::<SymlinkNode>(alloc, &bytes, answer),
-        "Directory" => again::<Directory>(alloc, &bytes, answer),
-        "Tree" => again::<Tree>(alloc, &bytes, answer),
-        "EnvironmentVariable" => again::<EnvironmentVariable>(alloc, &bytes, answer),
-        "Property" => again::<Property>(alloc, &bytes, answer),
-        "Platform" => again::<Platform>(alloc, &bytes, answer),
-        "Command" => again::<Command>(alloc, &bytes, answer),
-        "Duration" => again::<Duration>(alloc, &bytes, answer),
-        "Action" => again::<Action>(alloc, &bytes, answer),
-        "OutputFile" => again::<OutputFile>(alloc, &bytes, answer),
-        "OutputDirectory" => again::<OutputDirectory>(alloc, &bytes, answer),
-        "OutputSymlink" => again::<OutputSymlink>(alloc, &bytes, answer),
-        "ActionResult" => again::<ActionResult>(alloc, &bytes, answer),
-        "Any" => again::<Any>(alloc, &bytes, answer),
-        "Status" => again::<Status>(alloc, &bytes, answer),
-        _ => call_storage(alloc, kind, &bytes, answer),
+        "Digest" => again::<Digest>(alloc, bytes, answer),
+        "FileNode" => again::<FileNode>(alloc, bytes, answer),
+        "DirectoryNode" => again::<DirectoryNode>(alloc, bytes, answer),
+        "SymlinkNode" => again::<SymlinkNode>(alloc, bytes, answer),
+        "Directory" => again::<Directory>(alloc, bytes, answer),
+        "Tree" => again::<Tree>(alloc, bytes, answer),
+        "EnvironmentVariable" => again::<EnvironmentVariable>(alloc, bytes, answer),
+        "Property" => again::<Property>(alloc, bytes, answer),
+        "Platform" => again::<Platform>(alloc, bytes, answer),
+        "Command" => again::<Command>(alloc, bytes, answer),
+        "Duration" => again::<Duration>(alloc, bytes, answer),
+        "Action" => again::<Action>(alloc, bytes, answer),
+        "OutputFile" => again::<OutputFile>(alloc, bytes, answer),
+        "OutputDirectory" => again::<OutputDirectory>(alloc, bytes, answer),
+        "OutputSymlink" => again::<OutputSymlink>(alloc, bytes, answer),
+        "ActionResult" => again::<ActionResult>(alloc, bytes, answer),
+        "Any" => again::<Any>(alloc, bytes, answer),
+        "Status" => again::<Status>(alloc, bytes, answer),
+        _ => call_storage(alloc, kind, bytes, answer),
     }
 }
 

@@ -2,6 +2,8 @@
 //! action cache or doesn't. The answer is the first ask, and then the ask after each event, or the
 //! end.
 
+ghost use Rattle.rx_base.specs.SortedPaths.{AreSorted};
+
 use crate::answers::write_ask;
 use crate::commands::task;
 use crate::events::read_heard;
@@ -38,29 +40,56 @@ fn take_turn(
     state: RemoteState,
     answer: &mut Answer,
 ) -> Result<RemoteState, RowFault> {
-    let word = row.word()?;
-    let (state, ask) = if word == "states" {
-        hear_states(alloc, row, state)?
-    } else {
-        hear(alloc, state, read_heard(alloc, word, row)?)?
-    };
+    let (state, ask) = hear_next(alloc, row, state)?;
     write_ask(alloc, &ask, answer)?;
     Ok(state)
 }
 
+fn hear_next(
+    alloc: Global,
+    row: &mut Row<'_>,
+    state: RemoteState,
+) -> Result<(RemoteState, Ask), RowFault> {
+    match row.word()? {
+        "states" => hear_states(alloc, row, state),
+        word => hear_event(alloc, word, row, state),
+    }
+}
+
+/// The step of an event by its first word.
+fn hear_event(
+    alloc: Global,
+    word: &str,
+    row: &mut Row<'_>,
+    state: RemoteState,
+) -> Result<(RemoteState, Ask), RowFault> {
+    let heard = read_heard(alloc, word, row)?;
+    hear(alloc, state, heard)
+}
+
 /// The step of what was heard. `BadCall` after the end.
 fn hear(alloc: Global, state: RemoteState, heard: Heard) -> Result<(RemoteState, Ask), RowFault> {
+    // The task is made anew, so that its outputs are known to be sorted.
+    let task = task(alloc, state.task.accept_cached)?;
     let RemoteState {
-        task: kept,
+        task: _,
         marks,
         phase,
     } = state;
-    if phase == Phase::Ended {
+    hear_before_end(alloc, RemoteState { task, marks, phase }, heard)
+}
+
+fn hear_before_end(
+    alloc: Global,
+    state: RemoteState,
+    heard: Heard,
+) -> Result<(RemoteState, Ask), RowFault>
+    requires { AreSorted state.task.command.outputs }
+{
+    if state.phase == Phase::Ended {
         return Err(RowFault::BadCall);
     }
-    // The task is made anew, so that its outputs are known to be sorted.
-    let task = task(alloc, kept.accept_cached)?;
-    Ok(step(alloc, RemoteState { task, marks, phase }, heard)?)
+    Ok(step(alloc, state, heard)?)
 }
 
 /// The steps of `states COUNT NAME`: so many states of an execution that isn't done, one at least.
@@ -72,9 +101,18 @@ fn hear_states(
 ) -> Result<(RemoteState, Ask), RowFault> {
     let count = row.number()?;
     let name = read_name(alloc, row)?;
-    let mut next = hear_state(alloc, state, &name)?;
+    hear_times(alloc, state, &name, count)
+}
+
+fn hear_times(
+    alloc: Global,
+    state: RemoteState,
+    name: &Text,
+    count: u64,
+) -> Result<(RemoteState, Ask), RowFault> {
+    let mut next = hear_state(alloc, state, name)?;
     for _ in 1..count {
-        next = hear_state(alloc, next.0, &name)?;
+        next = hear_state(alloc, next.0, name)?;
     }
     Ok(next)
 }

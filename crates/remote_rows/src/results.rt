@@ -16,28 +16,33 @@ pub(crate) fn read_result(
     alloc: Global,
     row: &mut Row<'_>,
 ) -> Result<Option<ActionResult>, RowFault> {
-    let word = row.word()?;
-    if word == "none" {
-        return Ok(None);
+    match row.word()? {
+        "none" => Ok(None),
+        "code1" => Ok(Some(code_1(alloc)?)),
+        word => {
+            let files = outputs_of(alloc, word)?;
+            Ok(Some(result_with(alloc, 0, files)))
+        }
     }
-    let mut result = code_alone(alloc, 0);
-    match word {
-        "inline" => result.output_files.push(output(alloc, b"abc")?)?,
-        "dotted" => result.output_files.push(output_at(alloc, "./b", b"abc")?)?,
-        "outside" => result.output_files.push(output_at(alloc, "../b", b"abc")?)?,
-        "apart" => result.output_files.push(output(alloc, b"")?)?,
-        "spoiled" => result.output_files.push(output(alloc, b"abd")?)?,
-        "absent" => {}
-        "code1" => result = code_1(alloc)?,
-        _ => return Err(RowFault::BadCall),
-    }
-    Ok(Some(result))
 }
 
-/// A result with this code, without texts and outputs.
-fn code_alone(alloc: Global, exit_code: i32) -> ActionResult {
+/// The outputs of a result by its name.
+fn outputs_of(alloc: Global, word: &str) -> Result<Items<OutputFile>, RowFault> {
+    match word {
+        "inline" => one_output(alloc, "b", b"abc"),
+        "dotted" => one_output(alloc, "./b", b"abc"),
+        "outside" => one_output(alloc, "../b", b"abc"),
+        "apart" => one_output(alloc, "b", b""),
+        "spoiled" => one_output(alloc, "b", b"abd"),
+        "absent" => Ok(Items::new(alloc)),
+        _ => Err(RowFault::BadCall),
+    }
+}
+
+/// A result with this code and these outputs, without texts.
+fn result_with(alloc: Global, exit_code: i32, output_files: Items<OutputFile>) -> ActionResult {
     ActionResult {
-        output_files: Items::new(alloc),
+        output_files,
         output_directories: Items::new(alloc),
         exit_code,
         stdout_raw: Bytes::new(alloc),
@@ -51,22 +56,20 @@ fn code_alone(alloc: Global, exit_code: i32) -> ActionResult {
 
 /// A result with code 1 and `no` on standard error.
 fn code_1(alloc: Global) -> Result<ActionResult, NoMemory> {
-    let mut result = code_alone(alloc, 1);
-    result.stderr_raw = Bytes::copy_of(alloc, b"no")?;
+    let text = Bytes::copy_of(alloc, b"no")?;
+    let mut result = result_with(alloc, 1, Items::new(alloc));
+    result.stderr_raw = text;
     Ok(result)
 }
 
-/// The output `b` with the digest of `abc`, and with these contents in the result.
-fn output(alloc: Global, contents: &[u8]) -> Result<OutputFile, NoMemory> {
-    output_at(alloc, "b", contents)
-}
-
-/// The same at another path.
-fn output_at(alloc: Global, path: &str, contents: &[u8]) -> Result<OutputFile, NoMemory> {
-    Ok(OutputFile {
+/// One output at a path, with the digest of `abc`, and with these contents in the result.
+fn one_output(alloc: Global, path: &str, contents: &[u8]) -> Result<Items<OutputFile>, RowFault> {
+    let mut files = Items::new(alloc);
+    files.push(OutputFile {
         path: Text::copy_of(alloc, path)?,
         digest: Some(digest_of(b"abc")),
         is_executable: false,
         contents: Bytes::copy_of(alloc, contents)?,
-    })
+    })?;
+    Ok(files)
 }

@@ -88,13 +88,15 @@ impl Publications {
             return Err(RowFault::BadCall);
         };
         let (place, journal) = board.into_parts();
-        answer.word("calls")?;
-        answer.number(place.script.calls)?;
-        answer.word("faults")?;
-        answer.number(place.script.faults)?;
-        answer.word("entries")?;
-        answer.number(journal.len() as u64)?;
+        let (calls, faults) = (place.script.calls, place.script.faults);
+        let entries = journal.len() as u64;
         self.opened = Opened::Closed { place, journal };
+        answer.word("calls")?;
+        answer.number(calls)?;
+        answer.word("faults")?;
+        answer.number(faults)?;
+        answer.word("entries")?;
+        answer.number(entries)?;
         Ok(())
     }
 

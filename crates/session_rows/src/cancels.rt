@@ -4,7 +4,7 @@ use crate::arguments::read_frame;
 use crate::streams::read_script;
 use rx_fakes::MemorySource;
 use rx_rows::{Answer, Row, RowFault};
-use rx_session::{CANCEL, read_cancel};
+use rx_session::{CANCEL, CancelReason, read_cancel};
 use std::alloc::Global;
 
 /// `cancel_frame`: the frame by which a client cancels.
@@ -26,7 +26,11 @@ pub(crate) fn answer_cancel(
     source.most = 1;
     let mut all = Vec::from_slice(alloc, b"before")?;
     let reason = read_cancel(&mut source, &mut all)?;
-    answer.bytes(&all)?;
+    write_cancel(&all, reason, answer)
+}
+
+fn write_cancel(all: &[u8], reason: CancelReason, answer: &mut Answer) -> Result<(), RowFault> {
+    answer.bytes(all)?;
     answer.value(&reason)?;
     Ok(())
 }

@@ -9,7 +9,7 @@ use rx_session::{
     Incoming, Request, SHUTDOWN, SHUTDOWN_DONE, SessionFault, command_for, declared_inputs,
     read_incoming,
 };
-use rx_world::Pair;
+use rx_world::{Command, Pair};
 use std::alloc::{AllocError, Global};
 
 /// Reads a frame of the root `/r`, from a source that gives one byte a call. What was read takes the
@@ -45,11 +45,19 @@ pub(crate) fn answer_request(
     let frame = read_frame(alloc, row)?;
     let mut all = Vec::new(alloc);
     let incoming = read(alloc, frame, script, &mut all);
-    answer.number(all.len() as u64)?;
+    write_incoming(all.len(), &incoming, answer)
+}
+
+fn write_incoming(
+    read: usize,
+    incoming: &Result<Incoming, SessionFault>,
+    answer: &mut Answer,
+) -> Result<(), RowFault> {
+    answer.number(read as u64)?;
     match incoming {
-        Ok(Incoming::Request(request)) => write_request(&request, answer)?,
+        Ok(Incoming::Request(request)) => write_request(request, answer)?,
         Ok(Incoming::Shutdown) => answer.word("Shutdown")?,
-        Err(fault) => write_fault(&fault, answer)?,
+        Err(fault) => write_fault(fault, answer)?,
     }
     Ok(())
 }
@@ -62,9 +70,13 @@ pub(crate) fn answer_taken(
 ) -> Result<(), RowFault> {
     let frame = read_frame(alloc, row)?;
     let mut all = Vec::from_slice(alloc, b"before")?;
-    let incoming = read(alloc, frame, Script::empty(alloc), &mut all);
-    answer.value(&incoming.is_ok())?;
-    answer.bytes(&all)?;
+    let is_ok = read(alloc, frame, Script::empty(alloc), &mut all).is_ok();
+    write_taken(is_ok, &all, answer)
+}
+
+fn write_taken(is_ok: bool, all: &[u8], answer: &mut Answer) -> Result<(), RowFault> {
+    answer.value(&is_ok)?;
+    answer.bytes(all)?;
     Ok(())
 }
 
@@ -83,6 +95,10 @@ pub(crate) fn answer_command(
 ) -> Result<(), RowFault> {
     let request = asked(alloc, row)?;
     let command = command_for(alloc, &request)?;
+    write_command(&command, answer)
+}
+
+fn write_command(command: &Command, answer: &mut Answer) -> Result<(), RowFault> {
     write_texts("words", command.words.as_slice(), answer)?;
     write_pairs("environment", command.environment.as_slice(), answer)?;
     answer.word("directory")?;
@@ -102,7 +118,11 @@ pub(crate) fn answer_inputs(
 ) -> Result<(), RowFault> {
     let request = asked(alloc, row)?;
     let inputs = declared_inputs(alloc, &request)?;
-    write_paths(inputs.as_slice(), answer)?;
+    write_inputs(inputs.as_slice(), answer)
+}
+
+fn write_inputs(inputs: &[RelPath], answer: &mut Answer) -> Result<(), RowFault> {
+    write_paths(inputs, answer)?;
     Ok(())
 }
 
@@ -114,9 +134,13 @@ pub(crate) fn answer_written(
 ) -> Result<(), RowFault> {
     let request = asked(alloc, row)?;
     let payload = request.encode(alloc)?;
-    answer.bytes(&payload)?;
-    write_result(&Request::decode(alloc, &payload, "/r"), answer)?;
-    Ok(())
+    write_payload(alloc, &payload, answer)
+}
+
+/// A payload, and the request in it.
+fn write_payload(alloc: Global, payload: &[u8], answer: &mut Answer) -> Result<(), RowFault> {
+    answer.bytes(payload)?;
+    write_result(&Request::decode(alloc, payload, "/r"), answer)
 }
 
 /// `payload PAYLOAD`: the request in a payload, or the fault.
@@ -126,18 +150,18 @@ pub(crate) fn answer_payload(
     answer: &mut Answer,
 ) -> Result<(), RowFault> {
     let payload = read_frame(alloc, row)?;
-    write_result(&Request::decode(alloc, &payload, "/r"), answer)?;
-    Ok(())
+    write_result(&Request::decode(alloc, &payload, "/r"), answer)
 }
 
 fn write_result(
     request: &Result<Request, SessionFault>,
     answer: &mut Answer,
-) -> Result<(), AllocError> {
+) -> Result<(), RowFault> {
     match request {
-        Ok(request) => write_request(request, answer),
-        Err(fault) => write_fault(fault, answer),
+        Ok(request) => write_request(request, answer)?,
+        Err(fault) => write_fault(fault, answer)?,
     }
+    Ok(())
 }
 
 /// The fields of a request that aren't empty.

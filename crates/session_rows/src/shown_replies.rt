@@ -16,9 +16,13 @@ pub(crate) fn answer_decode(
     answer: &mut Answer,
 ) -> Result<(), RowFault> {
     let payload = read_frame(alloc, row)?;
-    match Reply::decode(alloc, &payload) {
-        Ok(reply) => show_reply(&reply, answer)?,
-        Err(fault) => show_fault(&fault, answer)?,
+    show_decoded(&Reply::decode(alloc, &payload), answer)
+}
+
+fn show_decoded(decoded: &Result<Reply, ReplyFault>, answer: &mut Answer) -> Result<(), RowFault> {
+    match decoded {
+        Ok(reply) => show_reply(reply, answer)?,
+        Err(fault) => show_fault(fault, answer)?,
     }
     Ok(())
 }

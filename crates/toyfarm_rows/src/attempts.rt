@@ -13,7 +13,7 @@ use rx_row_values::path_of;
 use rx_rows::{Answer, Row, RowFault};
 use rx_toyfarm::ToyFarm;
 use rx_tree::{Built, TreeFault, build};
-use rx_world::{Attempt, End, InputFile, Origin, Outcome, Stamp, Toy, Unstopped};
+use rx_world::{Attempt, End, InputFile, Origin, Outcome, RemoteCause, Stamp, Toy, Unstopped};
 use std::alloc::Global;
 use std::marker::Brand;
 use std::sync::Wait;
@@ -34,30 +34,53 @@ pub(crate) fn call(
     let mut files = Items::new(alloc);
     files.push(input(alloc, &text)?)?;
     let mut sources = sources(alloc, &text)?;
-    let tree = tree_of(alloc, files.as_slice())?;
+    let end = attempt(
+        rt,
+        alloc,
+        farm,
+        &mut sources,
+        files.as_slice(),
+        accept_cached,
+    )?;
+    write_end(alloc, &end, answer)
+}
+
+/// How an attempt on these files ends.
+fn attempt(
+    rt: &impl Wait,
+    alloc: Global,
+    farm: &mut ToyFarm,
+    sources: &mut QuietSources<Brand>,
+    files: &[InputFile],
+    accept_cached: bool,
+) -> Result<End<Outcome, RemoteCause>, RowFault> {
+    let tree = tree_of(alloc, files)?;
     let job = RemoteJob {
         command: &command(alloc)?,
         accept_cached,
         tree: &tree,
-        files: files.as_slice(),
+        files,
         presence: &Presence::new(alloc, PRESENT),
     };
     let mut stop = Unstopped {
         attempt: Attempt::Remote,
     };
-    let end = run_remote::<Toy<Brand>, ToyFarm, QuietSources<Brand>, Unstopped, _>(
-        rt,
-        alloc,
-        &job,
-        farm,
-        &mut sources,
-        &mut stop,
-    );
+    Ok(run_remote::<Toy<Brand>, ToyFarm, QuietSources<Brand>, Unstopped, _>(
+        rt, alloc, &job, farm, sources, &mut stop,
+    ))
+}
+
+/// Writes an end: `Done` with the outcome, or `Failed` with the cause.
+fn write_end(
+    alloc: Global,
+    end: &End<Outcome, RemoteCause>,
+    answer: &mut Answer,
+) -> Result<(), RowFault> {
     match end {
-        End::Done { outcome, origin } => write_done(&outcome, origin, answer),
+        End::Done { outcome, origin } => write_done(outcome, *origin, answer),
         End::Failed { cause } => {
             answer.word("Failed")?;
-            write_remote_cause(alloc, &cause, answer)?;
+            write_remote_cause(alloc, cause, answer)?;
             Ok(())
         }
     }
