@@ -1,6 +1,6 @@
 /* A client and a daemon in C, to compare the time of a step through rewrapper and reproxy with. They do the work of a local step on files
    and programs, and no more: the daemon puts the inputs into a sandbox of the request's own, runs the command there, takes the object,
-   renames it into its place, and removes the sandbox. They scan nothing (the daemon is told the inputs of all steps as it starts), hash
+   renames it into its place, replies, and then removes the sandbox. They scan nothing (the daemon is told the inputs of all steps as it starts), hash
    nothing, serve one client after the other, and end at the first fault.
 
      pair daemon SOCKET SCRATCH ROOT INPUT..
