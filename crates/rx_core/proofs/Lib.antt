@@ -1,7 +1,10 @@
 mod ActionSteps
+pub mod Following
 mod Growing
 mod OfferSteps
 mod Outcomes
 mod Owners
+pub mod RaceSteps
+pub mod Reaching
 mod RunLemmas
 mod Staying

@@ -11,3 +11,4 @@ pub mod Replies
 pub mod Runs
 pub mod States
 pub mod Steps
+pub mod ToldRaces
