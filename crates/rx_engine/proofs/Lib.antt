@@ -3,6 +3,11 @@ mod AttemptLemmas
 mod Calm
 mod Cases
 mod ConcludeLemmas
+mod CoreEnds
+mod CoreRaces
+mod CoreRuns
+mod CoreSessions
+mod CoreVictors
 mod CourseLemmas
 mod EachDone
 mod Early

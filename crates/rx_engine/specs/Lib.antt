@@ -2,6 +2,7 @@ pub mod Addresses
 pub mod Answered
 pub mod Answers
 pub mod Attempts
+pub mod CoreRuns
 pub mod Cuts
 pub mod Fronts
 pub mod Gates

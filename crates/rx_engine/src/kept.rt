@@ -4,6 +4,7 @@
 ghost use Rattle.std.specs.Prelude.{◌≡◌, ◌<◌, ◌≤◌, [], ℕ, List, Option, None, length};
 ghost use Rattle.rx_board.specs.Journal.{HoldsLast, IsKeptBy, count_short};
 ghost use Rattle.rx_world.specs.declared.outcomes.FileOut.{FileOut};
+ghost use Rattle.rx_engine.specs.CoreRuns.{IsCoreRun, rules_of};
 ghost use Rattle.rx_engine.specs.Kept.{IsPendingFor};
 ghost use Rattle.rx_engine.specs.Meanings.{meanings};
 ghost use Rattle.rx_engine.specs.Proxy.{IsLegal, most_desks};
@@ -132,6 +133,10 @@ impl<W: World, D: Desk<W> + Drop, P: Place, K: Run> Kept<W, D, P, K> {
             D.B.B.Bench D.R.Sources D.C.Caller)
             D.parts K.root JOURNAL_LIMIT
             result.1.items (P.faults result.0) result.3.items result.2.items }
+        ensures core { (files : List FileOut) → IsCoreRun (rules_of
+            (meanings W.World D.I.Source D.O.Sink D.T.Sources D.L.Sources D.B.BenchMaker
+            D.B.B.Bench D.R.Sources D.C.Caller))
+            files JOURNAL_LIMIT result.1.items result.2.items }
         ensures legal { IsLegal 1 result.1.items result.2.items }
         ensures place { IsKeptBy K.opening (P.contents result.0) result.1.items }
         ensures last { HoldsLast K.opening (P.contents result.0) result.1.items }

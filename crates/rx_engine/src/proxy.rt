@@ -1,12 +1,14 @@
 //! The top call: the desks of a front are served, one after the other.
 
-ghost use Rattle.std.specs.Prelude.{◌≡◌, ◌≤◌, ◌↔◌, [], IfSome, None};
+ghost use Rattle.std.specs.Prelude.{◌≡◌, ◌≤◌, ◌↔◌, List, [], IfSome, None};
 ghost use Rattle.std.specs.List.{list_any};
 ghost use Rattle.rx_board.specs.Journal.{HoldsLast, IsKeptBy, count_short};
+ghost use Rattle.rx_engine.specs.CoreRuns.{IsCoreRun, rules_of};
 ghost use Rattle.rx_engine.specs.Meanings.{meanings};
 ghost use Rattle.rx_engine.specs.Proxy.{EndsWhereAsked, HasStatus, IsEndedBy, IsLegal, IsStop, Runs, is_sink_lost, is_source_lost, serving_status, status_of, status_over};
 ghost use Rattle.rx_engine.specs.Serves.{RunsDone, Serves};
 ghost use Rattle.rx_engine.specs.Words.{root_in};
+ghost use Rattle.rx_world.specs.declared.outcomes.FileOut.{FileOut};
 
 use crate::desk::Front;
 use crate::sessions::{Shared, serve_session};
@@ -235,6 +237,12 @@ pub fn run_proxy<W: World + Send, F: Front<W>, P: Place, R: Threads + Wait + Syn
         (meanings W.World F.D.I.Source F.D.O.Sink F.D.T.Sources F.D.L.Sources F.D.B.BenchMaker
         F.D.B.B.Bench F.D.R.Sources F.D.C.Caller) F.D.parts root JOURNAL_LIMIT
         result.journal.items (P.faults result.place) result.desks.items result.transcripts.items) }
+    // There are steps of the core that lead to this journal and to these sessions: to each race,
+    // publication and reply.
+    ensures core { (files : List FileOut) → IfSome (root_in words.now) (λ root. IsCoreRun (rules_of
+        (meanings W.World F.D.I.Source F.D.O.Sink F.D.T.Sources F.D.L.Sources F.D.B.BenchMaker
+        F.D.B.B.Bench F.D.R.Sources F.D.C.Caller))
+        files JOURNAL_LIMIT result.journal.items result.transcripts.items) }
     // The journal is the sessions' entries, in their order.
     ensures legal { IsLegal 1 result.journal.items result.transcripts.items }
     // The place holds what the journal leaves of its opening contents: at each path the last entry's file.

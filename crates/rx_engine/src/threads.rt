@@ -1,12 +1,14 @@
 //! A run of sessions in threads: each takes a desk from the front, makes its attempts beside the
 //! others, and publishes and replies while no other does.
 
-ghost use Rattle.std.specs.Prelude.{◌≡◌, ◌≤◌, ◌↔◌, ◌+◌, [], IfSome, None};
+ghost use Rattle.std.specs.Prelude.{◌≡◌, ◌≤◌, ◌↔◌, ◌+◌, List, [], IfSome, None};
 ghost use Rattle.rx_board.specs.Journal.{HoldsLast, IsKeptBy, count_short};
+ghost use Rattle.rx_engine.specs.CoreRuns.{IsCoreRun, rules_of};
 ghost use Rattle.rx_engine.specs.Meanings.{meanings};
 ghost use Rattle.rx_engine.specs.Proxy.{HasServingStatus, IsLegal};
 ghost use Rattle.rx_engine.specs.Serves.{RunsDone};
 ghost use Rattle.rx_engine.specs.Words.{root_in};
+ghost use Rattle.rx_world.specs.declared.outcomes.FileOut.{FileOut};
 
 use crate::attempts::Means;
 use crate::closing::Closing;
@@ -72,6 +74,12 @@ pub fn run_in_threads<
         (meanings W.World F.D.I.Source F.D.O.Sink F.D.T.Sources F.D.L.Sources F.D.B.BenchMaker
         F.D.B.B.Bench F.D.R.Sources F.D.C.Caller) F.D.parts root JOURNAL_LIMIT
         result.journal.items (P.faults result.place) result.desks.items result.transcripts.items) }
+    // Whatever the order of the threads' steps, there are steps of the core that lead to this journal
+    // and to these sessions: to each race, publication and reply.
+    ensures core { (files : List FileOut) → IfSome (root_in words.now) (λ root. IsCoreRun (rules_of
+        (meanings W.World F.D.I.Source F.D.O.Sink F.D.T.Sources F.D.L.Sources F.D.B.BenchMaker
+        F.D.B.B.Bench F.D.R.Sources F.D.C.Caller))
+        files JOURNAL_LIMIT result.journal.items result.transcripts.items) }
     // The journal is the sessions' entries, in their order.
     ensures legal { IsLegal 1 result.journal.items result.transcripts.items }
     // The place holds what the journal leaves of its opening contents: at each path the last entry's file.
@@ -121,6 +129,10 @@ fn serve_front<
         (meanings W.World F.D.I.Source F.D.O.Sink F.D.T.Sources F.D.L.Sources F.D.B.BenchMaker
         F.D.B.B.Bench F.D.R.Sources F.D.C.Caller) F.D.parts root.entry.path.now JOURNAL_LIMIT
         result.journal.items (P.faults result.place) result.desks.items result.transcripts.items }
+    ensures core { (files : List FileOut) → IsCoreRun (rules_of
+        (meanings W.World F.D.I.Source F.D.O.Sink F.D.T.Sources F.D.L.Sources F.D.B.BenchMaker
+        F.D.B.B.Bench F.D.R.Sources F.D.C.Caller))
+        files JOURNAL_LIMIT result.journal.items result.transcripts.items }
     ensures legal { IsLegal 1 result.journal.items result.transcripts.items }
     ensures place { IsKeptBy (P.opening place) (P.contents result.place) result.journal.items }
     ensures last { HoldsLast (P.opening place) (P.contents result.place) result.journal.items }

@@ -1,3 +1,4 @@
+use Rattle.rx_engine.proofs.CoreRuns.{core-run}
 use Rattle.rx_engine.proofs.EachDone.{runs-done}
 use Rattle.rx_engine.proofs.LegalLemmas.{run_legal}
 use Rattle.rx_engine.proofs.kept.Kept.into_parts.Goals as goal
@@ -9,3 +10,7 @@ returns-clause-sessions g c =
 pub returns-clause-legal : goal.returns-clause-legal
 returns-clause-legal g c =
     rw c.into_parts-place.ensures.journal (run_legal _ _ _ _ _ _ _ _ _ _ _ c.self.invariant.runs)
+
+pub returns-clause-core : goal.returns-clause-core
+returns-clause-core g c =
+    rw c.into_parts-place.ensures.journal (λ files. core-run _ _ _ _ _ _ _ _ _ _ files c.self.invariant.runs)
