@@ -62,6 +62,10 @@ no-lists (Some entries) = All-nil (IsRightList (scene_of entries))
 pub tells-none : {T W : Type 0} (w : world.Ghosts W) (s : sources.Ghosts T W) (tree : T) → Tells w s tree tree [] []
 tells-none w s tree = record { gives = gives-none w s tree; by_list = λ kept. no-lists (s.listed tree) }
 
+-- nothing was gathered, for want of memory
+pub gathers-none : {T W : Type 0} (w : world.Ghosts W) (s : sources.Ghosts T W) (tree : T) (asked : Asked) → Gathers w s tree tree asked (Err fault.NoMemory)
+gathers-none w s tree asked = record { answers = []; lists = []; view = []; tells = tells-none w s tree; outcome = tt }
+
 -- what is asked of the gathering is what the request asks for
 pub asked-is : (command : Command) (paths : List (List ℕ)) (request : Request) → command ≡ command_of request → paths ≡ declared_of request
     → record { command = command; kind = request.kind; inputs = paths; strategy = request.strategy } ≡ asked_of request

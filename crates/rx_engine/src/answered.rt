@@ -23,7 +23,7 @@ pub(crate) struct Answered {
 }
 
 /// A reply without a publication.
-fn plain(alloc: Global, reply: Reply) -> Result<Answered, NoMemory>
+pub(crate) fn plain(alloc: Global, reply: Reply) -> Result<Answered, NoMemory>
     ensures { IfOk result (IsPlain reply) }
 {
     let frame = encode(alloc, &reply)?;

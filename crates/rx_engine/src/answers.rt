@@ -1,8 +1,11 @@
 //! From a request to the attempts that are made of it: what its command runs on, and the attempts.
 //! Nothing here publishes.
 
-ghost use Rattle.std.specs.Prelude.{◌≡◌, IfErr, IfOk};
-ghost use Rattle.rx_engine.specs.Answers.{HasOutputsBelow};
+ghost use Rattle.std.specs.Prelude.{◌≡◌, All, IfErr, IfOk, IfSome};
+ghost use Rattle.rx_reach.specs.Explored.{HaveDigests};
+ghost use Rattle.rx_scan.specs.Digests.{IsAsListed};
+ghost use Rattle.rx_scan.specs.Gathering.{Gathers, IsOrderly};
+ghost use Rattle.rx_engine.specs.Answers.{HasOutputsBelow, asked_of};
 ghost use Rattle.rx_engine.specs.Attempts.{AreLaterThan, HasMade};
 ghost use Rattle.rx_engine.specs.Gathers.{HasGatheredFor, HasNotGathered};
 ghost use Rattle.rx_engine.specs.Meanings.{meanings};
@@ -18,7 +21,7 @@ use rx_digest_cache::DigestCache;
 use rx_local::Places;
 use rx_scan::{GatherFault, Gathered, gather};
 use rx_session::{Request, command_for, declared_inputs};
-use rx_world::World;
+use rx_world::{Sources, World};
 use std::alloc::Global;
 use std::sync::Wait;
 use std::thread::Threads;
@@ -100,18 +103,7 @@ fn prepare<W: World, D: Desk<W>>(
     ensures tree_remote { parts.new.tree_remote ≡ parts.old.tree_remote }
     ensures farm { parts.new.farm ≡ parts.old.farm }
 {
-    let command = command_for(alloc, request)?;
-    let inputs = declared_inputs(alloc, request)?;
-    let gathered = gather::<W, D::T>(
-        rt,
-        alloc,
-        &command,
-        request.kind,
-        inputs.as_slice(),
-        request.strategy,
-        &mut parts.tree,
-        cache,
-    )?;
+    let gathered = gather_for::<W, D::T>(rt, alloc, request, &mut parts.tree, cache)?;
     let room = Room::new(alloc, gathered.plan)?;
     Ok(Prepared {
         gathered,
@@ -119,6 +111,36 @@ fn prepare<W: World, D: Desk<W>>(
         watch: request.watch,
         room,
     })
+}
+
+/// Gathers what the command of a request runs on from a source tree.
+fn gather_for<W: World, S: Sources<W>>(
+    rt: &impl Wait,
+    alloc: Global,
+    request: &Request,
+    sources: &mut S,
+    cache: &DigestCache<W>,
+) -> Result<Gathered, GatherFault>
+    ensures gathered { Gathers W.World S.Sources sources.old sources.new
+        (asked_of request.now) result }
+    ensures orderly { IfOk result (IsOrderly (asked_of request.now)) }
+    ensures digests { IfOk result (λ gathered. W.stamps_honest →
+        HaveDigests W.content gathered.files) }
+    ensures listed { IfOk result (λ gathered. W.stamps_honest → S.keeps sources.old →
+        IfSome (S.listed sources.old) (λ entries. All (IsAsListed entries) gathered.files)) }
+{
+    let command = command_for(alloc, request)?;
+    let inputs = declared_inputs(alloc, request)?;
+    gather::<W, S>(
+        rt,
+        alloc,
+        &command,
+        request.kind,
+        inputs.as_slice(),
+        request.strategy,
+        sources,
+        cache,
+    )
 }
 
 /// Makes the attempts on what was gathered.

@@ -57,19 +57,21 @@ pub(crate) fn conclude<W: World, D: Desk<W>, P: Place>(
         request,
         stage,
     } = pending;
-    let handled = match stage {
-        Stage::Lost => return lost(alloc, number, read),
-        Stage::ShutDown { frame } => {
-            return end_run(alloc, number, read, frame, &mut parts.output);
+    match stage {
+        Stage::Lost => lost(alloc, number, read),
+        Stage::ShutDown { frame } => end_run(alloc, number, read, frame, &mut parts.output),
+        Stage::Refused { answered } => {
+            let tally = Tally::none(alloc);
+            let handled = Handled { tally, answered };
+            let ready = Ready { request, handled };
+            finish(alloc, number, read, ready, &mut parts.output)
         }
-        Stage::Refused { answered } => Handled {
-            tally: Tally::none(alloc),
-            answered,
-        },
-        Stage::Attempted { attempted } => publish_or_fail(alloc, number, attempted, board),
-    };
-    let ready = Ready { request, handled };
-    finish(alloc, number, read, ready, &mut parts.output)
+        Stage::Attempted { attempted } => {
+            let handled = publish_or_fail(alloc, number, attempted, board);
+            let ready = Ready { request, handled };
+            finish(alloc, number, read, ready, &mut parts.output)
+        }
+    }
 }
 
 /// Publishes the outcome that won, and makes the answer ready.

@@ -1,7 +1,7 @@
 //! What a run of sessions in threads keeps of them, which stands behind a lock: the board, and of each
 //! session that ended its transcript and its desk, in the order in which they published.
 
-ghost use Rattle.std.specs.Prelude.{◌≡◌, ◌<◌, ◌≤◌, [], ℕ, List, Option, None, length};
+ghost use Rattle.std.specs.Prelude.{◌≡◌, ◌<◌, ◌≤◌, [], ℕ, IsTrue, List, Option, None, length, vec_capacity};
 ghost use Rattle.rx_board.specs.Journal.{HoldsLast, IsKeptBy, count_short};
 ghost use Rattle.rx_world.specs.declared.outcomes.FileOut.{FileOut};
 ghost use Rattle.rx_engine.specs.CoreRuns.{IsCoreRun, rules_of};
@@ -22,6 +22,15 @@ use std::marker::{Brand, Model, PhantomData};
 
 /// How many sessions a run may have: each has a number of 32 bits, and one of these is left.
 const MOST_SESSIONS: usize = 4_294_967_294;
+
+/// Whether there is room, which may have to be made, for one more in each of both lists.
+fn has_room<T, U>(first: &mut Vec<T>, second: &mut Vec<U>) -> bool
+    ensures items { (first.new.items ≡ first.old.items) × (second.new.items ≡ second.old.items) }
+    ensures room { IsTrue result → (length first.new.items < vec_capacity first.new)
+        × (length second.new.items < vec_capacity second.new) }
+{
+    first.reserve(1).is_ok() && second.reserve(1).is_ok()
+}
 
 /// Which run it is: its root, what the place held and how often the front had failed as it began, as
 /// one type. The type is picked at a call, by `Brand`, from values that are known only then.
@@ -104,15 +113,7 @@ impl<W: World, D: Desk<W> + Drop, P: Place, K: Run> Kept<W, D, P, K> {
             D.parts K.root parts pending }
     {
         let served = self.transcripts.len();
-        if served >= MOST_SESSIONS {
-            drop(D::unite(parts));
-            return false;
-        }
-        if self.transcripts.reserve(1).is_err() {
-            drop(D::unite(parts));
-            return false;
-        }
-        if self.desks.reserve(1).is_err() {
+        if served >= MOST_SESSIONS || !has_room(&mut self.transcripts, &mut self.desks) {
             drop(D::unite(parts));
             return false;
         }

@@ -5,7 +5,7 @@ ghost use Rattle.rx_world.specs.Outcomes.{listing};
 ghost use Rattle.rx_engine.specs.Answered.{IsPublication};
 ghost use Rattle.rx_engine.specs.Journal.{EntersBoard, IsBoardAfter};
 
-use crate::answered::Answered;
+use crate::answered::{Answered, plain};
 use crate::attempts::Won;
 use rx_base::NoMemory;
 use rx_board::{Board, PublishFault};
@@ -52,11 +52,7 @@ pub(crate) fn publish<P: Place>(
             frame: room.encode_place_fault(receipt.number, placed),
             receipt: Some(receipt),
         }),
-        Err(PublishFault::JournalFull { limit: _ }) => Ok(Answered {
-            frame: encode(alloc, &Reply::JournalFull)?,
-            reply: Reply::JournalFull,
-            receipt: None,
-        }),
+        Err(PublishFault::JournalFull { limit: _ }) => plain(alloc, Reply::JournalFull),
         Err(PublishFault::NoMemory) => Err(AllocError),
     }
 }

@@ -12,8 +12,8 @@ invariant_of-self-2 g c =
     let ended = c.conclude-transcript.ensures in
     let own = ended.concluded.own _ _ c.requires.is_pending in
     let journal = ended.concluded.journal _ _ c.requires.is_pending in
-    let desks = rw (c.unwrap-2.ensures, c.reserve-2.ensures.items) at c.push-2.ensures.items in
-    let transcripts = rw (c.unwrap.ensures, c.reserve.ensures.items) at c.push.ensures.items in
+    let desks = rw (c.unwrap-2.ensures, c.has_room.ensures.items.1) at c.push-2.ensures.items in
+    let transcripts = rw (c.unwrap.ensures, c.has_room.ensures.items.0) at c.push.ensures.items in
     let served : c.len-served.result + 1 ≡ 1 + length inside.transcripts.items = omega (arith, c.len-served.ensures) in
     rw (desks, transcripts) (record {
       limit = ended.board.limit ∙ was.limit;
