@@ -28,10 +28,6 @@ pub(crate) struct Standing {
 }
 
 impl Standing {
-    pub(crate) fn is_dir(&self) -> bool {
-        self.metadata.as_ref().is_some_and(|m| m.is_dir())
-    }
-
     pub(crate) fn is_file(&self) -> bool {
         self.metadata.as_ref().is_some_and(|m| m.is_file())
     }
@@ -61,56 +57,52 @@ impl<R: Files + AllocGlobal> Below<R> {
 
     /// The text for the system of a path, which may end with a slash here.
     pub(crate) fn text_of(&self, path: &str) -> io::Result<String> {
-        let mut text = String::from_str(self.rt.alloc(), self.root.as_str())?;
+        let room = self.root.len().saturating_add(1).saturating_add(path.len());
+        let mut text = String::with_capacity(self.rt.alloc(), room)?;
+        text.push_str(self.root.as_str())?;
         push_name(&mut text, path)?;
         Ok(text)
     }
 
-    /// What stands at a path: nothing, where something above it is no directory.
+    /// What stands at a path: nothing, where something above it is no directory, or the root has no text.
     pub(crate) fn find(&self, path: &RelPath) -> io::Result<Standing> {
-        if path.is_root() {
-            return self.walk("");
+        if path.is_root() || self.root.is_empty() {
+            let text = String::from_str(self.rt.alloc(), self.root.as_str())?;
+            let metadata = told(fs::metadata(&self.rt, text.as_str()))?;
+            return Ok(Standing { text, metadata });
         }
         let text = self.text_of(path.as_str())?;
-        let metadata = match told(fs::symlink_metadata(&self.rt, text.as_str())) {
-            Ok(Some(metadata)) => metadata,
+        let metadata = self.told_at(path.as_str(), text.as_str())?;
+        Ok(Standing { text, metadata })
+    }
+
+    /// What the system tells of a path with this text.
+    fn told_at(&self, path: &str, text: &str) -> io::Result<Option<Metadata>> {
+        match told(fs::symlink_metadata(&self.rt, text)) {
             // (what can be reached name by name is found at once too)
-            Ok(None) => return Ok(Standing {
-                text,
-                metadata: None,
-            }),
-            Err(_) => return self.walk(path.as_str()),
-        };
-        let above = self.walk(parent_of(path.as_str()))?;
-        let metadata = above.is_dir().then_some(metadata);
-        Ok(Standing { text, metadata })
+            Ok(None) => Ok(None),
+            answer => {
+                if self.is_below_directories(path, text)? {
+                    answer
+                } else {
+                    Ok(None)
+                }
+            }
+        }
     }
 
-    /// As `find`, by the names alone: each is asked for, from the root down.
-    fn walk(&self, path: &str) -> io::Result<Standing> {
-        let text = String::from_str(self.rt.alloc(), self.root.as_str())?;
-        let metadata = told(fs::metadata(&self.rt, text.as_str()))?;
-        let mut standing = Standing { text, metadata };
-        if path.is_empty() {
-            return Ok(standing);
+    /// Whether each name above a path is a directory's, from the root down. The root is one where anything is found below it.
+    fn is_below_directories(&self, path: &str, text: &str) -> io::Result<bool> {
+        let root_len = text.len().saturating_sub(path.len());
+        for (name_end, _) in path.match_indices('/') {
+            let Some(above) = text.get(..root_len.saturating_add(name_end)) else {
+                return Ok(false);
+            };
+            if !is_directory(&told(fs::symlink_metadata(&self.rt, above))?) {
+                return Ok(false);
+            }
         }
-        for name in path.split('/') {
-            standing = self.step(standing, name)?;
-        }
-        Ok(standing)
-    }
-
-    /// What stands one name further down.
-    fn step(&self, above: Standing, name: &str) -> io::Result<Standing> {
-        let is_dir = above.is_dir();
-        let mut text = above.text;
-        push_name(&mut text, name)?;
-        let metadata = if is_dir {
-            told(fs::symlink_metadata(&self.rt, text.as_str()))?
-        } else {
-            None
-        };
-        Ok(Standing { text, metadata })
+        Ok(true)
     }
 
     /// Writes a file that isn't there yet, with mode 0755 or 0644. Where it fails it leaves none.
@@ -155,6 +147,11 @@ pub(crate) fn push_name(text: &mut String, name: &str) -> io::Result<()> {
 fn fill<F: Write + OpenFile>(file: &mut F, bytes: &[u8], mode: u32) -> io::Result<()> {
     file.write_all(bytes)?;
     file.set_permissions(Permissions::from_mode(mode))
+}
+
+/// Whether the system tells of a directory.
+fn is_directory(metadata: &Option<Metadata>) -> bool {
+    metadata.as_ref().is_some_and(|m| m.is_dir())
 }
 
 /// What a call told, or `None` where nothing stands at its path.
