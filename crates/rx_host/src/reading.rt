@@ -4,7 +4,7 @@
 use crate::below::{Below, told};
 use rx_base::RelPath;
 use std::fs::{File, Files, Metadata};
-use std::io::{Error, Read};
+use std::io::{Error, ErrorKind, Read};
 use std::os::fd::AsRawFd;
 use std::{fs, io};
 
@@ -50,14 +50,35 @@ impl<R: Files<File = File> + AllocGlobal> Below<R> {
         Err(Error::other("the file was replaced each time it was opened"))
     }
 
-    /// The bytes of a file that had this size a moment ago. With room for one byte more its end shows without growing.
+    /// The bytes of a file that had this size a moment ago. Where the first read gives just these, and the system tells
+    /// the same size after it, that was the end.
     fn read_all(&self, file: File, size: u64) -> io::Result<ReadFile> {
         let mut file = file;
-        let room = size.min(MOST_ROOM) as usize + 1;
-        let mut bytes = Vec::with_capacity(self.rt.alloc(), room)?;
+        let mut bytes = self.read_once(&mut file, size)?;
+        if bytes.len() as u64 == size {
+            let metadata = file.metadata()?;
+            if metadata.len() == size {
+                let metadata = Some(metadata);
+                return Ok(ReadFile { metadata, bytes });
+            }
+        }
         file.read_to_end(&mut bytes)?;
         let metadata = Some(file.metadata()?);
         Ok(ReadFile { metadata, bytes })
+    }
+
+    /// The bytes that one read gives. With room for one byte more than there are it reaches the end.
+    fn read_once(&self, file: &mut File, size: u64) -> io::Result<Vec<u8>> {
+        let room = size.min(MOST_ROOM) as usize + 1;
+        let mut bytes = Vec::new(self.rt.alloc());
+        bytes.resize(room, 0)?;
+        let count = match file.read(bytes.as_mut_slice()) {
+            Ok(count) => count,
+            Err(error) if error.kind() == ErrorKind::Interrupted => 0,
+            Err(error) => return Err(error),
+        };
+        bytes.truncate(count);
+        Ok(bytes)
     }
 
     /// Opens the file at a path: at once, or where that doesn't do, name by name before and after.
@@ -89,20 +110,26 @@ impl<R: Files<File = File> + AllocGlobal> Below<R> {
             _ => return Ok(None),
         };
         match fs::open(&self.rt, text.as_str()) {
-            Ok(file) if self.is_in_place(path, &file)? => Ok(Some(Opened::File { file, size })),
+            Ok(file) if self.is_in_place(path, text.as_str(), &file)? => {
+                Ok(Some(Opened::File { file, size }))
+            }
             _ => Ok(None),
         }
     }
 
-    /// Whether the system says that an opened file stands at a path: by the link of its descriptor,
-    /// whose text names the directories above the file, and no link (Linux, proc(5), /proc/pid/fd). It is
+    /// Whether the system says that a file, which was opened by this text, stands at a path: by the link of its
+    /// descriptor, whose text names the directories above the file, and no link (Linux, proc(5), /proc/pid/fd). It is
     /// false too where the system has no such links.
-    fn is_in_place(&mut self, path: &RelPath, file: &File) -> io::Result<bool> {
+    fn is_in_place(&mut self, path: &RelPath, text: &str, file: &File) -> io::Result<bool> {
         let descriptor = file.as_raw_fd();
         let link = format!(in self.rt.alloc(); "/proc/self/fd/{descriptor}")?;
         let Ok(named) = fs::read_link(&self.rt, link.as_str()) else {
             return Ok(false);
         };
+        // (so no link is in the root's text either)
+        if named.as_str() == text {
+            return Ok(true);
+        }
         let Some(root) = self.real_root() else {
             return Ok(false);
         };
