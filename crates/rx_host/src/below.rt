@@ -1,15 +1,12 @@
 //! The files below a directory, reached name by name. No link is followed on the way or at the end,
 //! so no path leads out of the directory. What the files mean to the proxy is said elsewhere.
 
+use crate::modes::{Modes, mode_of};
 use rx_base::RelPath;
-use std::fs::{Files, Metadata, OpenFile, OpenOptions, Permissions};
+use std::fs::{Files, Metadata, OpenFile, OpenOptions};
 use std::io::{ErrorKind, Write};
-use std::os::unix::fs::{MetadataExt, OpenOptionsExt, PermissionsExt};
+use std::os::unix::fs::{MetadataExt, OpenOptionsExt};
 use std::{fs, io};
-
-const EXECUTABLE_MODE: u32 = 0o755;
-
-const PLAIN_MODE: u32 = 0o644;
 
 /// The files below a directory of the machine.
 #[derive(Drop)]
@@ -106,18 +103,19 @@ impl<R: Files + AllocGlobal> Below<R> {
     }
 
     /// Writes a file that isn't there yet, with mode 0755 or 0644. Where it fails it leaves none.
-    pub(crate) fn write_new(&self, text: &str, bytes: &[u8], executable: bool) -> io::Result<()> {
-        let mode = if executable {
-            EXECUTABLE_MODE
-        } else {
-            PLAIN_MODE
-        };
+    pub(crate) fn write_new(
+        &self,
+        modes: &mut Modes,
+        text: &str,
+        bytes: &[u8],
+        executable: bool,
+    ) -> io::Result<()> {
         let mut file = OpenOptions::new()
             .write(true)
             .create_new(true)
-            .mode(mode)
+            .mode(mode_of(executable))
             .open(&self.rt, text)?;
-        let filled = fill(&mut file, bytes, mode);
+        let filled = fill(&mut file, modes, bytes, executable);
         if filled.is_err() {
             let _ = fs::remove_file(&self.rt, text);
         }
@@ -143,10 +141,15 @@ pub(crate) fn push_name(text: &mut String, name: &str) -> io::Result<()> {
     Ok(())
 }
 
-/// Writes all bytes, and sets the mode, from which the process's mask took bits at the opening.
-fn fill<F: Write + OpenFile>(file: &mut F, bytes: &[u8], mode: u32) -> io::Result<()> {
+/// Writes all bytes, and sees to the mode.
+fn fill<F: Write + OpenFile>(
+    file: &mut F,
+    modes: &mut Modes,
+    bytes: &[u8],
+    executable: bool,
+) -> io::Result<()> {
     file.write_all(bytes)?;
-    file.set_permissions(Permissions::from_mode(mode))
+    modes.settle(file, executable)
 }
 
 /// Whether the system tells of a directory.

@@ -5,7 +5,7 @@ ghost use Rattle.rx_world.specs.declared.failures.Refused.TheVariants.{Failed as
 ghost use Rattle.rx_world.specs.Benches.{refused_at};
 ghost use Rattle.rx_world.specs.Causes.{Rose};
 
-use crate::below::Below;
+use crate::below::{Below, parent_of};
 use crate::hands::Hands;
 use crate::looks::is_executable;
 use crate::made::MadeDirs;
@@ -133,9 +133,11 @@ fn put_into<R: Files + AllocGlobal>(
     bytes: &[u8],
     executable: bool,
 ) -> io::Result<()> {
-    tree.make_parent(made, path)?;
     let text = tree.text_of(path.as_str())?;
-    tree.write_new(text.as_str(), bytes, executable)
+    if !tree.is_there(made, parent_of(text.as_str())) {
+        tree.make_parent(made, path)?;
+    }
+    tree.write_new(made.modes(), text.as_str(), bytes, executable)
 }
 
 /// The regular file at a path. A link isn't followed.

@@ -19,6 +19,7 @@ mod listing;
 mod looks;
 mod made;
 mod making;
+mod modes;
 mod names;
 mod patient;
 mod place;

@@ -1,6 +1,7 @@
 //! Which directories were made below a directory, or found there, and which directory each was. So one
 //! call tells whether a directory still stands there, in place of a call for each name above it.
 
+use crate::modes::Modes;
 use std::alloc::Global;
 use std::collections::BTreeMap;
 use std::fs::Metadata;
@@ -10,7 +11,7 @@ use std::time::SystemTime;
 /// Which directory it is. Once a directory is gone, another may get its number: the time at which it
 /// was made, where that is told, tells the two from each other.
 #[derive(Clone, Copy, PartialEq, Eq)]
-struct Identity {
+pub(crate) struct Identity {
     device: u64,
     number: u64,
     made: Option<SystemTime>,
@@ -24,12 +25,18 @@ impl Identity {
             made: metadata.created().ok(),
         }
     }
+
+    /// Whether the system told this of the same directory.
+    pub(crate) fn is_of(&self, metadata: &Metadata) -> bool {
+        *self == Identity::of(metadata)
+    }
 }
 
-/// Directories by their texts for the system.
+/// Directories by their texts for the system, and what becomes of the modes of files there.
 #[derive(Drop)]
 pub(crate) struct MadeDirs {
     by_text: BTreeMap<String, Identity>,
+    modes: Modes,
 }
 
 impl MadeDirs {
@@ -37,15 +44,23 @@ impl MadeDirs {
     pub(crate) fn new(alloc: Global) -> MadeDirs {
         MadeDirs {
             by_text: BTreeMap::new(alloc),
+            modes: Modes::unknown(),
         }
     }
 
-    /// Whether this is the directory that was made at this text. It takes no memory.
-    pub(crate) fn is_same(&self, text: &str, metadata: &Metadata) -> bool {
-        match self.by_text.get(text) {
-            Some(identity) => *identity == Identity::of(metadata),
-            None => false,
-        }
+    /// What becomes of the modes of new files in the directory above all, and in those that were made.
+    pub(crate) fn modes(&mut self) -> &mut Modes {
+        &mut self.modes
+    }
+
+    /// A directory was there already, and may take other bits from a mode than those that were made.
+    pub(crate) fn find_other(&mut self) {
+        self.modes = Modes::cut();
+    }
+
+    /// Which directory was made at this text. It takes no memory.
+    pub(crate) fn find(&self, text: &str) -> Option<&Identity> {
+        self.by_text.get(text)
     }
 
     /// The lowest directory at or above this text that was made, as the first part of the text, or
@@ -64,9 +79,6 @@ impl MadeDirs {
     /// Keeps that this directory was made at this text, in place of what was kept of the text. Where
     /// memory is wanting all stays as it was.
     pub(crate) fn keep(&mut self, alloc: Global, text: &str, metadata: &Metadata) {
-        if self.is_same(text, metadata) {
-            return;
-        }
         if let Ok(text) = String::from_str(alloc, text) {
             let _ = self.by_text.insert(text, Identity::of(metadata));
         }

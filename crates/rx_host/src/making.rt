@@ -35,12 +35,22 @@ impl<R: Files + AllocGlobal> Below<R> {
         self.make_dirs(made, parent_of(path.as_str()))
     }
 
+    /// Whether the directory that was made at this text still stands there: it is no link, and it is the same as then.
+    pub(crate) fn is_there(&self, made: &MadeDirs, text: &str) -> bool {
+        match made.find(text) {
+            Some(identity) => match fs::symlink_metadata(&self.rt, text) {
+                Ok(metadata) => identity.is_of(&metadata),
+                Err(_) => false,
+            },
+            None => false,
+        }
+    }
+
     /// The text of the lowest directory at or above this text that was made, and what follows it, where
-    /// it still stands there: it is no link, and it is the same as then.
+    /// it still stands there.
     fn split_at_made<'a>(&self, made: &MadeDirs, text: &'a str) -> Option<(&'a str, &'a str)> {
         let lowest = made.lowest(text)?;
-        let metadata = fs::symlink_metadata(&self.rt, lowest).ok()?;
-        if !made.is_same(lowest, &metadata) {
+        if !self.is_there(made, lowest) {
             return None;
         }
         Some((lowest, text.strip_prefix(lowest)?))
@@ -50,7 +60,7 @@ impl<R: Files + AllocGlobal> Below<R> {
     fn make_one(&self, made: &mut MadeDirs, text: &str) -> io::Result<()> {
         match fs::create_dir(&self.rt, text) {
             Ok(()) => {}
-            Err(error) if error.kind() == ErrorKind::AlreadyExists => {}
+            Err(error) if error.kind() == ErrorKind::AlreadyExists => made.find_other(),
             Err(error) => return Err(error),
         }
         let metadata = fs::symlink_metadata(&self.rt, text)?;
