@@ -1,6 +1,7 @@
 #!/usr/bin/env bash
 # How often reproxy asks the system in a compile step of 128 files, by strace: calls that tell what stands at a path (statx), that make a
-# directory (mkdir), that open a file or a directory (openat), and that tell where an opened file stands (readlink); and which of them failed.
+# directory (mkdir), that open a file or a directory (openat), that tell where an opened file stands (readlink), that read (read), and that
+# set the mode of an opened file (fchmod); and which of them failed.
 #
 #   bash bench/calls.sh
 #
@@ -63,11 +64,11 @@ NR == 1 { first = $1 }
 $2 ~ /^execve\(/ && $1 != first { other[$1] }
 { pid[NR] = $1; call[NR] = $2; sub(/\(.*/, "", call[NR]); failed[NR] = / = -1 / }
 END {
-    split("statx mkdir openat readlink", names)
+    count_of_names = split("statx mkdir openat readlink read fchmod", names)
     for (i = 1; i <= NR; i++) {
         if (pid[i] in other) continue
         count[call[i]]++
         lost[call[i]] += failed[i]
     }
-    for (i = 1; i <= 4; i++) print names[i] ": " count[names[i]] + 0 ", of which " lost[names[i]] + 0 " failed"
+    for (i = 1; i <= count_of_names; i++) print names[i] ": " count[names[i]] + 0 ", of which " lost[names[i]] + 0 " failed"
 }' "$work/calls"
