@@ -4,10 +4,12 @@ use Rattle.std.specs.Prelude.{IfSome, MatchOption, String, option_map}
 use Rattle.std.specs.Option.{option_to_list}
 use Rattle.rx_board.specs.declared.journal.Entry.{Entry}
 use Rattle.rx_engine.specs.declared.transcripts.Transcript.{Transcript}
+use Rattle.rx_engine.specs.CoreRuns.{IsCoreRun, rules_of}
 use Rattle.rx_engine.specs.Meanings.{Meanings}
 use Rattle.rx_engine.specs.Proxy.{HasServingStatus, HasStatus, IsLegal}
 use Rattle.rx_engine.specs.Serves.{RunsDone}
 use Rattle.rx_engine.specs.Words.{Options, options_in, root_in}
+use Rattle.rx_world.specs.declared.outcomes.FileOut.{FileOut}
 use Rattle.reproxy.specs.Serves.{ServesClients, ServesDesk}
 
 -- where a root was found its desk was made, and the run was over that desk
@@ -15,14 +17,15 @@ pub serves-desk : {D P W B : Type 0} (m : Meanings P W B) (parts : D → P) (Is 
     (left : Option D) (status : ℕ) (journal : List Entry) (handed : List D) (ts : List Transcript)
     → made ≡ Some desk → Is desk
     → IfSome found (λ root. RunsDone (Some (option_to_list made)) (Some (option_to_list left)) m parts root limit journal faults handed ts)
-    → IsLegal 1 journal ts
+    → ((files : List FileOut) → IfSome found (λ root. IsCoreRun (rules_of m) files limit journal ts)) → IsLegal 1 journal ts
     → IfSome found (λ root. HasStatus (Some (option_to_list made)) (Some (option_to_list left)) 0 0 status ts)
     → IfSome found (λ root. ServesDesk m parts Is root limit faults left status journal handed ts)
-serves-desk m parts Is None limit faults made desk left status journal handed ts made-is is runs legal has = tt
-serves-desk m parts Is (Some root) limit faults made desk left status journal handed ts made-is is runs legal has = record {
+serves-desk m parts Is None limit faults made desk left status journal handed ts made-is is runs core legal has = tt
+serves-desk m parts Is (Some root) limit faults made desk left status journal handed ts made-is is runs core legal has = record {
   desk = desk;
   is = is;
   sessions = rw made-is at runs;
+  core = core;
   legal = legal;
   status_is = rw made-is at has;
 }
@@ -32,25 +35,26 @@ pub serves-made : {D P W B A : Type 0} (m : Meanings P W B) (parts : D → P) (I
     (status : ℕ) (journal : List Entry) (handed : List D) (ts : List Transcript)
     → options ≡ options_in words → MatchOption made (options ≡ None) Is
     → IfSome (root_in words) (λ root. RunsDone (Some (option_to_list made)) (Some (option_to_list left)) m parts root limit journal faults handed ts)
-    → IsLegal 1 journal ts
+    → ((files : List FileOut) → IfSome (root_in words) (λ root. IsCoreRun (rules_of m) files limit journal ts)) → IsLegal 1 journal ts
     → IfSome (root_in words) (λ root. HasStatus (Some (option_to_list made)) (Some (option_to_list left)) 0 0 status ts)
     → IfSome (root_in words) (λ root. ServesDesk m parts Is root limit faults left status journal handed ts)
-serves-made m parts Is words options limit faults None left status journal handed ts known none runs legal has =
+serves-made m parts Is words options limit faults None left status journal handed ts known none runs core legal has =
     subst (λ (o : Option Options). IfSome (option_map (λ (x : Options). x.root) o) (λ root. ServesDesk m parts Is root limit faults left status journal handed ts))
     (sym none ∙ known) tt
-serves-made m parts Is words options limit faults (Some desk) left status journal handed ts known is runs legal has =
-    serves-desk m parts Is (root_in words) limit faults (Some desk) desk left status journal handed ts refl is runs legal has
+serves-made m parts Is words options limit faults (Some desk) left status journal handed ts known is runs core legal has =
+    serves-desk m parts Is (root_in words) limit faults (Some desk) desk left status journal handed ts refl is runs core legal has
 
 -- where the words are known, the run was over the desks of clients
 pub serves-clients : {D P W B : Type 0} (m : Meanings P W B) (parts : D → P) (found : Option (List ℕ)) (limit faults before after status : ℕ)
     (journal : List Entry) (handed : List D) (ts : List Transcript)
     → IfSome found (λ root. RunsDone None None m parts root limit journal faults handed ts)
-    → IsLegal 1 journal ts
+    → ((files : List FileOut) → IfSome found (λ root. IsCoreRun (rules_of m) files limit journal ts)) → IsLegal 1 journal ts
     → IfSome found (λ root. HasServingStatus before after status ts)
     → IfSome found (λ root. ServesClients m parts root limit faults before after status journal handed ts)
-serves-clients m parts None limit faults before after status journal handed ts runs legal has = tt
-serves-clients m parts (Some root) limit faults before after status journal handed ts runs legal has = record {
+serves-clients m parts None limit faults before after status journal handed ts runs core legal has = tt
+serves-clients m parts (Some root) limit faults before after status journal handed ts runs core legal has = record {
   sessions = runs;
+  core = core;
   legal = legal;
   status_is = has;
 }

@@ -3,24 +3,29 @@ use Rattle.std.specs.Prelude.{ℕ, List, [], ◌∷◌, Option, None, Some}
 use Rattle.std.specs.Option.{option_to_list}
 use Rattle.rx_board.specs.declared.journal.Entry.{Entry}
 use Rattle.rx_engine.specs.declared.transcripts.Transcript.{Transcript}
+use Rattle.rx_engine.specs.CoreRuns.{IsCoreRun, rules_of}
 use Rattle.rx_engine.specs.Meanings.{Meanings}
 use Rattle.rx_engine.specs.Proxy.{HasServingStatus, HasStatus, IsLegal}
 use Rattle.rx_engine.specs.Serves.{RunsDone}
+use Rattle.rx_world.specs.declared.outcomes.FileOut.{FileOut}
 
--- A desk of which this holds was there; what left the front was served, its entries are the journal, and the status has its cause.
+-- A desk of which this holds was there; what left the front was served, by steps of the core, its entries are the journal, and the status
+-- has its cause.
 pub record ServesDesk {D P W B : Type 0} (m : Meanings P W B) (parts : D → P) (Is : D → Type 0) (root : List ℕ) (limit faults : ℕ)
     (left : Option D) (status : ℕ) (journal : List Entry) (handed : List D) (transcripts : List Transcript) : Type 0 where
   pub desk : D
   pub is : Is desk
   pub sessions : RunsDone (Some (desk ∷ [])) (Some (option_to_list left)) m parts root limit
       journal faults handed transcripts
+  pub core : (files : List FileOut) → IsCoreRun (rules_of m) files limit journal transcripts
   pub legal : IsLegal 1 journal transcripts
   pub status_is : HasStatus (Some (desk ∷ [])) (Some (option_to_list left)) 0 0 status transcripts
 
--- What was served of the clients that connected, which nothing tells before: the entries are the journal, and the status has its
--- cause. The front counted so many faults before and after.
+-- What was served of the clients that connected, which nothing tells before, by steps of the core: the entries are the journal, and the
+-- status has its cause. The front counted so many faults before and after.
 pub record ServesClients {D P W B : Type 0} (m : Meanings P W B) (parts : D → P) (root : List ℕ) (limit faults before after : ℕ)
     (status : ℕ) (journal : List Entry) (handed : List D) (transcripts : List Transcript) : Type 0 where
   pub sessions : RunsDone None None m parts root limit journal faults handed transcripts
+  pub core : (files : List FileOut) → IsCoreRun (rules_of m) files limit journal transcripts
   pub legal : IsLegal 1 journal transcripts
   pub status_is : HasServingStatus before after status transcripts
