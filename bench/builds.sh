@@ -1,12 +1,14 @@
 #!/usr/bin/env bash
-# What the client and a proxy that serves add to steps that read many files, and to a whole build, strategy local: the time of a step that
+# What the client and a proxy that serves add to steps that read many files, and to whole builds, strategy local: the time of a step that
 # includes 299 headers, whose digests are kept, beside that of g++ alone, and of g++ behind a client and a daemon in C that do the same
-# file work (bench/pair.c); and that of a build of 160 such steps with ninja, 16 at once, beside that of the same build without a proxy.
+# file work (bench/pair.c); and that of two builds with ninja, 16 steps at once, beside those of the same builds without a proxy. One has
+# 160 short steps, whose sources include 20 small headers each; the other one 48 steps whose sources include as many, and four headers of
+# the C++ library, as most sources do.
 #
 #   bash bench/builds.sh [ROUNDS]
 #
 # Run by hand, on a machine that does nothing else. All are measured in one run and by turns: each of ROUNDS rounds (10) times four steps
-# of each kind, and one build of each. The script prints the medians over the rounds, and those of the rounds' differences and ratios. The
+# of each kind, and each build once. The script prints the medians over the rounds, and those of the rounds' differences and ratios. The
 # first round warms up and doesn't count. Objects are removed between the rounds. bench/proxies.sh says where the files are. There are two
 # proxies, one with its sandboxes in memory, as the daemon in C has, and one with them in /tmp. Where there is no ninja the build is left out.
 set -eu
@@ -21,7 +23,8 @@ build_reproxy "$top" "${TMPDIR:-/tmp}/reproxy-build.log"
 build_rewrapper "$top" "${TMPDIR:-/tmp}/rewrapper-build.log"
 
 header_count=299
-source_count=160
+short_count=160
+full_count=48
 at_once=16
 
 . "$top/bench/proxies.sh"
@@ -41,13 +44,26 @@ for ((header = 0; header < header_count; header++)); do
     } > "$library/header$header.h"
     echo "#include \"library$((header % 8))/header$header.h\"" >> step.cc
 done
-for ((source = 0; source < source_count; source++)); do
-    for ((one = 0; one < 20; one++)); do
-        header=$(((source * 7 + one) % header_count))
-        echo "#include \"library$((header % 8))/header$header.h\""
-    done > "source$source.cc"
-    echo "int value$source() { return $source; }" >> "source$source.cc"
-done
+
+# sources KIND COUNT INCLUDE..: so many sources, which begin with these headers of the C++ library
+sources() {
+    local kind=$1 count=$2
+    shift 2
+    for ((source = 0; source < count; source++)); do
+        {
+            for name in "$@"; do
+                echo "#include <$name>"
+            done
+            for ((one = 0; one < 20; one++)); do
+                header=$(((source * 7 + one) % header_count))
+                echo "#include \"library$((header % 8))/header$header.h\""
+            done
+            echo "int value$source() { return $source; }"
+        } > "$kind$source.cc"
+    done
+}
+sources short "$short_count"
+sources full "$full_count" iostream map string vector
 
 serve_at in-memory "$scratch" "$at_once"
 serve_at in-tmp /tmp "$at_once"
@@ -64,16 +80,23 @@ step_in_c() {
     fi
 }
 
-# ninja_file NAME WORDS: the build file of a build whose steps go behind these words
+# ninja_file NAME WORDS KIND COUNT: the build file of a build of these sources, whose steps go behind these words
 ninja_file() {
     {
         echo "rule compile"
         echo "  command = $2 g++ -Iinclude -c \$in -o \$out"
-        for ((source = 0; source < source_count; source++)); do
-            echo "build $1/source$source.o: compile source$source.cc"
+        for ((source = 0; source < $4; source++)); do
+            echo "build $1/$3$source.o: compile $3$source.cc"
         done
     } > "$1.ninja"
     mkdir "$1"
+}
+
+# ninja_files KIND COUNT: those of the three builds of these sources
+ninja_files() {
+    ninja_file "$1-alone" "" "$1" "$2"
+    ninja_file "$1-memory" "$in_memory" "$1" "$2"
+    ninja_file "$1-tmp" "$in_tmp" "$1" "$2"
 }
 
 # build NAME: its time, in microseconds; its objects are removed first
@@ -90,9 +113,8 @@ plain=
 in_memory=$(client in-memory)
 in_tmp=$(client in-tmp)
 if [ -n "$ninja" ]; then
-    ninja_file alone ""
-    ninja_file through-memory "$in_memory"
-    ninja_file through-tmp "$in_tmp"
+    ninja_files short "$short_count"
+    ninja_files full "$full_count"
 fi
 
 for ((round = 0; round <= rounds; round++)); do
@@ -104,8 +126,10 @@ for ((round = 0; round <= rounds; round++)); do
     rm step-*.o
     of_pair=$(time_of step_in_c)
     rm -f step-*.o
-    builds="0 0 0"
-    [ -z "$ninja" ] || builds="$(build alone) $(build through-memory) $(build through-tmp)"
+    builds="0 0 0 0 0 0"
+    if [ -n "$ninja" ]; then
+        builds="$(build short-alone) $(build short-memory) $(build short-tmp) $(build full-alone) $(build full-memory) $(build full-tmp)"
+    fi
     if ((round > 0)); then
         echo "$of_alone $of_memory $of_tmp $builds $of_pair"
     fi
@@ -124,8 +148,10 @@ ratio() {
 echo "$rounds rounds, by turns; milliseconds"
 echo "a step of $((header_count + 1)) files, g++ alone: $(milliseconds '$1' "$calls")"
 echo "through the proxy, sandboxes in $scratch: it adds $(milliseconds '$2 - $1' "$calls"); in /tmp: $(milliseconds '$3 - $1' "$calls")"
-[ -z "$pair" ] || echo "through the client and daemon in C: it adds $(milliseconds '$7 - $1' "$calls")"
+[ -z "$pair" ] || echo "through the client and daemon in C: it adds $(milliseconds '$10 - $1' "$calls")"
 if [ -n "$ninja" ]; then
-    echo "a build of $source_count steps, $at_once at once, g++ alone: $(milliseconds '$4' 1)"
+    echo "a build of $short_count short steps, $at_once at once, g++ alone: $(milliseconds '$4' 1)"
     echo "through the proxy, sandboxes in $scratch: $(ratio '$5 / $4') times as long; in /tmp: $(ratio '$6 / $4') times"
+    echo "a build of $full_count steps with headers of the C++ library, $at_once at once, g++ alone: $(milliseconds '$7' 1)"
+    echo "through the proxy, sandboxes in $scratch: $(ratio '$8 / $7') times as long; in /tmp: $(ratio '$9 / $7') times"
 fi
