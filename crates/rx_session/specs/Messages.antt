@@ -66,26 +66,30 @@ raw_request_fields x =
     ++ numbered 13 (number_put x.watch)
     ++ numbered 14 (number_put x.timeout_seconds)
 
+-- the message of fields, whose pairs are these messages
+abbrev pub raw_request_with : List Field → List PairMessage → List PairMessage → RawRequest
+raw_request_with fields environment platform = record {
+  version = number_in (contents 1 fields);
+  root = text_in (contents 2 fields);
+  words = texts_in (contents 3 fields);
+  environment = map pair_in environment;
+  working_directory = text_in (contents 5 fields);
+  strategy = number_in (contents 6 fields);
+  kind = number_in (contents 7 fields);
+  inputs = texts_in (contents 8 fields);
+  toolchain_inputs = texts_in (contents 9 fields);
+  outputs = texts_in (contents 10 fields);
+  platform = map pair_in platform;
+  accept_cached = number_in (contents 12 fields);
+  watch = number_in (contents 13 fields);
+  timeout_seconds = number_in (contents 14 fields);
+}
+
 unfoldable pub raw_request_from : List Field → Result RawRequest MessageFault
 raw_request_from fields = do
   environment ← each_in pair_message_from (contents 4 fields)
   platform ← each_in pair_message_from (contents 11 fields)
-  Ok (record {
-    version = number_in (contents 1 fields);
-    root = text_in (contents 2 fields);
-    words = texts_in (contents 3 fields);
-    environment = map pair_in environment;
-    working_directory = text_in (contents 5 fields);
-    strategy = number_in (contents 6 fields);
-    kind = number_in (contents 7 fields);
-    inputs = texts_in (contents 8 fields);
-    toolchain_inputs = texts_in (contents 9 fields);
-    outputs = texts_in (contents 10 fields);
-    platform = map pair_in platform;
-    accept_cached = number_in (contents 12 fields);
-    watch = number_in (contents 13 fields);
-    timeout_seconds = number_in (contents 14 fields);
-  })
+  Ok (raw_request_with fields environment platform)
 
 abbrev pub raw_request_is_readable : RawRequest → Type 0
 raw_request_is_readable x = Unit {0}

@@ -106,6 +106,14 @@ bad_last_field raw =
     else if not (is_within 0 4294967295 raw.timeout_seconds) then Some 14
     else None
 
+-- the least field from 8 on that breaks its rule
+abbrev pub bad_path_field : RawRequest → Option ℕ
+bad_path_field raw =
+    if not (paths_hold raw.inputs) then Some 8
+    else if not (paths_hold raw.toolchain_inputs) then Some 9
+    else if not (outputs_hold raw.working_directory raw.inputs raw.toolchain_inputs raw.outputs) then Some 10
+    else bad_last_field raw
+
 -- the least field that breaks its rule
 unfoldable pub bad_field : RawRequest → Option ℕ
 bad_field raw =
@@ -114,10 +122,7 @@ bad_field raw =
     else if not (directory_holds raw.working_directory) then Some 5
     else if not (is_within 1 4 raw.strategy) then Some 6
     else if not (is_within 1 2 raw.kind) then Some 7
-    else if not (paths_hold raw.inputs) then Some 8
-    else if not (paths_hold raw.toolchain_inputs) then Some 9
-    else if not (outputs_hold raw.working_directory raw.inputs raw.toolchain_inputs raw.outputs) then Some 10
-    else bad_last_field raw
+    else bad_path_field raw
 
 -- ---- the request
 

@@ -1,9 +1,9 @@
 //! Each field's own rule, and which request a message is.
 
-ghost use Rattle.std.specs.Prelude.{◌≡◌, ◌<◌, ◌^◌, IfErr, IfOk};
+ghost use Rattle.std.specs.Prelude.{◌≡◌, ◌<◌, ◌^◌, IfErr, IfOk, OnOk};
 ghost use Rattle.rx_session.specs.Bad.{Decodes};
 ghost use Rattle.rx_session.specs.Streams.{IsNoCut};
-ghost use Rattle.rx_session.specs.Rules.{bad_field, bad_last_field, kind_of, request_by, request_from, strategy_of};
+ghost use Rattle.rx_session.specs.Rules.{bad_field, bad_last_field, bad_path_field, kind_of, path_in, request_by, request_from, strategy_of};
 
 use crate::bad::{BadReason, SessionFault, refuse};
 use crate::field_rules::{environment_holds, is_within, platform_holds, words_hold};
@@ -12,7 +12,7 @@ use crate::output_rules::outputs_stand;
 use crate::paths_in::{read_directory, read_paths};
 use crate::raw_request::RawRequest;
 use crate::requests::Request;
-use rx_base::NoMemory;
+use rx_base::{NoMemory, RelPath};
 use rx_world::{Kind, Strategy};
 use std::alloc::Global;
 
@@ -37,7 +37,6 @@ pub(crate) const COMPILE: u64 = 2;
 const MAX_TIMEOUT_SECONDS: u64 = 4_294_967_295;
 
 /// The request that a message is, of the served root.
-#[tactic(auto, unfolding(crate::specs::Rules::request_by))]
 pub(crate) fn request_by(
     alloc: Global,
     root: &str,
@@ -46,20 +45,31 @@ pub(crate) fn request_by(
     ensures request { Decodes (λ request. request) result (request_by root.now raw) }
     ensures other { IfErr result IsNoCut }
 {
+    refuse_unfit(alloc, root, &raw)?;
+    Ok(request_from(raw))
+}
+
+/// Refuses a message that is no request of the served root.
+#[tactic(auto, unfolding(crate::specs::Rules::request_by))]
+fn refuse_unfit(alloc: Global, root: &str, raw: &RawRequest) -> Result<(), SessionFault>
+    ensures request { Decodes (λ _. request_from raw.now) result (request_by root.now raw.now) }
+    ensures timeout { OnOk result (raw.now.timeout_seconds < 2 ^ 32) }
+    ensures other { IfErr result IsNoCut }
+{
     if raw.version != VERSION {
         return refuse(BadReason::UnknownVersion, raw.version);
     }
     if raw.root.as_str() != root {
         return refuse(BadReason::WrongRoot, 0);
     }
-    if let Some(number) = bad_field(alloc, &raw)? {
-        return refuse(BadReason::BadField, u64::from(number));
+    match bad_field(alloc, raw)? {
+        Some(number) => refuse(BadReason::BadField, u64::from(number)),
+        None => Ok(()),
     }
-    Ok(request_from(raw))
 }
 
 /// The least field that breaks its rule.
-#[tactic(auto, unfolding(crate::specs::Rules::bad_field, crate::specs::Rules::outputs_hold))]
+#[tactic(auto, unfolding(crate::specs::Rules::bad_field))]
 fn bad_field(alloc: Global, raw: &RawRequest) -> Result<Option<u32>, NoMemory>
     ensures { IfOk result (λ number. number ≡ bad_field raw.now) }
 {
@@ -78,6 +88,19 @@ fn bad_field(alloc: Global, raw: &RawRequest) -> Result<Option<u32>, NoMemory>
     if !is_within(TOOL, COMPILE, raw.kind) {
         return Ok(Some(request::KIND));
     }
+    bad_path_field(alloc, raw, &directory)
+}
+
+/// The least field from 8 on that breaks its rule.
+#[tactic(auto, unfolding(crate::specs::Rules::outputs_hold))]
+fn bad_path_field(
+    alloc: Global,
+    raw: &RawRequest,
+    directory: &RelPath,
+) -> Result<Option<u32>, NoMemory>
+    requires { directory.now ≡ path_in raw.now.working_directory }
+    ensures { IfOk result (λ number. number ≡ bad_path_field raw.now) }
+{
     let Some(inputs) = read_paths(alloc, raw.inputs.as_slice())? else {
         return Ok(Some(request::INPUTS));
     };
@@ -87,7 +110,7 @@ fn bad_field(alloc: Global, raw: &RawRequest) -> Result<Option<u32>, NoMemory>
     let Some(outputs) = read_paths(alloc, raw.outputs.as_slice())? else {
         return Ok(Some(request::OUTPUTS));
     };
-    if !outputs_stand(&directory, inputs.as_slice(), toolchain.as_slice(), outputs)? {
+    if !outputs_stand(directory, inputs.as_slice(), toolchain.as_slice(), outputs)? {
         return Ok(Some(request::OUTPUTS));
     }
     Ok(bad_last_field(raw))

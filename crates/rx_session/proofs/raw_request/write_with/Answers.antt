@@ -4,16 +4,16 @@ use Rattle.rx_codec.specs.Contents.{each_in}
 use Rattle.rx_codec.proofs.ContentLaws.{all_unit, contents-append, contents-numbered, number_again, text_again, texts_again}
 use Rattle.rx_session.specs.Messages.{pair_message, pair_message_from, pairs_put, raw_request_fields, raw_request_from}
 use Rattle.rx_session.proofs.RequestLemmas.{pairs_again}
-use Rattle.rx_session.proofs.raw_request.RawRequestMessage.write.Goals as goal
+use Rattle.rx_session.proofs.raw_request.write_with.Goals as goal
 
 pub returns-clause-again : goal.returns-clause-again
 unfolding raw_request_fields raw_request_from
-returns-clause-again c = λ ok can.
-    let x = c.args.self.now in
+returns-clause-again c = λ ok.
+    let x = c.args.message.now in
     let environment : each_in pair_message_from (pairs_put x.environment) ≡ Ok (map pair_message x.environment) =
-    rw (c.in_ok-environment.ensures, c.as_slice.ensures) at (c.in_ok-messages.ensures.again refl (all_unit c.in_ok-environment.environment)) in
+    rw c.requires.environment at (c.in_ok-messages.ensures.again refl (all_unit c.args.environment.now)) in
     let platform : each_in pair_message_from (pairs_put x.platform) ≡ Ok (map pair_message x.platform) =
-    rw (c.in_ok-platform.ensures, c.as_slice-2.ensures) at (c.in_ok-messages-2.ensures.again refl (all_unit c.in_ok-platform.platform)) in
+    rw c.requires.platform at (c.in_ok-messages-2.ensures.again refl (all_unit c.args.platform.now)) in
     simp (contents-append, contents-numbered, append-nil) (
     rw (
       environment,
