@@ -13,7 +13,7 @@ use crate::gather_fault::GatherFault;
 use crate::input_trees::{cause_of, take_tree};
 use crate::plans::local_plan;
 use crate::scanned::scan;
-use crate::words::{read_words, with_outputs};
+use crate::words::{read_words, with_outputs, word_of};
 use rx_base::{Items, RelPath, Text, TryClone};
 use rx_digest_cache::DigestCache;
 use rx_reach::Sights;
@@ -77,7 +77,7 @@ pub fn gather<W: World, S: Sources<W>>(
     let command = with_outputs(alloc, command, meaning.outputs.as_slice())?;
     let mut sights = Sights::new(alloc);
     let scanned = scan(rt, alloc, sources, &mut sights, cache, inputs, &meaning)?;
-    let cause = cause_of(meaning.word, scanned.hard);
+    let cause = cause_of(word_of(meaning), scanned.hard);
     let tree = take_tree::<W, S>(
         alloc,
         sources,

@@ -25,6 +25,14 @@ pub(crate) struct WordMeaning {
     pub word: Option<Text>,
 }
 
+/// The word that keeps the command on this machine. The rest of the meaning is let go here, in one
+/// place, and not in each way out of the caller.
+pub(crate) fn word_of(meaning: WordMeaning) -> Option<Text>
+    ensures { result ≡ meaning.word }
+{
+    meaning.word
+}
+
 /// Reads the words of a compile command; a tool's aren't read.
 pub(crate) fn read_words(
     alloc: Global,

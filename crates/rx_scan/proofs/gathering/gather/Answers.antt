@@ -39,7 +39,7 @@ returns-in_err-tree-clause-gathered g c =
     let p = err_from_is_err_and c.from_residual-in_err-tree.result c.from_residual-in_err-tree.ensures.1 in
     let asked : Asked = asked_for c.args.command.now c.args.kind c.args.inputs.now c.args.strategy in
     let command = command-asked asked c.in_ok-meaning.meaning _ c.in_ok-command.command c.in_ok-meaning.ensures.meaning c.as_slice.ensures c.in_ok-command.ensures in
-    let cause = cause-asked asked c.in_ok-meaning.meaning c.in_ok-scanned.scanned.hard c.cause_of-cause.result c.in_ok-meaning.ensures.meaning c.cause_of-cause.ensures in
+    let cause = cause-asked asked c.in_ok-meaning.meaning c.in_ok-scanned.scanned.hard c.cause_of-cause.result c.in_ok-meaning.ensures.meaning (rw c.word_of.ensures at c.cause_of-cause.ensures) in
     let scanned = scanned-asked _ _ _ _ asked c.in_ok-meaning.meaning _ _ c.in_ok-scanned.scanned c.in_ok-meaning.ensures.meaning c.new-sights.ensures c.in_ok-scanned.ensures.scanned in
     let allows = allows-meaning asked c.in_ok-meaning.meaning c.in_ok-meaning.ensures.meaning c.in_ok-refuse_word.ensures.ok in
     rw (p.1, p.2) (refused-tree _ _ _ _ _ asked _ _ c.in_ok-scanned.scanned c.in_ok-command.command c.cause_of-cause.result _ allows command cause c.in_ok-scanned.ensures.known scanned c.in_err-tree.ensures.taken)
@@ -70,7 +70,7 @@ pub returns-clause-gathered : goal.returns-clause-gathered
 returns-clause-gathered g c =
     let asked : Asked = asked_for c.args.command.now c.args.kind c.args.inputs.now c.args.strategy in
     let command = command-asked asked c.in_ok-meaning.meaning _ c.in_ok-command.command c.in_ok-meaning.ensures.meaning c.as_slice.ensures c.in_ok-command.ensures in
-    let cause = cause-asked asked c.in_ok-meaning.meaning c.in_ok-scanned.scanned.hard c.cause_of-cause.result c.in_ok-meaning.ensures.meaning c.cause_of-cause.ensures in
+    let cause = cause-asked asked c.in_ok-meaning.meaning c.in_ok-scanned.scanned.hard c.cause_of-cause.result c.in_ok-meaning.ensures.meaning (rw c.word_of.ensures at c.cause_of-cause.ensures) in
     let scanned = scanned-asked _ _ _ _ asked c.in_ok-meaning.meaning _ _ c.in_ok-scanned.scanned c.in_ok-meaning.ensures.meaning c.new-sights.ensures c.in_ok-scanned.ensures.scanned in
     let tree = tree-scanned _ _ _ _ _ asked _ _ c.in_ok-scanned.scanned c.in_ok-command.command c.cause_of-cause.result c.in_ok-tree.tree.files scanned c.in_ok-tree.ensures.taken in
     let same = rw c.as_slice-2.ensures at c.in_ok-files.ensures.same in
@@ -85,7 +85,7 @@ returns-clause-orderly g c =
     let asked : Asked = asked_for c.args.command.now c.args.kind c.args.inputs.now c.args.strategy in
     let command = command-asked asked c.in_ok-meaning.meaning _ c.in_ok-command.command c.in_ok-meaning.ensures.meaning c.as_slice.ensures c.in_ok-command.ensures in
     let with = rw c.as_slice.ensures at c.in_ok-command.ensures in
-    let cause = cause-asked asked c.in_ok-meaning.meaning c.in_ok-scanned.scanned.hard c.cause_of-cause.result c.in_ok-meaning.ensures.meaning c.cause_of-cause.ensures in
+    let cause = cause-asked asked c.in_ok-meaning.meaning c.in_ok-scanned.scanned.hard c.cause_of-cause.result c.in_ok-meaning.ensures.meaning (rw c.word_of.ensures at c.cause_of-cause.ensures) in
     let same = rw c.as_slice-2.ensures at c.in_ok-files.ensures.same in
     orderly-so asked c.args.inputs.now c.in_ok-meaning.meaning.outputs c.in_ok-scanned.scanned.dirs c.in_ok-tree.tree
     (record { command = c.in_ok-command.command; view = c.in_ok-view.view; files = c.in_ok-files.files; dirs = c.in_ok-tree.tree.dirs; plan = c.in_ok-tree.tree.plan })
