@@ -106,17 +106,27 @@ slot-named : (file : Option OutputFile) → is_none file ≡ false → is_unname
 slot-named None there named = absurd (cc there)
 slot-named (Some file) there named = named
 
-slots-named : (command : Command) (result : ActionResult) (outputs : List (List ℕ)) →
-    list_any (λ output. is_none (file_for command result output)) outputs ≡ false →
-    list_any (λ output. is_unnamed (file_for command result output)) outputs ≡ false →
-    list_any (λ (slot : Slot). is_none slot.digest)
-    (map (λ output. slot_of (file_for command result output)) outputs) ≡ false
-slots-named command result [] there named = refl
-slots-named command result (output ∷ outputs) there named =
-    let files = or_parts (is_none (file_for command result output)) _ there in
-    let names = or_parts (is_unnamed (file_for command result output)) _ named in
-    rw (slot-named (file_for command result output) files.0 names.0)
-    (slots-named command result outputs files.1 names.1)
+module _ (command : Command) (result : ActionResult) where
+  slots-named : (outputs : List (List ℕ)) →
+      list_any (λ output. is_none (file_for command result output)) outputs ≡ false →
+      list_any (λ output. is_unnamed (file_for command result output)) outputs ≡ false →
+      list_any (λ (slot : Slot). is_none slot.digest)
+      (map (λ output. slot_of (file_for command result output)) outputs) ≡ false
+  slots-named [] there named = refl
+  slots-named (output ∷ outputs) there named =
+      let files = or_parts (is_none (file_for command result output)) _ there in
+      let names = or_parts (is_unnamed (file_for command result output)) _ named in
+      rw (slot-named (file_for command result output) files.0 names.0)
+      (slots-named outputs files.1 names.1)
+
+  sizes-with : (outputs bodies : List (List ℕ)) → length bodies ≡ length outputs →
+      map (λ (file : FileOut). length file.bytes) (files_with command result outputs bodies) ≡ map
+      length bodies
+  sizes-with [] [] long = refl
+  sizes-with [] (body ∷ bodies) long = absurd (omega arith)
+  sizes-with (output ∷ outputs) [] long = absurd (omega arith)
+  sizes-with (output ∷ outputs) (body ∷ bodies) long = ap (λ rest. length body ∷ rest)
+      (sizes-with outputs bodies (omega arith))
 
 -- ---- all files
 
@@ -130,16 +140,6 @@ bounded f (x ∷ xs) g (y ∷ ys) most e none =
     let same : f x ≡ g y = cc e in
     All-cons (λ x. f x ≤ most) x xs (grind (arith, nat_tests, tests.0, same))
     (bounded f xs g ys most (cc e) tests.1)
-
-sizes-with : (command : Command) (result : ActionResult) (outputs bodies : List (List ℕ)) →
-    length bodies ≡ length outputs →
-    map (λ (file : FileOut). length file.bytes) (files_with command result outputs bodies) ≡ map
-    length bodies
-sizes-with command result [] [] long = refl
-sizes-with command result [] (body ∷ bodies) long = absurd (omega arith)
-sizes-with command result (output ∷ outputs) [] long = absurd (omega arith)
-sizes-with command result (output ∷ outputs) (body ∷ bodies) long = ap (λ rest. length body ∷ rest)
-    (sizes-with command result outputs bodies (omega arith))
 
 -- ---- no fault
 
@@ -155,54 +155,54 @@ pub record Unfaulted (command : Command) (result : ActionResult) : Type 0 where
   stdout : is_text_too_large (stdout_slot result) ≡ false
   stderr : is_text_too_large (stderr_slot result) ≡ false
 
-no-faults : (command : Command) (result : ActionResult) → fault_of command result ≡ None →
-    Unfaulted command result
-unfolding fault_of
-no-faults command result e =
-    let once = unfaulted _ _ _ e in
-    let there = unfaulted _ _ _ once.1 in
-    let named = unfaulted _ _ _ there.1 in
-    let small = unfaulted _ _ _ named.1 in
-    let files = or_parts _ _ small.0 in
-    let sizes = or_parts _ _ files.0 in
-    let texts = or_parts _ _ files.1 in
-    record {
-      there = there.0;
-      named = named.0;
-      each = sizes.0;
-      all = sizes.1;
-      stdout = texts.0;
-      stderr = texts.1;
-    }
-
--- ---- the outcome
-
 small : (n most : ℕ) → nat_lt most n ≡ false → n ≤ most
 small n most e = grind (arith, nat_tests)
 
-pub outcome-limits : (command : Command) (result : ActionResult) (texts : List (List ℕ)) →
-    IsFetched command result texts → IsWithinLimits (outcome_of command result texts)
-outcome-limits command result texts h =
-    let sound = no-faults command result h.sound in
-    let stdout = text-by result.stdout_raw result.stdout_digest texts
-    (option_to_list (wanted (stderr_slot result)) ++ wanted_for (file_slots command result))
-    h.fetched in
-    let behind : List (List ℕ) = texts_after (wanted (stdout_slot result)) texts in
-    let stderr = text-by result.stderr_raw result.stderr_digest behind
-    (wanted_for (file_slots command result)) stdout.1 in
-    let left : List (List ℕ) = texts_after (wanted (stderr_slot result)) behind in
-    let fine = first-none (filter_map mismatch_of (file_slots command result)) h.unspoiled in
-    let named = slots-named command result (counted command result) sound.there sound.named in
-    let bodies : List (List ℕ) = filled (file_slots command result) left in
-    let long : length bodies ≡ length (counted command result) =
-    filled-length (file_slots command result) left
-    ∙ length-map (counted command result) (λ output. slot_of (file_for command result output)) in
-    let sizes = sizes-with command result (counted command result) bodies long
-    ∙ file-sizes (file_slots command result) left fine named stderr.1 in
-    record {
-      each_file = bounded (λ (file : FileOut). length file.bytes) _ file_size
-          (file_slots command result) most_file_bytes sizes sound.each;
-      all_files = rw sizes (small _ most_files_bytes sound.all);
-      stdout = rw stdout.0 (small _ most_text_bytes sound.stdout);
-      stderr = rw stderr.0 (small _ most_text_bytes sound.stderr);
-    }
+module _ (command : Command) (result : ActionResult) where
+  no-faults : fault_of command result ≡ None → Unfaulted command result
+  unfolding fault_of
+  no-faults e =
+      let once = unfaulted _ _ _ e in
+      let there = unfaulted _ _ _ once.1 in
+      let named = unfaulted _ _ _ there.1 in
+      let small = unfaulted _ _ _ named.1 in
+      let files = or_parts _ _ small.0 in
+      let sizes = or_parts _ _ files.0 in
+      let texts = or_parts _ _ files.1 in
+      record {
+        there = there.0;
+        named = named.0;
+        each = sizes.0;
+        all = sizes.1;
+        stdout = texts.0;
+        stderr = texts.1;
+      }
+
+  -- ---- the outcome
+
+  pub outcome-limits : (texts : List (List ℕ)) → IsFetched command result texts →
+      IsWithinLimits (outcome_of command result texts)
+  outcome-limits texts h =
+      let sound = no-faults h.sound in
+      let stdout = text-by result.stdout_raw result.stdout_digest texts
+      (option_to_list (wanted (stderr_slot result)) ++ wanted_for (file_slots command result))
+      h.fetched in
+      let behind : List (List ℕ) = texts_after (wanted (stdout_slot result)) texts in
+      let stderr = text-by result.stderr_raw result.stderr_digest behind
+      (wanted_for (file_slots command result)) stdout.1 in
+      let left : List (List ℕ) = texts_after (wanted (stderr_slot result)) behind in
+      let fine = first-none (filter_map mismatch_of (file_slots command result)) h.unspoiled in
+      let named = slots-named command result (counted command result) sound.there sound.named in
+      let bodies : List (List ℕ) = filled (file_slots command result) left in
+      let long : length bodies ≡ length (counted command result) =
+      filled-length (file_slots command result) left
+      ∙ length-map (counted command result) (λ output. slot_of (file_for command result output)) in
+      let sizes = sizes-with command result (counted command result) bodies long
+      ∙ file-sizes (file_slots command result) left fine named stderr.1 in
+      record {
+        each_file = bounded (λ (file : FileOut). length file.bytes) _ file_size
+            (file_slots command result) most_file_bytes sizes sound.each;
+        all_files = rw sizes (small _ most_files_bytes sound.all);
+        stdout = rw stdout.0 (small _ most_text_bytes sound.stdout);
+        stderr = rw stderr.0 (small _ most_text_bytes sound.stderr);
+      }

@@ -37,31 +37,11 @@ mark_is : (file : Option OutputFile) → is_marked (result_file_if file) ≡ is_
 mark_is None = refl
 mark_is (Some file) = refl
 
-files_shown : (command : Command) (result : ActionResult) (outputs bodies : List (List ℕ)) →
-    files_in (map (output_at command result) outputs) bodies ≡ files_with command result outputs
-    bodies
-files_shown command result [] bodies = refl
-files_shown command result (output ∷ outputs) [] = refl
-files_shown command result (output ∷ outputs) (body ∷ bodies) =
-    rw (mark_is (file_for command result output), files_shown command result outputs bodies) refl
-
-read_outcome : (command : Command) (result : ActionResult) (texts : List (List ℕ)) →
-    outcome_in (reading_of command result) texts ≡ outcome_of command result texts
-unfolding reading_of
-read_outcome command result texts =
-    rw (
-      slots_shown command result (counted command result),
-      files_shown command result
-          (counted command result),
-    ) refl
-
-pub outcome-is : (command : Command) (result : ActionResult) (reading : Reading)
-    (texts : List (List ℕ)) → IsReading command result reading →
-    outcome_in reading texts ≡ outcome_of command result texts
-outcome-is command result reading texts h = ap (λ (r : Reading). outcome_in r texts) h.is
-    ∙ read_outcome command result texts
-
--- ---- its files are those of the outputs that count
+-- at another code no output counts
+pub none_counted : (command : Command) (code : ℤ) → code ≢ pos 0 → outputs_at command code ≡ []
+none_counted command (pos zero) differs = absurd (differs refl)
+none_counted command (pos (suc n)) differs = rw (ne_eqb (suc n) 0 (λ e. omega arith)) refl
+none_counted command (negsuc n) differs = refl
 
 pub filled-length : (slots : List Slot) (texts : List (List ℕ)) →
     length (filled slots texts) ≡ length slots
@@ -69,35 +49,52 @@ filled-length [] texts = refl
 filled-length (slot ∷ slots) texts = let rest = filled-length slots
     (texts_after (wanted slot) texts) in omega arith
 
-paths_are : (command : Command) (result : ActionResult) (outputs bodies : List (List ℕ)) →
-    length bodies ≡ length outputs →
-    map (λ (file : FileOut). file.path) (files_with command result outputs bodies) ≡ outputs
-paths_are command result [] bodies long = refl
-paths_are command result (output ∷ outputs) [] long = absurd (omega arith)
-paths_are command result (output ∷ outputs) (body ∷ bodies) long =
-    ap (λ (rest : List (List ℕ)). output ∷ rest) (paths_are command result outputs bodies
-    (omega arith))
+module _ (command : Command) (result : ActionResult) where
+  files_shown : (outputs bodies : List (List ℕ)) →
+      files_in (map (output_at command result) outputs) bodies ≡ files_with command result outputs
+      bodies
+  files_shown [] bodies = refl
+  files_shown (output ∷ outputs) [] = refl
+  files_shown (output ∷ outputs) (body ∷ bodies) =
+      rw (mark_is (file_for command result output), files_shown outputs bodies) refl
 
--- at another code no output counts
-pub none_counted : (command : Command) (code : ℤ) → code ≢ pos 0 → outputs_at command code ≡ []
-none_counted command (pos zero) differs = absurd (differs refl)
-none_counted command (pos (suc n)) differs = rw (ne_eqb (suc n) 0 (λ e. omega arith)) refl
-none_counted command (negsuc n) differs = refl
+  read_outcome : (texts : List (List ℕ)) →
+      outcome_in (reading_of command result) texts ≡ outcome_of command result texts
+  unfolding reading_of
+  read_outcome texts =
+      rw (
+        slots_shown command result (counted command result),
+        files_shown (counted command result),
+      ) refl
 
-pub outcome-proper : (command : Command) (result : ActionResult) (texts : List (List ℕ)) →
-    IsProper command (outcome_of command result texts)
-outcome-proper command result texts =
-    let left : List (List ℕ) = texts_after (wanted (record
-    { inline = result.stderr_raw; digest = result.stderr_digest }))
-    (texts_after (wanted (record { inline = result.stdout_raw; digest = result.stdout_digest }))
-    texts) in
-    let bodies : List (List ℕ) = filled (file_slots command result) left in
-    let long : length bodies ≡ length (counted command result) =
-    filled-length (file_slots command result) left
-    ∙ length-map (counted command result) (λ output. slot_of (file_for command result output)) in
-    let paths = paths_are command result (counted command result) bodies long in
-    record {
-      whole = λ zero. paths ∙ ap (outputs_at command) zero;
-      none = λ differs. ap (λ (outputs : List (List ℕ)). files_with command result outputs bodies)
-          (none_counted command result.exit_code differs);
-    }
+  pub outcome-is : (reading : Reading) (texts : List (List ℕ)) →
+      IsReading command result reading →
+      outcome_in reading texts ≡ outcome_of command result texts
+  outcome-is reading texts h = ap (λ (r : Reading). outcome_in r texts) h.is ∙ read_outcome texts
+
+  -- ---- its files are those of the outputs that count
+
+  paths_are : (outputs bodies : List (List ℕ)) → length bodies ≡ length outputs →
+      map (λ (file : FileOut). file.path) (files_with command result outputs bodies) ≡ outputs
+  paths_are [] bodies long = refl
+  paths_are (output ∷ outputs) [] long = absurd (omega arith)
+  paths_are (output ∷ outputs) (body ∷ bodies) long =
+      ap (λ (rest : List (List ℕ)). output ∷ rest) (paths_are outputs bodies (omega arith))
+
+  pub outcome-proper : (texts : List (List ℕ)) →
+      IsProper command (outcome_of command result texts)
+  outcome-proper texts =
+      let left : List (List ℕ) = texts_after (wanted (record
+      { inline = result.stderr_raw; digest = result.stderr_digest }))
+      (texts_after (wanted (record { inline = result.stdout_raw; digest = result.stdout_digest }))
+      texts) in
+      let bodies : List (List ℕ) = filled (file_slots command result) left in
+      let long : length bodies ≡ length (counted command result) =
+      filled-length (file_slots command result) left
+      ∙ length-map (counted command result) (λ output. slot_of (file_for command result output)) in
+      let paths = paths_are (counted command result) bodies long in
+      record {
+        whole = λ zero. paths ∙ ap (outputs_at command) zero;
+        none = λ differs. ap (λ (outputs : List (List ℕ)). files_with command result outputs
+            bodies) (none_counted command result.exit_code differs);
+      }
