@@ -12,8 +12,9 @@ use Rattle.rx_core.specs.Remote.{AreHeard, AreLawful, Job, Rules}
 use Rattle.rx_core.specs.Replies.{Reply}
 use Rattle.rx_core.specs.States.{State}
 use Rattle.rx_core.specs.Steps.{MayExit, MayHear, answer, ended_by, exit, hear}
+use Rattle.rx_core.proofs.Cases.{none-some}
 use Rattle.rx_core.proofs.Growing.{Grows, entry-grows, if-some-map, reply-grows}
-use Rattle.rx_core.proofs.Outcomes.{none-some, won-proper}
+use Rattle.rx_core.proofs.Outcomes.{won-proper}
 use Rattle.rx_race.specs.declared.standing.Phase.TheVariants as phases
 use Rattle.rx_race.specs.declared.standing.Standing.{Standing}
 use Rattle.rx_race.specs.Sound.{Sound}

@@ -10,7 +10,8 @@ use Rattle.rx_core.specs.Replies.{Reply}
 use Rattle.rx_core.specs.Runs.{IsRun, after_steps}
 use Rattle.rx_core.specs.States.{State, with_change}
 use Rattle.rx_core.specs.Steps.{Answer, MayStep, Publish, Step, after_step, answer}
-use Rattle.rx_core.proofs.Reaching.{Reaches, after-more, changed-here, changed-other, run-more}
+use Rattle.rx_core.proofs.Changes.{changed-here, changed-other}
+use Rattle.rx_core.proofs.Reaching.{Reaches, after-more, run-more}
 use Rattle.rx_world.specs.Causes.{Rose}
 use Rattle.rx_world.specs.Outcomes.{listing}
 
@@ -97,7 +98,7 @@ module _ {H : Type 0} (rules : Rules H) (base : State H) (n : ℕ) where
             ∙ sym (after-more rules base f.steps (Publish n placed now));
         there = changed-here f.state n a (with_entry (entry_of f.state a placed finished.outcome)) f.there
             ∙ ap (λ entry. Some (with_entry entry a)) same-entry;
-        others = λ m not. changed-other f.state n m (with_entry (entry_of f.state a placed finished.outcome)) not ∙ f.others m not;
+        others = λ m not. changed-other f.state n a (with_entry (entry_of f.state a placed finished.outcome)) f.there m not ∙ f.others m not;
         journal_is = ap (λ js. js ++ entry_of f.state a placed finished.outcome ∷ []) f.journal_is
             ∙ ap (λ entry. journal ++ entry ∷ []) same-entry;
         limit = f.limit;
@@ -118,7 +119,7 @@ module _ {H : Type 0} (rules : Rules H) (base : State H) (n : ℕ) where
           }));
       leads = ap (λ state. after_step rules state (Answer n reply)) f.leads ∙ sym (after-more rules base f.steps (Answer n reply));
       there = changed-here f.state n a (answer reply) f.there;
-      others = λ m not. changed-other f.state n m (answer reply) not ∙ f.others m not;
+      others = λ m not. changed-other f.state n a (answer reply) f.there m not ∙ f.others m not;
       journal_is = f.journal_is;
       limit = f.limit;
       within = f.within;

@@ -5,7 +5,7 @@ use Rattle.rx_core.specs.Actions.{Action, winner_of, won}
 use Rattle.rx_core.specs.Attempts.{Ended, Finished, Idle, MayEnd, Offered, Progress, Running, Stops, end_in, finished_in}
 use Rattle.rx_core.specs.Facts.{IsAttempt, IsEntryOf, IsReplyOf, IsUnpublished}
 use Rattle.rx_core.specs.Replies.{Reply}
-use Rattle.rx_core.proofs.Outcomes.{none-some}
+use Rattle.rx_core.proofs.Cases.{none-some}
 use Rattle.rx_world.specs.declared.attempts.Attempt.{Attempt}
 use Rattle.rx_world.specs.declared.attempts.Attempt.TheVariants.{Local, Remote}
 use Rattle.rx_world.specs.declared.attempts.End.{End}

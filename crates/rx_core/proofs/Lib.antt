@@ -1,4 +1,6 @@
 mod ActionSteps
+pub mod Cases
+mod Changes
 pub mod Following
 mod Growing
 mod OfferSteps

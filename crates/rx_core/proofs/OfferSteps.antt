@@ -6,8 +6,8 @@ use Rattle.rx_core.specs.Attempts.{Ended, Finished, HasVerdict, Idle, Offered, P
 use Rattle.rx_core.specs.Facts.{Facts}
 use Rattle.rx_core.specs.Remote.{Rules}
 use Rattle.rx_core.specs.Steps.{MayOffer}
+use Rattle.rx_core.proofs.Cases.{none-some}
 use Rattle.rx_core.proofs.Growing.{Grows, attempt-grows, end-grows, entry-grows, reply-grows}
-use Rattle.rx_core.proofs.Outcomes.{none-some}
 use Rattle.rx_race.specs.declared.events.Event.TheVariants as events
 use Rattle.rx_race.specs.declared.events.Verdict.{Verdict}
 use Rattle.rx_race.specs.declared.standing.Phase.TheVariants as phases

@@ -7,6 +7,7 @@ use Rattle.rx_core.specs.Attempts.{Ended, Finished, Idle, MayEnd, Offered, Progr
 use Rattle.rx_core.specs.Facts.{Facts, IsAttempt}
 use Rattle.rx_core.specs.Honest.{AllClean, IsCleanEnd, IsHonest}
 use Rattle.rx_core.specs.Remote.{AreHeard, AreLawful, Job, Rules}
+use Rattle.rx_core.proofs.Cases.{none-some, some-is}
 use Rattle.rx_world.specs.declared.attempts.Attempt.{Attempt}
 use Rattle.rx_world.specs.declared.attempts.Attempt.TheVariants.{Local, Remote}
 use Rattle.rx_world.specs.declared.attempts.End.{End}
@@ -19,12 +20,6 @@ use Rattle.rx_world.specs.declared.outcomes.Outcome.{Outcome}
 use Rattle.rx_world.specs.declared.remote_causes.RemoteCause.{RemoteCause}
 use Rattle.rx_world.specs.declared.trees.Tree.{Tree}
 use Rattle.rx_world.specs.Outcomes.{IsClean, IsProper}
-
-pub none-some : {A B : Type 0} {x : A} → None ≡ Some x → B
-none-some e = cc
-
-pub some-is : {A : Type 0} {x y : A} → Some x ≡ Some y → x ≡ y
-some-is e = cc
 
 -- ---- an end
 

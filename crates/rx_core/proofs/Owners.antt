@@ -1,7 +1,6 @@
 -- Each entry of the journal is that of one action, and a step keeps this.
-use Rattle.std.proofs.Common.{◌≡◌, ◌<◌, ◌≤◌, ◌+◌, ℕ, Bool, true, false, List, [], ◌∷◌, Option, None, Some, arith, inl, inr, length, refl, ap, sym, subst, ◌∙◌}
-use Rattle.std.specs.Prelude.{◌==◌, ◌⊎◌, Contains, IfSome, if◌then◌else◌, option_map}
-use Rattle.std.proofs.lemmas.Bool.{eq-eqb, eqb-true}
+use Rattle.std.proofs.Common.{◌≡◌, ◌<◌, ◌≤◌, ◌+◌, ℕ, List, [], ◌∷◌, Option, None, Some, arith, inl, inr, length, refl, ap, sym, subst, ◌∙◌}
+use Rattle.std.specs.Prelude.{◌⊎◌, Contains, IfSome}
 use Rattle.rx_base.proofs.Members.{Contains-cons_cases, Contains-one, not_in_nothing}
 use Rattle.rx_board.specs.declared.journal.Entry.{Entry}
 use Rattle.rx_board.specs.Journal.{AreNumberedFrom}
@@ -9,9 +8,10 @@ use Rattle.rx_core.specs.Actions.{Action, admitted, cancel, offer, start}
 use Rattle.rx_core.specs.Facts.{Holds, IsOwned}
 use Rattle.rx_core.specs.Publications.{entry_of, publish, published, with_entry}
 use Rattle.rx_core.specs.Remote.{Rules}
-use Rattle.rx_core.specs.States.{State, with_change}
+use Rattle.rx_core.specs.States.{State, with_action, with_change}
 use Rattle.rx_core.specs.Steps.{Admit, Answer, Cancel, Exit, Hear, MayStep, Offer, Publish, Start, Step, after_step, answer, exit, hear}
-use Rattle.rx_core.proofs.Outcomes.{none-some, some-is}
+use Rattle.rx_core.proofs.Cases.{none-some, some-is}
+use Rattle.rx_core.proofs.Changes.{added-each, changed-each, changed-here}
 use Rattle.rx_core.proofs.Staying.{step-stays}
 use Rattle.rx_world.specs.declared.attempts.Attempt.{Attempt}
 use Rattle.rx_world.specs.declared.attempts.Attempt.TheVariants.{Local, Remote}
@@ -46,37 +46,27 @@ record HadEntry {H : Type 0} (found : Option (Action H)) (entry : Entry) : Type 
   there : found ≡ Some action
   entry_is : action.entry ≡ Some entry
 
-had-if : {H : Type 0} (b : Bool) (f : Action H → Action H) (found : Option (Action H))
-    (a now : Action H) (entry : Entry) → (b ≡ true → found ≡ Some a)
-    → ((f a).entry ≡ Some entry → a.entry ≡ Some entry)
-    → (if b then option_map f found else found) ≡ Some now → now.entry ≡ Some entry
-    → HadEntry found entry
-had-if {H} true f found a now entry here same is e =
-    let there : found ≡ Some a = here refl in
-    let made : f a ≡ now = some-is (sym (ap (option_map f) there) ∙ is) in record {
-      action = a;
-      there = there;
-      entry_is = same (ap (λ (one : Action H). one.entry) made ∙ e);
-    }
-had-if false f found a now entry here same is e =
-    record { action = now; there = is; entry_is = e }
+module _ {H : Type 0} (state : State H) (n : ℕ) (a : Action H) (entry : Entry) where
+  had-change : (f : Action H → Action H) → state.actions n ≡ Some a
+      → ((f a).entry ≡ Some entry → a.entry ≡ Some entry) → (m : ℕ) (now : Action H)
+      → (with_change n f state).actions m ≡ Some now → now.entry ≡ Some entry
+      → HadEntry (state.actions m) entry
+  had-change f there same m now is e =
+      changed-each state n a f there (λ k found. found ≡ Some now → HadEntry (state.actions k) entry)
+      (λ made. record {
+        action = a;
+        there = there;
+        entry_is = same (ap (λ (one : Action H). one.entry) (some-is made) ∙ e);
+      })
+      (λ k not was. record { action = now; there = was; entry_is = e }) m is
 
-had-change : {H : Type 0} (state : State H) (n : ℕ) (a : Action H) (f : Action H → Action H)
-    (entry : Entry) → state.actions n ≡ Some a
-    → ((f a).entry ≡ Some entry → a.entry ≡ Some entry) → (m : ℕ) (now : Action H)
-    → (with_change n f state).actions m ≡ Some now → now.entry ≡ Some entry
-    → HadEntry (state.actions m) entry
-had-change state n a f entry there same m now is e =
-    had-if (m == n) f (state.actions m) a now entry
-    (λ b. ap state.actions (eqb-true m n b) ∙ there) same is e
-
-had-insert : {H : Type 0} (b : Bool) (found : Option (Action H)) (new now : Action H)
-    (entry : Entry) → new.entry ≡ None → (if b then Some new else found) ≡ Some now
-    → now.entry ≡ Some entry → HadEntry found entry
-had-insert {H} true found new now entry none is e =
-    none-some (sym none ∙ ap (λ (one : Action H). one.entry) (some-is is) ∙ e)
-had-insert false found new now entry none is e =
-    record { action = now; there = is; entry_is = e }
+  had-admit : a.entry ≡ None → (m : ℕ) (now : Action H)
+      → (with_action n a state).actions m ≡ Some now → now.entry ≡ Some entry
+      → HadEntry (state.actions m) entry
+  had-admit none m now is e =
+      added-each state n a (λ k found. found ≡ Some now → HadEntry (state.actions k) entry)
+      (λ made. none-some (sym none ∙ ap (λ (one : Action H). one.entry) (some-is made) ∙ e))
+      (λ k not was. record { action = now; there = was; entry_is = e }) m is
 
 had-published : {H : Type 0} (rules : Rules H) (state : State H) (n placed faults : ℕ)
     → MayStep rules state (Publish n placed faults) → (entry : Entry)
@@ -90,7 +80,7 @@ had-published rules state n placed faults may entry old m now is e =
     may.there is in
     let made = subst (λ one. (published n placed faults state a one).actions m ≡ Some now)
     may.holds.won_is found in
-    had-change state n a (with_entry new) entry may.there (λ same.
+    had-change state n a entry (with_entry new) may.there (λ same.
     let number : length state.journal + 1 ≡ entry.number =
     ap (λ (one : Entry). one.number) (some-is same) in
     absurd (omega (arith, number, old))) m now made e
@@ -101,23 +91,23 @@ had-step : {H : Type 0} (rules : Rules H) (state : State H) (step : Step H)
     → (m : ℕ) (now : Action H) → (after_step rules state step).actions m ≡ Some now
     → now.entry ≡ Some entry → HadEntry (state.actions m) entry
 had-step rules state (Admit n session plan job) may entry old m now is e =
-    had-insert (m == n) (state.actions m) (admitted session plan job) now entry refl is e
+    had-admit state n (admitted session plan job) entry refl m now is e
 had-step rules state (Start n x) may entry old m now is e =
-    had-change state n may.action (start x) entry may.there
+    had-change state n may.action entry (start x) may.there
     (λ same. sym (start-entry may.action x) ∙ same) m now is e
 had-step rules state (Hear n item) may entry old m now is e =
-    had-change state n may.action (hear rules item) entry may.there (λ same. same) m now is e
+    had-change state n may.action entry (hear rules item) may.there (λ same. same) m now is e
 had-step rules state (Exit n end) may entry old m now is e =
-    had-change state n may.action (exit end) entry may.there (λ same. same) m now is e
+    had-change state n may.action entry (exit end) may.there (λ same. same) m now is e
 had-step rules state (Offer n x) may entry old m now is e =
-    had-change state n may.action (offer x) entry may.there
+    had-change state n may.action entry (offer x) may.there
     (λ same. sym (offer-entry may.action x) ∙ same) m now is e
 had-step rules state (Cancel n) may entry old m now is e =
-    had-change state n may.action cancel entry may.there (λ same. same) m now is e
+    had-change state n may.action entry cancel may.there (λ same. same) m now is e
 had-step rules state (Publish n placed faults) may entry old m now is e =
     had-published rules state n placed faults may entry old m now is e
 had-step rules state (Answer n reply) may entry old m now is e =
-    had-change state n may.action (answer reply) entry may.there (λ same. same) m now is e
+    had-change state n may.action entry (answer reply) may.there (λ same. same) m now is e
 
 -- ---- owners
 
@@ -137,12 +127,6 @@ owned-after rules files state step may h entry is =
           owner.alone m had.action had.there had.entry_is;
     }
 
-alone-if : {H : Type 0} (b : Bool) (f : Action H → Action H) (found : Option (Action H))
-    (now : Action H) (m n : ℕ) → (b ≡ true → m ≡ n) → (found ≡ Some now → m ≡ n)
-    → (if b then option_map f found else found) ≡ Some now → m ≡ n
-alone-if true f found now m n here apart is = here refl
-alone-if false f found now m n here apart is = apart is
-
 if-some-at : {A : Type 0} (m : Option A) (x : A) (P : A → Type 0) → m ≡ Some x → IfSome m P → P x
 if-some-at m x P e h = subst (λ o. IfSome o P) e h
 
@@ -154,15 +138,15 @@ pub owned-new : {H : Type 0} (rules : Rules H) (files : List FileOut) (state : S
 owned-new rules files state n a entry there next h = record {
   n = n;
   action = with_entry entry a;
-  there = rw (eq-eqb n n refl) (ap (option_map (with_entry entry)) there);
+  there = changed-here state n a (with_entry entry) there;
   entry_is = refl;
   alone = λ m other is e.
-      alone-if (m == n) (with_entry entry) (state.actions m) other m n (eqb-true m n)
-      (λ was.
-      let listed = h.listed m other was in
+      changed-each state n a (with_entry entry) there (λ k found. found ≡ Some other → k ≡ n) (λ made. refl)
+      (λ k not was.
+      let listed = h.listed k other was in
       let in_it = if-some-at other.entry entry (Contains state.journal) e listed in
       let below = numbered-within 1 state.journal entry h.numbered in_it in
-      absurd (omega (arith, below, next))) is;
+      absurd (omega (arith, below, next))) m is;
 }
 
 -- the entry that is added has an owner, and each other one has it still

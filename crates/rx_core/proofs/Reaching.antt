@@ -1,12 +1,11 @@
 -- States that steps of one action lead to: each step that may come leads on.
 use Rattle.std.proofs.Common.{◌≡◌, ℕ, true, List, [], ◌∷◌, ◌++◌, None, Some, refl, ap, sym, subst, ◌∙◌}
-use Rattle.std.specs.Prelude.{if◌then◌else◌, option_map}
-use Rattle.std.proofs.lemmas.Bool.{eq-eqb, ne_eqb}
 use Rattle.rx_core.specs.Actions.{Action, admitted, cancel, offer, standing_of, start}
 use Rattle.rx_core.specs.Remote.{Job, Rules}
 use Rattle.rx_core.specs.Runs.{IsRun, after_steps}
 use Rattle.rx_core.specs.States.{State, with_action, with_change}
 use Rattle.rx_core.specs.Steps.{Admit, Cancel, Exit, Hear, MayExit, MayHear, MayOffer, MayStep, Offer, Start, Step, after_step, exit, hear}
+use Rattle.rx_core.proofs.Changes.{added-here, added-other, changed-here, changed-other}
 use Rattle.rx_race.specs.Standings.{may_start}
 use Rattle.rx_world.specs.declared.attempts.Attempt.{Attempt}
 use Rattle.rx_world.specs.declared.attempts.Cause.{Cause}
@@ -40,17 +39,6 @@ after-more rules state steps step = after-append rules state steps (step ∷ [])
 
 -- ---- the action that changes
 
-pub changed-here : {H : Type 0} (state : State H) (n : ℕ) (a : Action H) (f : Action H → Action H)
-    → state.actions n ≡ Some a → (with_change n f state).actions n ≡ Some (f a)
-changed-here state n a f there =
-    ap (λ b. if b then option_map f (state.actions n) else state.actions n) (eq-eqb n n refl)
-    ∙ ap (option_map f) there
-
-pub changed-other : {H : Type 0} (state : State H) (n m : ℕ) (f : Action H → Action H)
-    → (m ≡ n → ⊥) → (with_change n f state).actions m ≡ state.actions m
-changed-other state n m f not =
-    ap (λ b. if b then option_map f (state.actions m) else state.actions m) (ne_eqb m n not)
-
 -- an action stands in a state that differs from another one in that action alone
 pub record Stands {H : Type 0} (base : State H) (n : ℕ) (a : Action H) (state : State H)
     : Type 0 where
@@ -79,8 +67,8 @@ module _ {H : Type 0} (rules : Rules H) (base : State H) (n : ℕ) where
         run = (free, tt);
         leads = refl;
         stands = record {
-          there = ap (λ b. if b then Some a else base.actions n) (eq-eqb n n refl);
-          others = λ m not. ap (λ b. if b then Some a else base.actions m) (ne_eqb m n not);
+          there = added-here base n a;
+          others = added-other base n a;
           journal = refl;
           limit = refl;
           faults = refl;
@@ -101,7 +89,7 @@ module _ {H : Type 0} (rules : Rules H) (base : State H) (n : ℕ) where
           ∙ sym (after-more rules base r.steps step);
       stands = record {
         there = changed-here r.state n a f r.stands.there;
-        others = λ m not. changed-other r.state n m f not ∙ r.stands.others m not;
+        others = λ m not. changed-other r.state n a f r.stands.there m not ∙ r.stands.others m not;
         journal = r.stands.journal;
         limit = r.stands.limit;
         faults = r.stands.faults;

@@ -1,7 +1,6 @@
 -- Each state of each run meets its facts.
-use Rattle.std.proofs.Common.{◌≡◌, ℕ, Bool, true, false, List, [], ◌∷◌, ◌++◌, Option, Some, arith, length, length-append, refl, ap, sym, subst, ◌∙◌}
-use Rattle.std.specs.Prelude.{◌==◌, Contains, IfSome, if◌then◌else◌, option_map}
-use Rattle.std.proofs.lemmas.Bool.{eqb-true}
+use Rattle.std.proofs.Common.{◌≡◌, ℕ, List, [], ◌∷◌, ◌++◌, Some, arith, length, length-append, refl, sym, subst, ◌∙◌}
+use Rattle.std.specs.Prelude.{Contains, IfSome}
 use Rattle.std.proofs.lemmas.List.Elements.{Contains-append_cases, Contains-append_left, Contains-append_right}
 use Rattle.rx_base.proofs.Members.{Contains-head, not_in_nothing}
 use Rattle.rx_board.specs.declared.journal.Entry.{Entry}
@@ -17,9 +16,10 @@ use Rattle.rx_core.specs.Runs.{IsReached, IsRun, after_steps, opening}
 use Rattle.rx_core.specs.States.{State, with_action, with_change}
 use Rattle.rx_core.specs.Steps.{Admit, Answer, Cancel, Exit, Hear, MayStep, Offer, Publish, Start, Step, after_step, answer, exit, hear}
 use Rattle.rx_core.proofs.ActionSteps.{facts-admitted, facts-answer, facts-exit, facts-hear, facts-publish}
+use Rattle.rx_core.proofs.Cases.{none-some, some-is}
+use Rattle.rx_core.proofs.Changes.{added-each, changed-each}
 use Rattle.rx_core.proofs.Growing.{if-some-map}
 use Rattle.rx_core.proofs.OfferSteps.{facts-cancel, facts-offer, facts-start}
-use Rattle.rx_core.proofs.Outcomes.{none-some, some-is}
 use Rattle.rx_core.proofs.Owners.{offer-entry, owned-after, owned-more, owned-new, start-entry}
 use Rattle.rx_world.specs.declared.attempts.Attempt.{Attempt}
 use Rattle.rx_world.specs.declared.attempts.Attempt.TheVariants.{Local, Remote}
@@ -31,31 +31,21 @@ use Rattle.rx_world.specs.declared.trees.Tree.{Tree}
 
 -- ---- one action changes
 
--- what is found where one action changed
-change-if : {H : Type 0} (b : Bool) (f : Action H → Action H) (found : Option (Action H))
-    (a new : Action H) (P : Action H → Type 0) → (b ≡ true → found ≡ Some a)
-    → ((old : Action H) → found ≡ Some old → P old) → (P a → P (f a))
-    → (if b then option_map f found else found) ≡ Some new → P new
-change-if true f found a new P here all step is =
-    let there : found ≡ Some a = here refl in
-    let same : f a ≡ new = some-is (sym (ap (option_map f) there) ∙ is) in
-    subst P same (step (all a there))
-change-if false f found a new P here all step is = all new is
+module _ {H : Type 0} (state : State H) (n : ℕ) (a : Action H) (P : Action H → Type 0) where
+  -- what holds of each action still does, where it does of the one that changed
+  each-change : (f : Action H → Action H) → state.actions n ≡ Some a
+      → ((m : ℕ) (old : Action H) → state.actions m ≡ Some old → P old) → (P a → P (f a))
+      → (m : ℕ) (new : Action H) → (with_change n f state).actions m ≡ Some new → P new
+  each-change f there all step m new =
+      changed-each state n a f there (λ k found. found ≡ Some new → P new)
+      (λ is. subst P (some-is is) (step (all n a there))) (λ k not is. all k new is) m
 
--- what holds of each action still does, where it does of the one that changed
-each-change : {H : Type 0} (state : State H) (n : ℕ) (a : Action H) (f : Action H → Action H)
-    (P : Action H → Type 0) → state.actions n ≡ Some a
-    → ((m : ℕ) (old : Action H) → state.actions m ≡ Some old → P old) → (P a → P (f a))
-    → (m : ℕ) (new : Action H) → (with_change n f state).actions m ≡ Some new → P new
-each-change state n a f P there all step m new is =
-    change-if (m == n) f (state.actions m) a new P
-    (λ b. ap state.actions (eqb-true m n b) ∙ there) (all m) step is
-
-insert-if : {H : Type 0} (b : Bool) (found : Option (Action H)) (a new : Action H)
-    (P : Action H → Type 0) → ((old : Action H) → found ≡ Some old → P old) → P a
-    → (if b then Some a else found) ≡ Some new → P new
-insert-if true found a new P all one is = subst P (some-is is) one
-insert-if false found a new P all one is = all new is
+  -- and where it does of the one that was put in
+  each-admit : P a → ((m : ℕ) (old : Action H) → state.actions m ≡ Some old → P old)
+      → (m : ℕ) (new : Action H) → (with_action n a state).actions m ≡ Some new → P new
+  each-admit one all m new =
+      added-each state n a (λ k found. found ≡ Some new → P new) (λ is. subst P (some-is is) one)
+      (λ k not is. all k new is) m
 
 -- ---- what is told of the journal
 
@@ -92,32 +82,32 @@ module _ {H : Type 0} (tool : Command → Tree → Outcome) (rules : Rules H)
       → (TellsFull state a → TellsFull state (f a)) → Owned state (with_change n f state)
       → Holds rules files state → Holds rules files (with_change n f state)
   holds-change state n a f there same step tells owned h = record {
-    each = each-change state n a f (Facts rules) there h.each step;
-    listed = each-change state n a f (λ one. IfSome one.entry (Contains state.journal)) there
+    each = each-change state n a (Facts rules) f there h.each step;
+    listed = each-change state n a (λ one. IfSome one.entry (Contains state.journal)) f there
         h.listed (λ is. subst (λ m. IfSome m (Contains state.journal)) (sym same) is);
     owned = owned;
     place = h.place;
     last = h.last;
     numbered = h.numbered;
     within = h.within;
-    full = each-change state n a f (TellsFull state) there h.full tells;
+    full = each-change state n a (TellsFull state) f there h.full tells;
   }
 
   holds-admit : (state : State H) (n session : ℕ) (plan : Plan) (job : Job)
       → MayStep rules state (Admit n session plan job) → Holds rules files state
       → Holds rules files (with_action n (admitted session plan job) state)
   holds-admit state n session plan job may h = record {
-    each = λ m new is. insert-if (m == n) (state.actions m) (admitted session plan job) new
-        (Facts rules) (h.each m) (facts-admitted rules session plan job) is;
-    listed = λ m new is. insert-if (m == n) (state.actions m) (admitted session plan job) new
-        (λ one. IfSome one.entry (Contains state.journal)) (h.listed m) tt is;
+    each = each-admit state n (admitted session plan job) (Facts rules)
+        (facts-admitted rules session plan job) h.each;
+    listed = each-admit state n (admitted session plan job)
+        (λ one. IfSome one.entry (Contains state.journal)) tt h.listed;
     owned = owned-then state (Admit n session plan job) may h;
     place = h.place;
     last = h.last;
     numbered = h.numbered;
     within = h.within;
-    full = λ m new is. insert-if (m == n) (state.actions m) (admitted session plan job) new
-        (TellsFull state) (h.full m) (λ told. none-some told) is;
+    full = each-admit state n (admitted session plan job) (TellsFull state)
+        (λ told. none-some told) h.full;
   }
 
   -- the entry of each action stands in the longer journal
@@ -127,7 +117,7 @@ module _ {H : Type 0} (tool : Command → Tree → Outcome) (rules : Rules H)
       → IfSome new.entry (Contains (state.journal ++ entry ∷ []))
   listed-more state n a entry there h =
       let longer = state.journal ++ entry ∷ [] in
-      each-change state n a (with_entry entry) (λ one. IfSome one.entry (Contains longer)) there
+      each-change state n a (λ one. IfSome one.entry (Contains longer)) (with_entry entry) there
       (λ m one is. if-some-map one.entry (Contains state.journal) (Contains longer)
       (λ e. Contains-append_left state.journal (entry ∷ []) e) (h.listed m one is))
       (λ old. Contains-append_right state.journal (entry ∷ []) entry (Contains-head entry []))
@@ -144,7 +134,7 @@ module _ {H : Type 0} (tool : Command → Tree → Outcome) (rules : Rules H)
       may.finished.outcome.files h.place refl refl in
       let owner = owned-new rules files state n a entry there refl h in
       record {
-        each = each-change state n a (with_entry entry) (Facts rules) there h.each
+        each = each-change state n a (Facts rules) (with_entry entry) there h.each
             (facts-publish rules state a placed faults may);
         listed = listed-more state n a entry there h;
         owned = λ one is. owned-more now state.journal entry owned (record {
@@ -158,7 +148,7 @@ module _ {H : Type 0} (tool : Command → Tree → Outcome) (rules : Rules H)
         last = holds_last (Some files) (Some now.place) now.journal kept;
         numbered = numbered-more 1 state.journal entry h.numbered refl;
         within = rw length-append (omega (arith, may.room));
-        full = each-change state n a (with_entry entry) (TellsFull now) there
+        full = each-change state n a (TellsFull now) (with_entry entry) there
             (λ m one is told.
             let full = h.full m one is told in absurd (omega (arith, full, may.room)))
             (λ old. old);

@@ -1,17 +1,16 @@
 -- No step changes a decision that was made, an entry or a reply.
-use Rattle.std.proofs.Common.{◌≡◌, ℕ, Bool, true, false, Option, None, Some, refl, ap, sym, subst, ◌∙◌}
-use Rattle.std.specs.Prelude.{◌==◌, if◌then◌else◌, option_map}
-use Rattle.std.proofs.lemmas.Bool.{eqb-true}
+use Rattle.std.proofs.Common.{◌≡◌, ℕ, None, Some, refl, sym, subst, ◌∙◌}
 use Rattle.rx_board.specs.declared.journal.Entry.{Entry}
-use Rattle.rx_core.specs.Actions.{Action, cancel, offer, start}
+use Rattle.rx_core.specs.Actions.{Action, admitted, cancel, offer, start}
 use Rattle.rx_core.specs.Facts.{Persists, Keeps}
 use Rattle.rx_core.specs.Publications.{entry_of, publish, published, with_entry}
 use Rattle.rx_core.specs.Remote.{Rules}
 use Rattle.rx_core.specs.Replies.{Reply}
-use Rattle.rx_core.specs.States.{State, with_change}
+use Rattle.rx_core.specs.States.{State, with_action, with_change}
 use Rattle.rx_core.specs.Steps.{Admit, Answer, Cancel, Exit, Hear, MayOffer, MayStep, Offer, Publish, Start, Step, after_step, answer, exit, hear}
+use Rattle.rx_core.proofs.Cases.{none-some, some-is}
+use Rattle.rx_core.proofs.Changes.{added-each, changed-each}
 use Rattle.rx_core.proofs.OfferSteps.{cancel-stays, local-stays, remote-stays}
-use Rattle.rx_core.proofs.Outcomes.{none-some, some-is}
 use Rattle.rx_world.specs.declared.attempts.Attempt.{Attempt}
 use Rattle.rx_world.specs.declared.attempts.Attempt.TheVariants.{Local, Remote}
 
@@ -51,28 +50,23 @@ keeps-answer a reply none = record {
 
 -- ---- of the state
 
-kept-if : {H : Type 0} (b : Bool) (f : Action H → Action H) (found : Option (Action H))
-    (a one : Action H) → found ≡ Some a → (b ≡ true → found ≡ Some one) → Keeps one (f one)
-    → Persists a (if b then option_map f found else found)
-kept-if true f found a one is here keeps =
-    let same : one ≡ a = some-is (sym (here refl) ∙ is) in record {
-      now = f a;
-      there = ap (option_map f) is;
-      keeps = subst (λ t. Keeps t (f t)) same keeps;
-    }
-kept-if false f found a one is here keeps = record { now = a; there = is; keeps = keeps-same a }
+module _ {H : Type 0} (state : State H) (n : ℕ) (one : Action H) where
+  kept-change : (f : Action H → Action H) → state.actions n ≡ Some one → Keeps one (f one)
+      → (m : ℕ) (a : Action H) → state.actions m ≡ Some a → Persists a ((with_change n f state).actions m)
+  kept-change f there keeps m a =
+      changed-each state n one f there (λ k found. state.actions k ≡ Some a → Persists a found)
+      (λ is. let same : one ≡ a = some-is (sym there ∙ is) in record {
+        now = f one;
+        there = refl;
+        keeps = subst (λ t. Keeps t (f one)) same keeps;
+      })
+      (λ k not is. record { now = a; there = is; keeps = keeps-same a }) m
 
-kept-change : {H : Type 0} (state : State H) (n : ℕ) (one : Action H) (f : Action H → Action H)
-    → state.actions n ≡ Some one → Keeps one (f one) → (m : ℕ) (a : Action H)
-    → state.actions m ≡ Some a → Persists a ((with_change n f state).actions m)
-kept-change state n one f there keeps m a is =
-    kept-if (m == n) f (state.actions m) a one is
-    (λ b. ap state.actions (eqb-true m n b) ∙ there) keeps
-
-kept-insert : {H : Type 0} (b : Bool) (found : Option (Action H)) (new a : Action H)
-    → found ≡ Some a → (b ≡ true → found ≡ None) → Persists a (if b then Some new else found)
-kept-insert true found new a is none = none-some (sym (none refl) ∙ is)
-kept-insert false found new a is none = record { now = a; there = is; keeps = keeps-same a }
+  kept-admit : state.actions n ≡ None → (m : ℕ) (a : Action H) → state.actions m ≡ Some a
+      → Persists a ((with_action n one state).actions m)
+  kept-admit free m a =
+      added-each state n one (λ k found. state.actions k ≡ Some a → Persists a found)
+      (λ is. none-some (sym free ∙ is)) (λ k not is. record { now = a; there = is; keeps = keeps-same a }) m
 
 kept-publish : {H : Type 0} (rules : Rules H) (state : State H) (n placed faults : ℕ)
     → MayStep rules state (Publish n placed faults) → (m : ℕ) (a : Action H)
@@ -91,7 +85,7 @@ pub step-stays : {H : Type 0} (rules : Rules H) (state : State H) (step : Step H
     → MayStep rules state step → (m : ℕ) (a : Action H) → state.actions m ≡ Some a
     → Persists a ((after_step rules state step).actions m)
 step-stays rules state (Admit n session plan job) may m a is =
-    kept-insert (m == n) (state.actions m) _ a is (λ b. ap state.actions (eqb-true m n b) ∙ may)
+    kept-admit state n (admitted session plan job) may m a is
 step-stays rules state (Start n x) may m a is =
     kept-change state n may.action (start x) may.there (keeps-start may.action x) m a is
 step-stays rules state (Hear n item) may m a is =
