@@ -179,12 +179,8 @@ new-cancel Nothing n first = (λ e. cc, λ e. cc)
 
 -- the cancel pass wasn't used
 unused-cancel : (d : Decision) (n : ℕ) (slip : Slip) → slip ≡ Unused → FitsCancel d n slip
-    → (n ≡ 0) × (d ≢ Cancelled)
-unused-cancel d n slip e h = subst (λ k. FitsCancel d n k) e h
-
-pub no-cancels : (plan : Plan) (race : Course) (slips : Slips) → IsLocked plan (at race slips)
-    → slips.cancel ≡ Unused → cancels_of race ≡ 0
-no-cancels plan race slips was unused = (unused-cancel _ _ slips.cancel unused was.cancel).0
+    → d ≢ Cancelled
+unused-cancel d n slip e h = (subst (λ k. FitsCancel d n k) e h).1
 
 pub locked-cancel : (plan : Plan) (race : Course) (slips : Slips) → IsLocked plan (at race slips)
     → slips.cancel ≡ Unused
@@ -193,7 +189,7 @@ pub locked-cancel : (plan : Plan) (race : Course) (slips : Slips) → IsLocked p
 locked-cancel plan race slips was unused =
     let s = standing_of race in
     let event = Cancel (cancel_verdict s.decision) in
-    let first = (unused-cancel _ _ slips.cancel unused was.cancel).1 in
+    let first = unused-cancel _ _ slips.cancel unused was.cancel in
     let kept = decision-after s event refl in
     let local = fits-kept s.decision _ s.local slips.local kept was.local in
     let remote = fits-kept s.decision _ s.remote slips.remote kept was.remote in

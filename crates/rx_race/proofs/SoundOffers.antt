@@ -105,16 +105,15 @@ offered-noted Running e noted = cc
 offered-noted (Offered v) e noted = ap Offered (noted v refl)
 
 -- of an attempt of the plan
-has-offered : (planned offered : Bool) → (not planned || offered) ≡ true → planned ≡ true
+pub has-offered : (planned offered : Bool) → (not planned || offered) ≡ true → planned ≡ true
     → offered ≡ true
 has-offered true offered e p = e
 has-offered false offered e p = cc
 
--- an attempt of the plan that was noted has offered
-noted-offered : (planned : Bool) (p : Phase) → (planned ≡ true → p ≡ Offered Noted)
-    → (not planned || is_offered p) ≡ true
-noted-offered true p noted = ap is_offered (noted refl)
-noted-offered false p noted = refl
+pub offered-if : (planned offered : Bool) → (planned ≡ true → offered ≡ true)
+    → (not planned || offered) ≡ true
+offered-if true offered is = is refl
+offered-if false offered is = refl
 
 -- the offer that was noted left another attempt, or none
 sound-noted-local : (s : Standing) (over : Bool)
@@ -155,7 +154,7 @@ sound-noted-local s false over h run free = record {
   nothing = λ d. cc;
   over = λ all.
       let first = or_right (not (in_plan s.plan Local)) true refl in
-      let second = noted-offered (in_plan s.plan Remote) s.remote (all Remote) in
+      let second = offered-if (in_plan s.plan Remote) (is_offered s.remote) (λ p. ap is_offered (all Remote p)) in
       absurd (true≢false (sym (and_from _ _ first second) ∙ over));
   late = elim [ Local ↦ λ e. cc | Remote ↦ h.late Remote ];
 }
@@ -197,7 +196,7 @@ sound-noted-remote s false over h run free = record {
   only = elim [ Local ↦ h.only Local | Remote ↦ λ won. cc ];
   nothing = λ d. cc;
   over = λ all.
-      let first = noted-offered (in_plan s.plan Local) s.local (all Local) in
+      let first = offered-if (in_plan s.plan Local) (is_offered s.local) (λ p. ap is_offered (all Local p)) in
       let second = or_right (not (in_plan s.plan Remote)) true refl in
       absurd (true≢false (sym (and_from _ _ first second) ∙ over));
   late = elim [ Local ↦ h.late Local | Remote ↦ λ e. cc ];

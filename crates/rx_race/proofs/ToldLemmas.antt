@@ -36,25 +36,6 @@ offered-slip d v Live h = absurd h
 offered-slip d v Stopped h = absurd h
 offered-slip d v (Told w) h = ap Told h
 
--- what was told to a pass is what its attempt offered for
-phase-told : (plan : Plan) (race : Course) (slips : Slips) (x : Attempt) (v : Verdict)
-    → IsLocked plan (at race slips) → slip_at (Of x) slips ≡ Told v
-    → phase_of x (standing_of race) ≡ Offered v
-phase-told plan race slips x v was e =
-    let s = standing_of race in
-    let found = fits-at plan race slips x was in
-    let fits = subst (λ slip. Fits s.decision (phase_of x s) slip) e found in
-    told-phase s.decision _ v fits
-
-slip-told : (plan : Plan) (race : Course) (slips : Slips) (x : Attempt) (v : Verdict)
-    → IsLocked plan (at race slips) → phase_of x (standing_of race) ≡ Offered v
-    → slip_at (Of x) slips ≡ Told v
-slip-told plan race slips x v was e =
-    let s = standing_of race in
-    let slip = slip_at (Of x) slips in
-    let fits = subst (λ p. Fits s.decision p slip) e (fits-at plan race slips x was) in
-    offered-slip s.decision v slip fits
-
 look-settled : (d : Decision) (p : Phase) (slip : Slip) → IsLook slip → Fits d p slip → IsSettled d
 look-settled d p Unused look h = absurd look
 look-settled d Idle Refused look h = h
@@ -75,7 +56,7 @@ cancelled-slip n (Told Won) h = refl
 cancelled-slip n (Told Late) h = absurd (h.1 refl)
 cancelled-slip n (Told Noted) h = absurd h
 
--- ---- who won
+-- ---- seats
 
 -- what a race is decided for, where this pass won
 abbrev decision_of : Seat → Decision
@@ -88,64 +69,75 @@ one-seat (Of x) Canceller e = cc
 one-seat Canceller (Of y) e = cc
 one-seat Canceller Canceller e = refl
 
-won-decides : (plan : Plan) (race : Course) (slips : Slips) (seat : Seat)
-    → IsLocked plan (at race slips) → slip_at seat slips ≡ Told Won
-    → (standing_of race).decision ≡ decision_of seat
-won-decides plan race slips (Of x) was e = was.sound.only x (phase-told plan race slips x Won was e)
-won-decides plan race slips Canceller was e =
-    subst (λ slip. FitsCancel (standing_of race).decision (cancels_of race) slip) e was.cancel
-
--- a race that is decided for an attempt or cancelled has a pass that won
-someone : (plan : Plan) (race : Course) (slips : Slips) (d : Decision)
-    → IsLocked plan (at race slips) → (standing_of race).decision ≡ d → IsSettled d
-    → SomeoneWon slips
-someone plan race slips Undecided was e settled = absurd settled
-someone plan race slips (By x) was e settled =
-    (Of x, slip-told plan race slips x Won was (was.sound.by x e))
-someone plan race slips Cancelled was e settled =
-    let fits = subst (λ d. FitsCancel d (cancels_of race) slips.cancel) e was.cancel in
-    (Canceller, cancelled-slip (cancels_of race) slips.cancel fits)
-someone plan race slips Nothing was e settled = absurd settled
-
 nobody : (seat : Seat) → decision_of seat ≢ Nothing
 nobody (Of x) = λ e. cc
 nobody Canceller = λ e. cc
 
--- a cancel that was late
-late-cancelled : (plan : Plan) (race : Course) (slips : Slips) (d : Decision)
-    → IsLocked plan (at race slips) → (standing_of race).decision ≡ d → d ≢ Undecided
-    → SomeoneWon slips ⊎ AllNoted plan slips
-late-cancelled plan race slips Undecided was e made = absurd (made refl)
-late-cancelled plan race slips (By x) was e made = inl (someone plan race slips (By x) was e tt)
-late-cancelled plan race slips Cancelled was e made =
-    inl (someone plan race slips Cancelled was e tt)
-late-cancelled plan race slips Nothing was e made =
-    inr
-    (λ x planned.
-    let here : in_plan (standing_of race).plan x ≡ true =
-    rw (plan-standing race ∙ was.plan_is) planned in
-    slip-told plan race slips x Noted was (was.sound.nothing e x here))
+module _ (plan : Plan) (race : Course) (slips : Slips) (was : IsLocked plan (at race slips)) where
+  -- what was told to a pass is what its attempt offered for
+  phase-told : (x : Attempt) (v : Verdict) → slip_at (Of x) slips ≡ Told v
+      → phase_of x (standing_of race) ≡ Offered v
+  phase-told x v e =
+      let s = standing_of race in
+      let found = fits-at plan race slips x was in
+      let fits = subst (λ slip. Fits s.decision (phase_of x s) slip) e found in
+      told-phase s.decision _ v fits
 
-pub told : (plan : Plan) (race : Course) (slips : Slips) → IsLocked plan (at race slips)
-    → AreTold plan slips
-told plan race slips was =
-    let s = standing_of race in record {
-      one = λ a b won also.
-          let first = won-decides plan race slips a was won in
-          let second = won-decides plan race slips b was also in
-          one-seat a b (sym first ∙ second);
-      none = λ noted won.
-          let over = was.sound.over (λ x planned.
-          let here : in_plan plan x ≡ true = rw (← plan-standing race ∙ was.plan_is) planned in
-          phase-told plan race slips x Noted was (noted x here)) in
-          nobody won.0 (sym (won-decides plan race slips won.0 was won.1) ∙ over);
-      late = λ x e.
-          let offered = phase-told plan race slips x Late was e in
-          someone plan race slips s.decision was refl (was.sound.late x offered);
-      look = λ x look.
-          let fits = fits-at plan race slips x was in
-          someone plan race slips s.decision was refl (look-settled s.decision _ _ look fits);
-      late_cancel = λ e.
-          let fits = subst (λ slip. FitsCancel s.decision (cancels_of race) slip) e was.cancel in
-          late-cancelled plan race slips s.decision was refl fits.0;
-    }
+  slip-told : (x : Attempt) (v : Verdict) → phase_of x (standing_of race) ≡ Offered v
+      → slip_at (Of x) slips ≡ Told v
+  slip-told x v e =
+      let s = standing_of race in
+      let slip = slip_at (Of x) slips in
+      let fits = subst (λ p. Fits s.decision p slip) e (fits-at plan race slips x was) in
+      offered-slip s.decision v slip fits
+
+  won-decides : (seat : Seat) → slip_at seat slips ≡ Told Won
+      → (standing_of race).decision ≡ decision_of seat
+  won-decides (Of x) e = was.sound.only x (phase-told x Won e)
+  won-decides Canceller e =
+      subst (λ slip. FitsCancel (standing_of race).decision (cancels_of race) slip) e was.cancel
+
+  -- a race that is decided for an attempt or cancelled has a pass that won
+  someone : (d : Decision) → (standing_of race).decision ≡ d → IsSettled d → SomeoneWon slips
+  someone Undecided e settled = absurd settled
+  someone (By x) e settled = (Of x, slip-told x Won (was.sound.by x e))
+  someone Cancelled e settled =
+      let fits = subst (λ d. FitsCancel d (cancels_of race) slips.cancel) e was.cancel in
+      (Canceller, cancelled-slip (cancels_of race) slips.cancel fits)
+  someone Nothing e settled = absurd settled
+
+  -- a cancel that was late
+  late-cancelled : (d : Decision) → (standing_of race).decision ≡ d → d ≢ Undecided
+      → SomeoneWon slips ⊎ AllNoted plan slips
+  late-cancelled Undecided e made = absurd (made refl)
+  late-cancelled (By x) e made = inl (someone (By x) e tt)
+  late-cancelled Cancelled e made = inl (someone Cancelled e tt)
+  late-cancelled Nothing e made =
+      inr
+      (λ x planned.
+      let here : in_plan (standing_of race).plan x ≡ true =
+      rw (plan-standing race ∙ was.plan_is) planned in
+      slip-told x Noted (was.sound.nothing e x here))
+
+  pub told : AreTold plan slips
+  told =
+      let s = standing_of race in record {
+        one = λ a b won also.
+            let first = won-decides a won in
+            let second = won-decides b also in
+            one-seat a b (sym first ∙ second);
+        none = λ noted won.
+            let over = was.sound.over (λ x planned.
+            let here : in_plan plan x ≡ true = rw (← plan-standing race ∙ was.plan_is) planned in
+            phase-told x Noted (noted x here)) in
+            nobody won.0 (sym (won-decides won.0 won.1) ∙ over);
+        late = λ x e.
+            let offered = phase-told x Late e in
+            someone s.decision refl (was.sound.late x offered);
+        look = λ x look.
+            let fits = fits-at plan race slips x was in
+            someone s.decision refl (look-settled s.decision _ _ look fits);
+        late_cancel = λ e.
+            let fits = subst (λ slip. FitsCancel s.decision (cancels_of race) slip) e was.cancel in
+            late-cancelled s.decision refl fits.0;
+      }
