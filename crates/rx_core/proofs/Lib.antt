@@ -1,9 +1,11 @@
 mod ActionSteps
 pub mod Cases
 mod Changes
+mod DecidedRaces
 pub mod Following
 mod Growing
 mod OfferSteps
+mod OpenRaces
 mod Outcomes
 mod Owners
 pub mod RaceSteps

@@ -1,10 +1,10 @@
 -- From the steps of an answer to the whole of it.
-use Rattle.std.proofs.Common.{◌≡◌, ◌∙◌, ℕ, Bool, true, false, List, [], inl, inr, refl, sym, subst}
+use Rattle.std.proofs.Common.{◌≡◌, ◌∙◌, ℕ, Bool, List, [], inl, inr, refl, sym, subst}
+use Rattle.std.proofs.lemmas.Bool.{true_from_ne_false}
 use Rattle.std.proofs.lemmas.List.Elements.{All-nil, All-weaker}
 use Rattle.std.specs.Prelude.{Err, IfOk, IfSome, None, Ok, Option, Result, Some, All, is_some}
-use Rattle.rx_race.specs.declared.events.Verdict.TheVariants.{Late, Noted, Won as WonRace}
-use Rattle.rx_race.specs.declared.slips.Slip.{Slip}
-use Rattle.rx_race.specs.declared.slips.Slip.TheVariants.{Live, Refused, Stopped, Told, Unused}
+use Rattle.rx_race.specs.declared.events.Verdict.TheVariants.{Won as WonRace}
+use Rattle.rx_race.specs.declared.slips.Slip.TheVariants.{Refused, Told}
 use Rattle.rx_scan.specs.declared.gather_fault.GatherFault.{GatherFault}
 use Rattle.rx_scan.specs.declared.gather_fault.GatherFault.TheVariants as fault
 use Rattle.rx_scan.specs.declared.gathering.Gathered.{Gathered}
@@ -49,7 +49,7 @@ use Rattle.rx_engine.specs.Racing.{is_cancelled}
 use Rattle.rx_engine.specs.Ready.{AnswersAs, IsOrGivenUp}
 use Rattle.rx_engine.specs.Watching.{Listens}
 use Rattle.rx_engine.proofs.AttemptLemmas.{idle-none}
-use Rattle.rx_engine.proofs.Cases.{false-true}
+use Rattle.rx_engine.proofs.Cases.{won-slip}
 use Rattle.rx_engine.proofs.RaceLemmas.{unused-told}
 use Rattle.rx_engine.proofs.Unpublished.{refused}
 use Rattle.rx_engine.proofs.Moves.{IsSame, attempts-move, idle-move, same-none, tells-in, tells-move}
@@ -85,25 +85,11 @@ same-back p q h = record {
 
 -- ---- the replies to attempts
 
--- the right to cancel won only where it was told so
-cancelled-told : (cancel : Slip) → is_cancelled cancel ≡ true → cancel ≡ Told WonRace
-cancelled-told (Told WonRace) e = refl
-cancelled-told (Told Late) e = absurd (false-true e)
-cancelled-told (Told Noted) e = absurd (false-true e)
-cancelled-told Unused e = absurd (false-true e)
-cancelled-told Refused e = absurd (false-true e)
-cancelled-told Live e = absurd (false-true e)
-cancelled-told Stopped e = absurd (false-true e)
-
 failed-cancelled : {failures : List Failure} (reason : CancelReason) → reply.AllFailed failures ≡ reply.Cancelled reason → ⊥
 failed-cancelled reason e = cc
 
 memory-cancelled : (reason : CancelReason) → reply_no_memory ≡ reply.Cancelled reason → ⊥
 memory-cancelled reason e = cc
-
-by-watch : (watch : Bool) → (watch ≡ false → ⊥) → watch ≡ true
-by-watch true n = refl
-by-watch false n = absurd (n refl)
 
 module _ {P W B : Type 0} (m : Meanings P W B) (g : Grounds P) (request : Request) (tally : Tally) where
   publication-answers : (won : Won) (a : Answered) (answer : Reply) → HasWon m g request tally won → TellsPublication won a answer → Answers m g request a.receipt tally answer
@@ -128,8 +114,8 @@ module _ {P W B : Type 0} (m : Meanings P W B) (g : Grounds P) (request : Reques
       → is_some cancelled ≡ is_cancelled tally.passes.cancel → IsUnpublishedEnd cancelled tally.ends a
       → (a.frame.items ≡ frame_of a.reply) × Answers m g request a.receipt tally a.reply
   unpublished-answers run (Some reason) a none is h =
-      let cancelled : tally.passes.cancel ≡ Told WonRace = cancelled-told tally.passes.cancel (sym is) in
-      (h.frame, rw h.reply_is (record { run = run; cancelled = cancelled; watched = by-watch request.watch (λ e. unused-told WonRace (sym (run.unwatched e) ∙ cancelled)) }, h.receipt_is))
+      let cancelled : tally.passes.cancel ≡ Told WonRace = won-slip tally.passes.cancel (sym is) in
+      (h.frame, rw h.reply_is (record { run = run; cancelled = cancelled; watched = true_from_ne_false request.watch (λ e. unused-told WonRace (sym (run.unwatched e) ∙ cancelled)) }, h.receipt_is))
   unpublished-answers run None a none is h =
       let plain = h.plain in
       (plain.frame, rw plain.reply_is (record { run = run; none_won = none; uncancelled = sym is; tellable = h.tellable }, refl, plain.receipt_is))

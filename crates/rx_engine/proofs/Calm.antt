@@ -4,6 +4,7 @@ use Rattle.std.specs.Prelude.{All, Contains, Option, Some}
 use Rattle.std.proofs.lemmas.List.Elements.{All-contains, Contains-append_right}
 use Rattle.rx_base.specs.Digests.{digest_of}
 use Rattle.rx_board.specs.declared.journal.Receipt.{Receipt}
+use Rattle.rx_core.proofs.Cases.{none-some}
 use Rattle.rx_local.specs.Local.{IsStopped, LacksOutput}
 use Rattle.rx_local.specs.Stage.{IsChangedInput}
 use Rattle.rx_local.proofs.LimitLemmas.{within-none}
@@ -39,7 +40,6 @@ use Rattle.rx_engine.specs.Attempts.{HasEndedHere}
 use Rattle.rx_engine.specs.Meanings.{Meanings}
 use Rattle.rx_engine.specs.Quiet.{AreApart, CanGather, IsQuiet, IsQuietThere, KeepsLimitsFrom, MakesFrom}
 use Rattle.rx_engine.specs.Session.{IsSession}
-use Rattle.rx_engine.proofs.Cases.{none-some}
 use Rattle.rx_engine.proofs.HonestRuns.{IsByList, again, by-list, grounds_of, shows}
 
 -- what was seen is what the list has

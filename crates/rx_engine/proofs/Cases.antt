@@ -1,21 +1,22 @@
--- What two different cases can't both be, and the type that the ends of remote attempts have.
-use Rattle.std.proofs.Common.{◌≡◌}
-use Rattle.std.specs.Prelude.{None, Some, false, true}
+-- A pass that won was told so; and the type that the ends of remote attempts have.
+use Rattle.std.proofs.Common.{◌≡◌, true, refl}
+use Rattle.rx_core.proofs.Cases.{false-true}
+use Rattle.rx_race.specs.declared.events.Verdict.TheVariants.{Late, Noted, Won}
+use Rattle.rx_race.specs.declared.slips.Slip.{Slip}
+use Rattle.rx_race.specs.declared.slips.Slip.TheVariants.{Live, Refused, Stopped, Told, Unused}
 use Rattle.rx_world.specs.declared.attempts.End.{End}
 use Rattle.rx_world.specs.declared.outcomes.Outcome.{Outcome}
 use Rattle.rx_world.specs.declared.remote_causes.RemoteCause.{RemoteCause}
+use Rattle.rx_engine.specs.Racing.{is_told_won}
 
-pub none-some : {A : Type 0} {a : A} → None ≡ Some a → ⊥
-none-some h = cc
-
-pub some-none : {A : Type 0} {a : A} → Some a ≡ None → ⊥
-some-none h = cc
-
-pub some-inj : {A : Type 0} {a b : A} → Some a ≡ Some b → a ≡ b
-some-inj h = cc
-
-pub false-true : false ≡ true → ⊥
-false-true h = cc
+pub won-slip : (slip : Slip) → is_told_won slip ≡ true → slip ≡ Told Won
+won-slip (Told Won) e = refl
+won-slip (Told Late) e = false-true e
+won-slip (Told Noted) e = false-true e
+won-slip Unused e = false-true e
+won-slip Refused e = false-true e
+won-slip Live e = false-true e
+won-slip Stopped e = false-true e
 
 abbrev pub as-remote : End Outcome RemoteCause → End Outcome RemoteCause
 as-remote end = end

@@ -16,8 +16,9 @@ use Rattle.rx_core.specs.Replies.{Reply as CoreReply}
 use Rattle.rx_core.specs.States.{State}
 use Rattle.rx_core.specs.Steps.{answer}
 use Rattle.rx_core.specs.ToldRaces.{HeardOf, IsToldRace, ToldRace, decided, decided_by, progress_of, raced_action, seen_by}
+use Rattle.rx_core.proofs.Cases.{false-true, none-some}
 use Rattle.rx_core.proofs.Following.{Follows, answers, of-reached, publishes}
-use Rattle.rx_core.proofs.RaceSteps.{or-last, or-outer, raced, settled-by}
+use Rattle.rx_core.proofs.RaceSteps.{raced, settled-local, settled-remote}
 use Rattle.rx_race.specs.declared.events.Verdict.{Verdict}
 use Rattle.rx_race.specs.declared.events.Verdict.TheVariants.{Late, Won as won_race}
 use Rattle.rx_race.specs.declared.slips.Slip.{Slip}
@@ -49,15 +50,15 @@ use Rattle.rx_engine.specs.declared.transcripts.Tally.{Tally}
 use Rattle.rx_engine.specs.declared.transcripts.Transcript.{Transcript}
 use Rattle.rx_engine.specs.Answers.{Grounds, HasRun, done_reply}
 use Rattle.rx_engine.specs.Attempts.{AreTellable, Attempts, HasLocal, HasRemote, IsTellable, in_order, kept_end, kept_of, listed_local, listed_remote, winner}
-use Rattle.rx_engine.specs.CoreRuns.{IsActionOf, decision_of, end_by, ends_of, in_core, is_told_won, remote_stop_at, rules_of, stop_at, stopped_at}
+use Rattle.rx_engine.specs.CoreRuns.{IsActionOf, decision_of, end_by, ends_of, in_core, remote_stop_at, rules_of, stop_at, stopped_at}
 use Rattle.rx_engine.specs.Journal.{IsEntry, IsJournalled, IsPlaced, files_of}
 use Rattle.rx_engine.specs.Meanings.{Meanings}
 use Rattle.rx_engine.specs.Plans.{has_remote, is_due_here}
-use Rattle.rx_engine.specs.Racing.{FitsEnd, first_by, is_cancelled}
+use Rattle.rx_engine.specs.Racing.{FitsEnd, first_by, is_cancelled, is_told_won}
 use Rattle.rx_engine.specs.Session.{tally_in}
-use Rattle.rx_engine.proofs.Cases.{false-true, none-some}
 use Rattle.rx_engine.proofs.CoreEnds.{hears, local-may-end}
-use Rattle.rx_engine.proofs.CoreRaces.{fits-told, free-of-both, has-pass, is-raced, late-here, late-there, told_as, told_race, won-here, won-there}
+use Rattle.rx_engine.proofs.CorePasses.{fits-told, has-pass, told_as}
+use Rattle.rx_engine.proofs.CoreRaces.{free-of-both, is-raced, late-here, late-there, told_race, won-here, won-there}
 use Rattle.rx_engine.proofs.CoreVictors.{as_finished, nobody, victor}
 use Rattle.rx_engine.proofs.MadeLemmas.{won-files}
 
@@ -158,13 +159,13 @@ remote-tellable made x (Some end) Stopped here all e = none-some e
 -- a race that was won is decided for an attempt
 won-by : (d : Decision) (local remote : Option Finished) (f : Finished) → winner_of d local remote ≡ Some f → (x : Attempt) × (d ≡ By x)
 won-by (By x) local remote f e = (x, refl)
-won-by Undecided local remote f e = absurd (none-some e)
-won-by Cancelled local remote f e = absurd (none-some e)
-won-by Nothing local remote f e = absurd (none-some e)
+won-by Undecided local remote f e = none-some e
+won-by Cancelled local remote f e = none-some e
+won-by Nothing local remote f e = none-some e
 
 cancel-by : (local remote : Bool) → local || remote ≡ false → decided_by local remote true ≡ Cancelled
-cancel-by true remote e = absurd (false-true (sym e))
-cancel-by false true e = absurd (false-true (sym e))
+cancel-by true remote e = false-true (sym e)
+cancel-by false true e = false-true (sym e)
 cancel-by false false e = refl
 
 -- ---- the attempts
@@ -207,16 +208,14 @@ module _ {P W B : Type 0} (m : Meanings P W B) (g : Grounds P) (asked : Request)
   settled-here : (verdict : Verdict) → own.passes.local ≡ Told verdict → verdict ≡ Late → IsSettled made
   settled-here verdict at late =
       let came = ap (λ v. Told v) late in
-      settled-by (is_told_won own.passes.local) (is_told_won own.passes.remote) (is_cancelled own.passes.cancel)
-      (or-last (is_told_won own.passes.local) (late-here plan own.passes.local own.passes.remote own.passes.cancel run.made.raced.told
-      (rw (at ∙ came) refl)))
+      settled-local (is_told_won own.passes.local) (is_told_won own.passes.remote) (is_cancelled own.passes.cancel)
+      (late-here plan own.passes.local own.passes.remote own.passes.cancel run.made.raced.told (rw (at ∙ came) refl))
 
   settled-there : (verdict : Verdict) → own.passes.remote ≡ Told verdict → verdict ≡ Late → IsSettled made
   settled-there verdict at late =
       let came = ap (λ v. Told v) late in
-      settled-by (is_told_won own.passes.local) (is_told_won own.passes.remote) (is_cancelled own.passes.cancel)
-      (or-outer (is_told_won own.passes.local) (is_told_won own.passes.remote) (is_cancelled own.passes.cancel)
-      (late-there plan own.passes.local own.passes.remote own.passes.cancel run.made.raced.told (rw (at ∙ came) refl)))
+      settled-remote (is_told_won own.passes.local) (is_told_won own.passes.remote) (is_cancelled own.passes.cancel)
+      (late-there plan own.passes.local own.passes.remote own.passes.cancel run.made.raced.told (rw (at ∙ came) refl))
 
   -- how the local attempt may end in the core
   ends-here : (end : Option (End Outcome Cause)) (slip : Slip) → own.passes.local ≡ slip

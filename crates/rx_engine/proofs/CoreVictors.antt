@@ -1,9 +1,11 @@
 -- Whose outcome a session publishes, and whose the core has as the one that won: they are one.
-use Rattle.std.proofs.Common.{◌≡◌, ◌∙◌, ◌&&◌, ◌||◌, Bool, true, false, Option, None, Some, ap, refl, subst, sym}
+use Rattle.std.proofs.Common.{◌≡◌, ◌∙◌, ◌||◌, Bool, true, false, Option, None, Some, ap, refl, subst, sym}
 use Rattle.std.specs.Prelude.{if◌then◌else◌}
+use Rattle.std.proofs.lemmas.Bool.{and_from, false_from_ne_true}
 use Rattle.rx_core.specs.Actions.{winner_of}
 use Rattle.rx_core.specs.Attempts.{Finished, finished_in}
 use Rattle.rx_core.specs.ToldRaces.{decided_by, progress_of}
+use Rattle.rx_core.proofs.Cases.{false-true, none-some, some-is, some-none}
 use Rattle.rx_race.specs.declared.events.Verdict.TheVariants.{Late, Noted, Won}
 use Rattle.rx_race.specs.declared.slips.Seat.TheVariants.{Canceller, Of}
 use Rattle.rx_race.specs.declared.slips.Slip.{Slip}
@@ -21,25 +23,19 @@ use Rattle.rx_world.specs.declared.outcomes.Outcome.{Outcome}
 use Rattle.rx_world.specs.declared.remote_causes.RemoteCause.{RemoteCause}
 use Rattle.rx_engine.specs.declared.attempts.Won.{Won as Winner}
 use Rattle.rx_engine.specs.Attempts.{first_won, outcome_of, unless_cancelled, won_by, won_remote}
-use Rattle.rx_engine.specs.CoreRuns.{is_told_won}
 use Rattle.rx_engine.specs.Plans.{has_remote, is_due_here}
-use Rattle.rx_engine.specs.Racing.{FitsEnd, first_by, is_cancelled, unstarted}
-use Rattle.rx_engine.proofs.Cases.{false-true, none-some, some-inj, some-none}
-use Rattle.rx_engine.proofs.CoreRaces.{one-attempt, told_as, won-slip}
+use Rattle.rx_engine.specs.Racing.{FitsEnd, first_by, is_cancelled, is_told_won}
+use Rattle.rx_engine.proofs.Cases.{won-slip}
+use Rattle.rx_engine.proofs.CorePasses.{told_as}
+use Rattle.rx_engine.proofs.CoreRaces.{one-attempt}
+use Rattle.rx_engine.proofs.RaceLemmas.{unstarted-told}
 
 -- as the core has it
 abbrev pub as_finished : Winner → Finished
 as_finished won = record { outcome = won.outcome; origin = won.origin }
 
-unstarted-lost : (due : Bool) → unstarted due ≡ Told Won → ⊥
-unstarted-lost true e = cc
-unstarted-lost false e = cc
-
-late-won : Told Late ≡ Told Won → ⊥
-late-won e = cc
-
 first-local : (slip : Slip) → is_told_won slip ≡ false → first_by slip ≡ Local
-first-local (Told Won) e = absurd (false-true (sym e))
+first-local (Told Won) e = false-true (sym e)
 first-local (Told Late) e = refl
 first-local (Told Noted) e = refl
 first-local Unused e = refl
@@ -48,7 +44,7 @@ first-local Live e = refl
 first-local Stopped e = refl
 
 free-by : (test : Bool) (made : Option Winner) (won : Winner) → (if test then None else made) ≡ Some won → test ≡ false
-free-by true made won e = absurd (none-some e)
+free-by true made won e = none-some e
 free-by false made won e = refl
 
 made-by : (test : Bool) (made : Option Winner) → test ≡ false → (if test then None else made) ≡ made
@@ -56,27 +52,16 @@ made-by test made e = rw e refl
 
 test-first : (test : Bool) (first won : Winner) (other : Option Winner) → test ≡ true
     → first_won (if test then Some first else None) other ≡ Some won → first ≡ won
-test-first true first won other e h = some-inj h
-test-first false first won other e h = absurd (false-true e)
+test-first true first won other e h = some-is h
+test-first false first won other e h = false-true e
 
 test-some : (test : Bool) (first won : Winner) → (if test then Some first else None) ≡ Some won → test ≡ true
 test-some true first won e = refl
-test-some false first won e = absurd (none-some e)
+test-some false first won e = none-some e
 
 none-test : (test : Bool) (first : Winner) (other : Option Winner) → test ≡ true → first_won (if test then Some first else None) other ≡ None → ⊥
 none-test true first other e h = some-none h
 none-test false first other e h = false-true e
-
-noted-won : Told Noted ≡ Told Won → ⊥
-noted-won e = cc
-
-first-lost : (a b : Bool) → a && b ≡ false → b ≡ true → a ≡ false
-first-lost true b e t = absurd (false-true (sym e ∙ t))
-first-lost false b e t = refl
-
-lost-unless : (a : Bool) → (a ≡ true → ⊥) → a ≡ false
-lost-unless true never = absurd (never refl)
-lost-unless false never = refl
 
 module _ (plan : Plan) (f : Cause → Cause) (h : RemoteCause → RemoteCause) (told_local : Option Decision) (local : Option (End Outcome Cause))
     (told_remote : Option Decision) (remote : Option (End Outcome RemoteCause)) (at_local at_remote cancel : Slip)
@@ -91,13 +76,13 @@ module _ (plan : Plan) (f : Cause → Cause) (h : RemoteCause → RemoteCause) (
 
   there-won : (end : Option (End Outcome RemoteCause)) (slip : Slip) (other : Option Winner) (won : Winner) → FitsThere end slip → slip ≡ Told Won
       → first_won (won_remote plan end) other ≡ Some won → finished_in (progress_of (told_as h end slip)) ≡ Some (as_finished won)
-  there-won None slip other won fits is e = absurd (unstarted-lost (has_remote plan) (sym fits.0 ∙ is))
+  there-won None slip other won fits is e = absurd (unstarted-told (has_remote plan) Won (sym fits.0 ∙ is))
   there-won (Some (Done outcome origin)) (Told Won) other won fits is e =
       ap (λ w. Some (as_finished w)) (test-first (is_zero outcome.exit.code || is_remote_only plan) (record { outcome = outcome; origin = origin }) won other
       (fits.1.won refl) e)
-  there-won (Some (Failed cause)) (Told Won) other won fits is e = absurd (false-true (fits.1.won refl))
-  there-won (Some end) (Told Late) other won fits is e = absurd (late-won is)
-  there-won (Some end) (Told Noted) other won fits is e = absurd (noted-won is)
+  there-won (Some (Failed cause)) (Told Won) other won fits is e = false-true (fits.1.won refl)
+  there-won (Some end) (Told Late) other won fits is e = cc
+  there-won (Some end) (Told Noted) other won fits is e = cc
   there-won (Some end) Unused other won fits is e = absurd fits
   there-won (Some end) Refused other won fits is e = absurd fits
   there-won (Some end) Live other won fits is e = absurd fits
@@ -105,12 +90,12 @@ module _ (plan : Plan) (f : Cause → Cause) (h : RemoteCause → RemoteCause) (
 
   there-has : (end : Option (End Outcome RemoteCause)) (slip : Slip) (other : Option Winner) → FitsThere end slip → slip ≡ Told Won
       → first_won (won_remote plan end) other ≡ None → ⊥
-  there-has None slip other fits is e = unstarted-lost (has_remote plan) (sym fits.0 ∙ is)
+  there-has None slip other fits is e = unstarted-told (has_remote plan) Won (sym fits.0 ∙ is)
   there-has (Some (Done outcome origin)) (Told Won) other fits is e =
       none-test (is_zero outcome.exit.code || is_remote_only plan) (record { outcome = outcome; origin = origin }) other (fits.1.won refl) e
   there-has (Some (Failed cause)) (Told Won) other fits is e = false-true (fits.1.won refl)
-  there-has (Some end) (Told Late) other fits is e = late-won is
-  there-has (Some end) (Told Noted) other fits is e = noted-won is
+  there-has (Some end) (Told Late) other fits is e = cc
+  there-has (Some end) (Told Noted) other fits is e = cc
   there-has (Some end) Unused other fits is e = fits
   there-has (Some end) Refused other fits is e = fits
   there-has (Some end) Live other fits is e = fits
@@ -122,19 +107,19 @@ module _ (plan : Plan) (f : Cause → Cause) (h : RemoteCause → RemoteCause) (
     -- so whoever won is the local one
     winner-here : SomeoneWon (slips_of at_local at_remote cancel) → at_local ≡ Told Won
     winner-here (Of Local, won) = won
-    winner-here (Of Remote, won) = absurd (false-true (sym lost ∙ ap is_told_won won))
-    winner-here (Canceller, won) = absurd (false-true (sym free ∙ ap is_cancelled won))
+    winner-here (Of Remote, won) = false-true (sym lost ∙ ap is_told_won won)
+    winner-here (Canceller, won) = false-true (sym free ∙ ap is_cancelled won)
 
     -- a remote outcome that may be published came late
     there-late : (end : Option (End Outcome RemoteCause)) (slip : Slip) (won : Winner) → at_remote ≡ slip → FitsThere end slip → won_remote plan end ≡ Some won
         → at_local ≡ Told Won
-    there-late None slip won at fits e = absurd (none-some e)
-    there-late (Some (Failed cause)) slip won at fits e = absurd (none-some e)
+    there-late None slip won at fits e = none-some e
+    there-late (Some (Failed cause)) slip won at fits e = none-some e
     there-late (Some (Done outcome origin)) (Told Late) won at fits e = winner-here (told.late Remote at)
-    there-late (Some (Done outcome origin)) (Told Won) won at fits e = absurd (false-true (sym lost ∙ ap is_told_won at))
+    there-late (Some (Done outcome origin)) (Told Won) won at fits e = false-true (sym lost ∙ ap is_told_won at)
     there-late (Some (Done outcome origin)) (Told Noted) won at fits e =
-        absurd (false-true (sym (fits.1.noted refl)
-        ∙ test-some (is_zero outcome.exit.code || is_remote_only plan) (record { outcome = outcome; origin = origin }) won e))
+        false-true (sym (fits.1.noted refl)
+        ∙ test-some (is_zero outcome.exit.code || is_remote_only plan) (record { outcome = outcome; origin = origin }) won e)
     there-late (Some (Done outcome origin)) Unused won at fits e = absurd fits
     there-late (Some (Done outcome origin)) Refused won at fits e = absurd fits
     there-late (Some (Done outcome origin)) Live won at fits e = absurd fits
@@ -147,7 +132,7 @@ module _ (plan : Plan) (f : Cause → Cause) (h : RemoteCause → RemoteCause) (
     here-won (Some (Failed cause)) slip won at fits there e = sym at ∙ there-late remote at_remote won refl there e
     here-won (Some (Done outcome origin)) (Told Won) won at fits there e = refl
     here-won (Some (Done outcome origin)) (Told Late) won at fits there e = sym at ∙ winner-here (told.late Local at)
-    here-won (Some (Done outcome origin)) (Told Noted) won at fits there e = absurd (false-true (sym (fits.1.noted refl)))
+    here-won (Some (Done outcome origin)) (Told Noted) won at fits there e = false-true (sym (fits.1.noted refl))
     here-won (Some (Done outcome origin)) Unused won at fits there e = absurd fits
     here-won (Some (Done outcome origin)) Refused won at fits there e = absurd fits
     here-won (Some (Done outcome origin)) Live won at fits there e = absurd fits
@@ -156,11 +141,11 @@ module _ (plan : Plan) (f : Cause → Cause) (h : RemoteCause → RemoteCause) (
   -- a local attempt that won has the outcome
   here-is : (end : Option (End Outcome Cause)) (slip : Slip) (other : Option Winner) (won : Winner) → FitsHere end slip → slip ≡ Told Won
       → first_won (outcome_of end) other ≡ Some won → finished_in (progress_of (told_as f end slip)) ≡ Some (as_finished won)
-  here-is None slip other won fits is e = absurd (unstarted-lost (is_due_here plan at_remote) (sym fits.0 ∙ is))
-  here-is (Some (Done outcome origin)) (Told verdict) other won fits is e = ap (λ w. Some (as_finished w)) (some-inj e)
-  here-is (Some (Failed cause)) (Told Won) other won fits is e = absurd (false-true (fits.1.won refl))
-  here-is (Some (Failed cause)) (Told Late) other won fits is e = absurd (late-won is)
-  here-is (Some (Failed cause)) (Told Noted) other won fits is e = absurd (noted-won is)
+  here-is None slip other won fits is e = absurd (unstarted-told (is_due_here plan at_remote) Won (sym fits.0 ∙ is))
+  here-is (Some (Done outcome origin)) (Told verdict) other won fits is e = ap (λ w. Some (as_finished w)) (some-is e)
+  here-is (Some (Failed cause)) (Told Won) other won fits is e = false-true (fits.1.won refl)
+  here-is (Some (Failed cause)) (Told Late) other won fits is e = cc
+  here-is (Some (Failed cause)) (Told Noted) other won fits is e = cc
   here-is (Some end) Unused other won fits is e = absurd fits
   here-is (Some end) Refused other won fits is e = absurd fits
   here-is (Some end) Live other won fits is e = absurd fits
@@ -168,11 +153,11 @@ module _ (plan : Plan) (f : Cause → Cause) (h : RemoteCause → RemoteCause) (
 
   here-has : (end : Option (End Outcome Cause)) (slip : Slip) (other : Option Winner) → FitsHere end slip → slip ≡ Told Won
       → first_won (outcome_of end) other ≡ None → ⊥
-  here-has None slip other fits is e = unstarted-lost (is_due_here plan at_remote) (sym fits.0 ∙ is)
+  here-has None slip other fits is e = unstarted-told (is_due_here plan at_remote) Won (sym fits.0 ∙ is)
   here-has (Some (Done outcome origin)) (Told verdict) other fits is e = some-none e
   here-has (Some (Failed cause)) (Told Won) other fits is e = false-true (fits.1.won refl)
-  here-has (Some (Failed cause)) (Told Late) other fits is e = late-won is
-  here-has (Some (Failed cause)) (Told Noted) other fits is e = noted-won is
+  here-has (Some (Failed cause)) (Told Late) other fits is e = cc
+  here-has (Some (Failed cause)) (Told Noted) other fits is e = cc
   here-has (Some end) Unused other fits is e = fits
   here-has (Some end) Refused other fits is e = fits
   here-has (Some end) Live other fits is e = fits
@@ -188,7 +173,9 @@ module _ (plan : Plan) (f : Cause → Cause) (h : RemoteCause → RemoteCause) (
       (finished_in (progress_of (told_as f local at_local))) (finished_in (progress_of (told_as h remote at_remote)))
 
   lost-here : is_told_won at_remote ≡ true → is_told_won at_local ≡ false
-  lost-here won = first-lost (is_told_won at_local) (is_told_won at_remote) (one-attempt plan at_local at_remote cancel told) won
+  lost-here won = false_from_ne_true (is_told_won at_local) (λ also.
+      false-true (sym (one-attempt plan at_local at_remote cancel told)
+      ∙ and_from (is_told_won at_local) (is_told_won at_remote) also won))
 
   victor-by : (there : Bool) (won : Winner) → is_told_won at_remote ≡ there → is_cancelled cancel ≡ false → FitsHere local at_local → FitsThere remote at_remote
       → won_by (first_by at_remote) (outcome_of local) (won_remote plan remote) ≡ Some won → in_race ≡ Some (as_finished won)
@@ -217,7 +204,7 @@ module _ (plan : Plan) (f : Cause → Cause) (h : RemoteCause → RemoteCause) (
       absurd (there-has remote at_remote (outcome_of local) there slip
       (subst (λ x. won_by (first_by x) (outcome_of local) (won_remote plan remote) ≡ None) slip e))
   nobody-by false is free here there e = (
-    lost-unless (is_told_won at_local) (λ won. here-has local at_local (won_remote plan remote) here (won-slip at_local won)
+    false_from_ne_true (is_told_won at_local) (λ won. here-has local at_local (won_remote plan remote) here (won-slip at_local won)
         (subst (λ x. won_by x (outcome_of local) (won_remote plan remote) ≡ None) (first-local at_remote is) e)),
     is,
   )

@@ -4,6 +4,7 @@ use Rattle.std.specs.Prelude.{Err, IfOk, IfSome, None, OnErr, Ok, Option, Result
 use Rattle.rx_board.specs.declared.journal.Entry.{Entry}
 use Rattle.rx_board.specs.declared.journal.Receipt.{Receipt}
 use Rattle.rx_board.specs.Board.{State}
+use Rattle.rx_core.proofs.Cases.{false-true, some-is}
 use Rattle.rx_session.specs.declared.replies.Reply.{Reply}
 use Rattle.rx_session.specs.declared.replies.Reply.TheVariants as reply
 use Rattle.rx_world.specs.declared.attempts.Ended.{Ended}
@@ -13,7 +14,6 @@ use Rattle.rx_engine.specs.declared.answered.Answered.{Answered}
 use Rattle.rx_engine.specs.Answered.{IsUnpublished}
 use Rattle.rx_engine.specs.Journal.{Enters, EntersBoard, files_of}
 use Rattle.rx_engine.specs.Ready.{EntersAs, IsOrGivenUp}
-use Rattle.rx_engine.proofs.Cases.{false-true, some-inj}
 use Rattle.rx_engine.proofs.Unpublished.{given-up}
 
 -- a reply without a receipt, other than a full journal, leaves the journal as it was
@@ -25,7 +25,7 @@ pub unpublished-enters : {P : Type 0} (p : places.Ghosts P) (old new : State P) 
     → IfSome answered IsUnpublished → EntersAs p old new session ends answered
 unpublished-enters p old new session ends None same h = same
 unpublished-enters p old new session ends (Some a) same h =
-    enters-nothing old.limit old.journal new.journal _ _ session a.receipt (files_of ends) (Some a.reply) same h.receipt_is (λ e. h.not_full (some-inj e))
+    enters-nothing old.limit old.journal new.journal _ _ session a.receipt (files_of ends) (Some a.reply) same h.receipt_is (λ e. h.not_full (some-is e))
 
 -- an outcome was published, or memory ran out before that
 pub published-enters : {P E : Type 0} (p : places.Ghosts P) (old new : State P) (session : ℕ) (ends : List Ended) (files : List Listed) (made : Result Answered E) (answered : Option Answered)

@@ -6,6 +6,7 @@ use Rattle.std.proofs.lemmas.List.Elements.{All-weaker}
 use Rattle.rx_action.specs.ActionKeys.{key_of}
 use Rattle.rx_base.specs.declared.digests.Digest.{Digest}
 use Rattle.rx_board.specs.declared.journal.Entry.{Entry}
+use Rattle.rx_core.proofs.Cases.{none-some, some-is}
 use Rattle.rx_local.proofs.Staging.{staged-listed}
 use Rattle.rx_reach.specs.Scenes.{IsRight, scene_of}
 use Rattle.rx_race.specs.Publishing.{is_remote_only, is_zero}
@@ -50,7 +51,7 @@ use Rattle.rx_engine.specs.Meanings.{Meanings}
 use Rattle.rx_engine.specs.Plans.{has_remote}
 use Rattle.rx_engine.specs.RemoteAttempts.{EndsThere, HasRunThere}
 use Rattle.rx_engine.specs.Session.{IsCourse, IsSession, Replies, RepliesTo, tally_in}
-use Rattle.rx_engine.proofs.Cases.{as-remote, none-some, some-inj}
+use Rattle.rx_engine.proofs.Cases.{as-remote}
 use Rattle.rx_engine.proofs.MadeLemmas.{if-some, unless-some, won-files, won-first}
 use Rattle.rx_engine.proofs.RaceLemmas.{planned-there}
 
@@ -62,7 +63,7 @@ pub same-request : (root : List ℕ) (old new : Option (List ℕ)) (bytes read :
 same-request root None new bytes read served asked told consumed decoded valid = absurd (none-some told)
 same-request root (Some xs) None bytes read served asked told consumed decoded valid = absurd consumed
 same-request root (Some xs) (Some ys) bytes read served asked told consumed decoded valid =
-    let whole : bytes ≡ read ++ ys = sym (some-inj told) ∙ consumed in
+    let whole : bytes ≡ read ++ ys = sym (some-is told) ∙ consumed in
     incoming-prefix root read ys served asked decoded (ap (incoming_of root) (sym whole) ∙ valid)
 
 -- ---- what the source trees told
@@ -81,7 +82,7 @@ nothing-seen entries path look h = absurd (none-some h)
 -- of what was told this holds
 pub told-by : (P : List SourceEntry → Type 0) (o : Option (List SourceEntry)) (entries : List SourceEntry) → o ≡ Some entries → IfSome o P → P entries
 told-by P None entries e h = absurd (none-some e)
-told-by P (Some told) entries e h = let same : told ≡ entries = some-inj e in subst P same h
+told-by P (Some told) entries e h = let same : told ≡ entries = some-is e in subst P same h
 
 -- what a session did, on which its replies stand
 abbrev pub grounds_of : {P W B : Type 0} (m : Meanings P W B) (root : List ℕ) (before after : P) (t : Transcript) → IsSession m root before after t → Grounds P
@@ -200,7 +201,7 @@ module _ {P W B : Type 0} (m : Meanings P W B) (entries : List SourceEntry) (g :
   won-here told None won h w = absurd (none-some w)
   won-here told (Some (ends.Failed cause)) won h w = absurd (none-some w)
   won-here told (Some (ends.Done outcome origin)) won h w =
-      let same : outcome ≡ won.outcome = ap (λ (x : Won). x.outcome) (some-inj w) in
+      let same : outcome ≡ won.outcome = ap (λ (x : Won). x.outcome) (some-is w) in
       subst (λ x. IsClean m.world.tool gathered.command (listed_tree entries gathered) x) same (clean-here m entries g gathered told outcome origin b h)
 
   -- the outcome that is published is the clean one, from the list
@@ -246,7 +247,7 @@ module _ {P W B : Type 0} (m : Meanings P W B) (root : List ℕ) (before after :
   done-at answer e replies =
       let g : Grounds P = grounds_of m root before after t s in
       let done : RepliesTo m root g t.read t.request t.receipt (tally_in t) (reply.Done exit stdout stderr from number placed) =
-      subst (λ a. Replies m root g t.read t.request t.receipt (tally_in t) a) (some-inj (sym e ∙ is_done)) replies in
+      subst (λ a. Replies m root g t.read t.request t.receipt (tally_in t) a) (some-is (sym e ∙ is_done)) replies in
       let same : done.0 ≡ asked = same-request root (m.input.left before) (m.input.left after) bytes t.read done.0 asked h.steady.told s.read done.1.decoded h.steady.valid in
       let won : Won = done.2.0 in
       let has : HasWon m g asked (tally_in t) won = subst (λ x. HasWon m g x (tally_in t) won) same done.2.1 in

@@ -4,6 +4,7 @@ mod Calm
 mod Cases
 mod ConcludeLemmas
 mod CoreEnds
+mod CorePasses
 mod CoreRaces
 mod CoreRuns
 mod CoreSessions

@@ -1,8 +1,10 @@
 -- Which failures a calm session may tell.
-use Rattle.std.proofs.Common.{◌≡◌, ◌≢◌, ◌≤◌, ◌||◌, ℕ, Bool, true, false, List, [], ◌++◌, refl, ap, subst, sym, ◌∙◌, arith, length, inl, inr}
+use Rattle.std.proofs.Common.{◌≡◌, ◌≢◌, ◌≤◌, ℕ, true, false, List, [], ◌++◌, refl, ap, subst, sym, ◌∙◌, arith, length, inl, inr}
 use Rattle.std.specs.List.{flat_map}
 use Rattle.std.specs.Prelude.{All, None, Option, Some, if◌then◌else◌, is_some}
+use Rattle.std.proofs.lemmas.Bool.{or_right}
 use Rattle.std.proofs.lemmas.List.Elements.{All-head}
+use Rattle.rx_core.proofs.Cases.{false-true, none-some, some-is}
 use Rattle.rx_exec_messages.specs.declared.callers.Caller as callers
 use Rattle.rx_scan.specs.declared.gathering.Gathered.{Gathered}
 use Rattle.rx_scan.specs.Gathering.{plan_of}
@@ -45,7 +47,6 @@ use Rattle.rx_engine.specs.Plans.{has_both, has_local, has_remote}
 use Rattle.rx_engine.specs.Quiet.{IsFarmCause, IsQuietThere, MayFail}
 use Rattle.rx_engine.specs.Racing.{is_cancelled}
 use Rattle.rx_engine.specs.RemoteAttempts.{EndsThere}
-use Rattle.rx_engine.proofs.Cases.{false-true, none-some, some-inj}
 use Rattle.rx_engine.proofs.HonestRuns.{files-listed, right-there, told-by, trusted}
 use Rattle.rx_engine.proofs.Calm.{IsCalm, not-failed-for}
 use Rattle.rx_engine.proofs.RaceLemmas.{first-won, started-here, unstopped-here}
@@ -55,10 +56,6 @@ fails-for cause = ends.Failed cause
 
 failed-inj : (a b : RemoteCause) → fails-for a ≡ fails-for b → a ≡ b
 failed-inj a b h = cc
-
-or-true : (test : Bool) → (test || true) ≡ true
-or-true true = refl
-or-true false = refl
 
 -- one fault or more is a count that rose
 rose-once : (n before now : ℕ) → 1 ≤ n → RoseBy n before now → Rose before now
@@ -80,14 +77,14 @@ IsPlanOf strategies.RemoteLocalFallback plan = has_local plan ≡ true
 IsPlanOf strategies.Racing plan = has_local plan ≡ true
 
 plan-by : (strategy : Strategy) (cause : Option LocalCause) (plan : Plan) → plan_of strategy cause ≡ Some plan → IsPlanOf strategy plan
-plan-by strategies.Remote None plan h = sym (some-inj h)
+plan-by strategies.Remote None plan h = sym (some-is h)
 plan-by strategies.Remote (Some cause) plan h = absurd (none-some h)
-plan-by strategies.Local None plan h = ap has_local (sym (some-inj h))
-plan-by strategies.Local (Some cause) plan h = ap has_local (sym (some-inj h))
-plan-by strategies.RemoteLocalFallback None plan h = ap has_local (sym (some-inj h))
-plan-by strategies.RemoteLocalFallback (Some cause) plan h = ap has_local (sym (some-inj h))
-plan-by strategies.Racing None plan h = ap has_local (sym (some-inj h))
-plan-by strategies.Racing (Some cause) plan h = ap has_local (sym (some-inj h))
+plan-by strategies.Local None plan h = ap has_local (sym (some-is h))
+plan-by strategies.Local (Some cause) plan h = ap has_local (sym (some-is h))
+plan-by strategies.RemoteLocalFallback None plan h = ap has_local (sym (some-is h))
+plan-by strategies.RemoteLocalFallback (Some cause) plan h = ap has_local (sym (some-is h))
+plan-by strategies.Racing None plan h = ap has_local (sym (some-is h))
+plan-by strategies.Racing (Some cause) plan h = ap has_local (sym (some-is h))
 
 -- nothing is published of a race that wasn't cancelled only where nothing won
 unless-none : (cancel : Slip) (made : Option Won) → is_cancelled cancel ≡ false → unless_cancelled cancel made ≡ None → made ≡ None
@@ -105,7 +102,7 @@ both-none whose.Remote here there h = let both = neither-won there here h in (bo
 -- a remote outcome alone is published
 published-alone : (outcome : Outcome) (origin : Origin) → won_remote plans.RemoteOnly (Some (ends.Done outcome origin)) ≡ None → ⊥
 published-alone outcome origin h =
-    none-some (sym h ∙ ap (λ test. if test then Some (record { outcome = outcome; origin = origin }) else None) (or-true (is_zero outcome.exit.code)))
+    none-some (sym h ∙ ap (λ test. if test then Some (record { outcome = outcome; origin = origin }) else None) (or_right (is_zero outcome.exit.code) true refl))
 
 module _ {P W B : Type 0} (m : Meanings P W B) (entries : List SourceEntry) (g : Grounds P) (asked : Request) (c : IsCalm m entries g asked) where
   not-lost-here : (gathered : Gathered) (told : Option Decision) (local : Option (End Outcome Cause)) (rest : List Ended) → HasGathered m g asked gathered → HasLocal m gathered told g.before g.after local

@@ -1,6 +1,7 @@
 -- What is kept and published of the attempts of a plan.
 use Rattle.std.proofs.Common.{◌≡◌, ◌||◌, Bool, true, false, List, ◌++◌, ap, refl, sym}
 use Rattle.std.specs.Prelude.{None, Option, Some, if◌then◌else◌}
+use Rattle.rx_core.proofs.Cases.{none-some, some-is}
 use Rattle.rx_race.specs.declared.slips.Slip.{Slip}
 use Rattle.rx_race.specs.Publishing.{is_remote_only, is_zero}
 use Rattle.rx_scan.specs.declared.gathering.Gathered.{Gathered}
@@ -24,7 +25,6 @@ use Rattle.rx_engine.specs.Journal.{files_of}
 use Rattle.rx_engine.specs.Meanings.{Meanings}
 use Rattle.rx_engine.specs.RacedAttempts.{HasRaced}
 use Rattle.rx_engine.specs.Racing.{is_cancelled}
-use Rattle.rx_engine.proofs.Cases.{none-some, some-inj}
 use Rattle.rx_engine.proofs.RaceLemmas.{first-won}
 use Rattle.rx_engine.proofs.TurnLemmas.{in-turn}
 
@@ -64,7 +64,7 @@ pub unless-some : (cancel : Slip) (made : Option Won) (won : Won) → unless_can
 unless-some cancel made won h = else-some (is_cancelled cancel) made won h
 
 pub if-some : (test : Bool) (first won : Won) → (if test then Some first else None) ≡ Some won → first ≡ won
-if-some true first won h = some-inj h
+if-some true first won h = some-is h
 if-some false first won h = absurd (none-some h)
 
 remote-first : (plan : Plan) (remote : Option (End Outcome RemoteCause)) (won : Won) → won_remote plan remote ≡ Some won → first_done (listed_remote (kept_of remote)) ≡ Some (kept won.outcome)
@@ -77,11 +77,11 @@ first-local : (plan : Plan) (local : Option (End Outcome Cause)) (remote : Optio
     → first_done (listed_local (kept_of local) ++ listed_remote (kept_of remote)) ≡ Some (kept won.outcome)
 first-local plan None remote won h = remote-first plan remote won h
 first-local plan (Some (ends.Failed cause)) remote won h = remote-first plan remote won h
-first-local plan (Some (ends.Done outcome origin)) remote won h = ap (λ (x : Won). Some (kept x.outcome)) (some-inj h)
+first-local plan (Some (ends.Done outcome origin)) remote won h = ap (λ (x : Won). Some (kept x.outcome)) (some-is h)
 
 -- of two, the first is there
 if-first : (test : Bool) (first won : Won) (other : Option Won) → ((if test then Some first else None) ≡ None → ⊥) → first_won (if test then Some first else None) other ≡ Some won → first ≡ won
-if-first true first won other n h = some-inj h
+if-first true first won other n h = some-is h
 if-first false first won other n h = absurd (n refl)
 
 first-remote : (plan : Plan) (local : Option (End Outcome Cause)) (remote : Option (End Outcome RemoteCause)) (won : Won) → (won_remote plan remote ≡ None → ⊥)

@@ -4,6 +4,7 @@ use Rattle.std.proofs.KnownBytes.{Consumes-nil, Consumes-trans}
 use Rattle.std.specs.Prelude.{Err, IfOk, IfSome, None, Ok, Option, Result, Some}
 use Rattle.std.specs.Io.KnownBytes.{Consumes, IsAtEnd}
 use Rattle.rx_board.specs.declared.journal.Receipt.{Receipt}
+use Rattle.rx_core.proofs.Cases.{false-true}
 use Rattle.rx_session.specs.declared.bad.Bad.{Bad}
 use Rattle.rx_session.specs.declared.bad.BadReason.TheVariants.{CutShort}
 use Rattle.rx_session.specs.declared.bad.SessionFault.{SessionFault}
@@ -46,7 +47,6 @@ use Rattle.rx_engine.specs.Session.{IsAsked, IsReadTo, IsUntouched, Replies, Was
 use Rattle.rx_engine.specs.Watching.{ListensIn, heard_in}
 use Rattle.rx_engine.proofs.AnswerLemmas.{tells-none}
 use Rattle.rx_engine.proofs.AttemptLemmas.{idle-none}
-use Rattle.rx_engine.proofs.Cases.{false-true}
 use Rattle.rx_engine.proofs.Moves.{idle-move, same-none, tells-in, tells-move}
 use Rattle.rx_engine.proofs.RaceLemmas.{unused-told}
 use Rattle.rx_engine.proofs.ReplyMoves.{AreSame, stage-move}

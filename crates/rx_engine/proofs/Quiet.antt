@@ -3,6 +3,7 @@ use Rattle.std.proofs.Common.{◌≡◌, ℕ, List, [], ◌++◌, inl, inr, refl
 use Rattle.std.specs.Prelude.{Err, MatchOption, None, Option, Some}
 use Rattle.std.specs.Io.KnownBytes.{Consumes, IsAtEnd}
 use Rattle.rx_board.specs.declared.journal.Entry.{Entry}
+use Rattle.rx_core.proofs.Cases.{none-some, some-is}
 use Rattle.rx_scan.specs.declared.gather_fault.GatherFault.TheVariants as fault
 use Rattle.rx_session.specs.declared.bad.Bad.{Bad}
 use Rattle.rx_session.specs.declared.bad.BadReason.TheVariants.{CutShort}
@@ -19,7 +20,6 @@ use Rattle.rx_engine.specs.Journal.{IsEntry, IsJournalled, IsPlaced, files_of}
 use Rattle.rx_engine.specs.Meanings.{Meanings}
 use Rattle.rx_engine.specs.Quiet.{HasRoom, IsDoneOr, IsDoneReply, IsQuiet, MayFail}
 use Rattle.rx_engine.specs.Session.{IsCourse, IsSession, Replies, RepliesTo, WasAskedToEnd, tally_in}
-use Rattle.rx_engine.proofs.Cases.{none-some, some-inj}
 use Rattle.rx_engine.proofs.Early.{early, err-in, no-request}
 use Rattle.rx_engine.proofs.HonestRuns.{grounds_of, same-request}
 use Rattle.rx_engine.proofs.Calm.{IsCalm, calm, not-refused-by}
@@ -31,7 +31,7 @@ pub not-refused : (root : List ℕ) (old new : Option (List ℕ)) (bytes read : 
 not-refused root None new bytes read why asked e h d cut v = absurd (none-some e)
 not-refused root (Some xs) None bytes read why asked e h d cut v = absurd h
 not-refused root (Some xs) (Some ys) bytes read why asked e h d cut v =
-    let whole : bytes ≡ read ++ ys = sym (some-inj e) ∙ h in
+    let whole : bytes ≡ read ++ ys = sym (some-is e) ∙ h in
     let valid : IsRequest root (read ++ ys) asked = ap (incoming_of root) (sym whole) ∙ v in
     early root read ys why asked d
     (λ c. let end : ys ≡ [] = cut c in
@@ -45,7 +45,7 @@ not-ended : (root : List ℕ) (old new : Option (List ℕ)) (bytes read : List �
 not-ended root None new bytes read asked e h r v = absurd (none-some e)
 not-ended root (Some xs) None bytes read asked e h r v = absurd h
 not-ended root (Some xs) (Some ys) bytes read asked e h r v =
-    let whole : bytes ≡ shutdown ++ ys = sym (some-inj e) ∙ h ∙ ap (λ s. s ++ ys) r in
+    let whole : bytes ≡ shutdown ++ ys = sym (some-is e) ∙ h ∙ ap (λ s. s ++ ys) r in
     no-request root ys asked (ap (incoming_of root) (sym whole) ∙ v)
 
 module _ {P W B : Type 0} (m : Meanings P W B) (entries : List SourceEntry) (g : Grounds P) (asked : Request) (c : IsCalm m entries g asked) where

@@ -1,6 +1,7 @@
 -- What follows from the race of a plan's attempts: which of them won, and what the other was told.
 use Rattle.std.proofs.Common.{◌≡◌, ◌∙◌, ◌||◌, Bool, true, false, ap, refl, subst, sym}
 use Rattle.std.specs.Prelude.{Err, IfSome, None, Option, Some, if◌then◌else◌, is_some}
+use Rattle.rx_core.proofs.Cases.{false-true, none-some, some-none}
 use Rattle.rx_local.specs.Local.{HasTold, IsStopped, Tells}
 use Rattle.rx_race.specs.declared.events.Verdict.{Verdict}
 use Rattle.rx_race.specs.declared.events.Verdict.TheVariants.{Late, Noted, Won}
@@ -29,7 +30,6 @@ use Rattle.rx_engine.specs.Attempts.{Attempts, HasAttempts, HasLocal, first_of, 
 use Rattle.rx_engine.specs.Meanings.{Meanings}
 use Rattle.rx_engine.specs.Plans.{has_both, has_local, has_remote, is_due_here}
 use Rattle.rx_engine.specs.Racing.{FitsEnd, HaveRaced, IsVerdictOn, first_by, is_cancelled, unstarted}
-use Rattle.rx_engine.proofs.Cases.{false-true, none-some, some-none}
 
 pub refused-told : (verdict : Verdict) → Refused ≡ Told verdict → ⊥
 refused-told verdict h = cc
@@ -43,7 +43,7 @@ late-won h = cc
 local-remote : Local ≡ Remote → ⊥
 local-remote h = cc
 
-unstarted-told : (due : Bool) (verdict : Verdict) → unstarted due ≡ Told verdict → ⊥
+pub unstarted-told : (due : Bool) (verdict : Verdict) → unstarted due ≡ Told verdict → ⊥
 unstarted-told true verdict h = refused-told verdict h
 unstarted-told false verdict h = unused-told verdict h
 

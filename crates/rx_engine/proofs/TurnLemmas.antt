@@ -1,6 +1,7 @@
 -- A race of a plan that hasn't both attempts at once and wasn't cancelled: they came in turn, and nothing stopped them.
 use Rattle.std.proofs.Common.{◌≡◌, ◌∙◌, ◌⊎◌, ◌||◌, Bool, true, false, ap, inl, inr, refl, subst, sym}
 use Rattle.std.specs.Prelude.{IfSome, None, Option, Some, if◌then◌else◌, is_some}
+use Rattle.rx_core.proofs.Cases.{false-true}
 use Rattle.rx_race.specs.declared.events.Verdict.{Verdict}
 use Rattle.rx_race.specs.declared.events.Verdict.TheVariants.{Late, Noted, Won}
 use Rattle.rx_race.specs.declared.slips.Seat.TheVariants.{Canceller, Of}
@@ -23,7 +24,6 @@ use Rattle.rx_engine.specs.declared.transcripts.Passes.{Passes}
 use Rattle.rx_engine.specs.Attempts.{AreInTurn, Attempts, won_remote}
 use Rattle.rx_engine.specs.Plans.{has_both, is_noted}
 use Rattle.rx_engine.specs.Racing.{FitsEnd, HaveRaced, IsVerdictOn, is_cancelled}
-use Rattle.rx_engine.proofs.Cases.{false-true}
 use Rattle.rx_engine.proofs.RaceLemmas.{refused-told, unused-told, was-told}
 
 late-told : Told Late ≡ Told Won → ⊥

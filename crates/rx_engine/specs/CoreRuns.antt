@@ -1,5 +1,5 @@
 -- What the sessions of a run are to the core: each one that made attempts is an action, and steps of the core lead to all of them.
-use Rattle.std.specs.Prelude.{◌≡◌, ◌⊎◌, ℕ, Bool, false, List, [], ◌∷◌, Option, None, Some, MatchOption, map}
+use Rattle.std.specs.Prelude.{◌≡◌, ◌⊎◌, ℕ, Bool, List, [], ◌∷◌, Option, None, Some, MatchOption, map}
 use Rattle.rx_board.specs.declared.journal.Entry.{Entry}
 use Rattle.rx_core.specs.Actions.{Action}
 use Rattle.rx_core.specs.Attempts.{Ended as HasEnded, Idle, Offered, Progress, Running, end_in}
@@ -8,9 +8,9 @@ use Rattle.rx_core.specs.Remote.{Rules}
 use Rattle.rx_core.specs.Replies.{Reply as CoreReply}
 use Rattle.rx_core.specs.Runs.{IsReached}
 use Rattle.rx_core.specs.States.{Has, State}
-use Rattle.rx_core.specs.ToldRaces.{decided_by, is_won}
+use Rattle.rx_core.specs.ToldRaces.{decided_by}
 use Rattle.rx_race.specs.declared.slips.Slip.{Slip}
-use Rattle.rx_race.specs.declared.slips.Slip.TheVariants.{Live, Refused, Stopped, Told, Unused}
+use Rattle.rx_race.specs.declared.slips.Slip.TheVariants.{Told}
 use Rattle.rx_remote.specs.Marks.{Turn}
 use Rattle.rx_scan.specs.Gathering.{IsPlanned, command_asked}
 use Rattle.rx_session.specs.declared.replies.Reply.{Reply}
@@ -31,7 +31,7 @@ use Rattle.rx_engine.specs.declared.transcripts.Transcript.{Transcript}
 use Rattle.rx_engine.specs.Answers.{asked_of}
 use Rattle.rx_engine.specs.Attempts.{in_order, kept_of, listed_local, listed_remote, no_tally}
 use Rattle.rx_engine.specs.Meanings.{Meanings}
-use Rattle.rx_engine.specs.Racing.{first_by, is_cancelled, unstarted}
+use Rattle.rx_engine.specs.Racing.{first_by, is_cancelled, is_told_won, unstarted}
 use Rattle.rx_engine.specs.Session.{tally_in}
 
 -- what remote attempts may hear, and what that leaves
@@ -39,13 +39,6 @@ abbrev pub rules_of : {P W B : Type 0} → Meanings P W B → Rules Turn
 rules_of m = farm_rules m.world.blob m.world.tool
 
 -- ---- what the passes were told
-
-abbrev pub is_told_won : Slip → Bool
-is_told_won (Told verdict) = is_won verdict
-is_told_won Unused = false
-is_told_won Refused = false
-is_told_won Live = false
-is_told_won Stopped = false
 
 -- what a race with such passes came to
 abbrev pub decision_of : Passes → Decision

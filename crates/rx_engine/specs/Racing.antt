@@ -49,15 +49,19 @@ first_by Refused = Local
 first_by Live = Local
 first_by Stopped = Local
 
+-- the offer of this pass won the race
+abbrev pub is_told_won : Slip → Bool
+is_told_won (Told Won) = true
+is_told_won (Told Late) = false
+is_told_won (Told Noted) = false
+is_told_won Unused = false
+is_told_won Refused = false
+is_told_won Live = false
+is_told_won Stopped = false
+
 -- the right to cancel won the race
 abbrev pub is_cancelled : Slip → Bool
-is_cancelled (Told Won) = true
-is_cancelled (Told Late) = false
-is_cancelled (Told Noted) = false
-is_cancelled Unused = false
-is_cancelled Refused = false
-is_cancelled Live = false
-is_cancelled Stopped = false
+is_cancelled cancel = is_told_won cancel
 
 -- The attempts of a plan had a race of their own: this is what its passes were told, and each of an attempt fits its end.
 pub record HaveRaced (plan : Plan) (told_local : Option Decision) (local : Option (End Outcome Cause)) (told_remote : Option Decision)
