@@ -3,7 +3,9 @@ mod AttemptLemmas
 mod Calm
 mod Cases
 mod ConcludeLemmas
+mod CoreActions
 mod CoreEnds
+mod CoreListed
 mod CorePasses
 mod CoreRaces
 mod CoreRuns
