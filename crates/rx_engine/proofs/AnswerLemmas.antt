@@ -4,7 +4,7 @@ use Rattle.std.proofs.lemmas.Bool.{true_from_ne_false}
 use Rattle.std.proofs.lemmas.List.Elements.{All-nil, All-weaker}
 use Rattle.std.specs.Prelude.{Err, IfOk, IfSome, None, Ok, Option, Result, Some, All, is_some}
 use Rattle.rx_race.specs.declared.events.Verdict.TheVariants.{Won as WonRace}
-use Rattle.rx_race.specs.declared.slips.Slip.TheVariants.{Refused, Told}
+use Rattle.rx_race.specs.declared.slips.Slip.TheVariants.{Told}
 use Rattle.rx_scan.specs.declared.gather_fault.GatherFault.{GatherFault}
 use Rattle.rx_scan.specs.declared.gather_fault.GatherFault.TheVariants as fault
 use Rattle.rx_scan.specs.declared.gathering.Gathered.{Gathered}

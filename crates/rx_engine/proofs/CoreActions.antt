@@ -77,7 +77,8 @@ module _ {P W B : Type 0} (m : Meanings P W B) (g : Grounds P) (asked : Request)
   abbrev made : Decision
   made = decision_of run.attempts.passes
 
-  abbrev fits_here : FitsEnd run.gathered.plan Local (is_due_here run.gathered.plan run.attempts.passes.remote) run.attempts.told_local run.attempts.local run.attempts.passes.local
+  abbrev fits_here : FitsEnd run.gathered.plan Local (is_due_here run.gathered.plan run.attempts.passes.remote) run.attempts.told_local
+      run.attempts.local run.attempts.passes.local
   fits_here = run.made.raced.fits_local
 
   abbrev fits_there : FitsEnd run.gathered.plan Remote (has_remote run.gathered.plan) run.attempts.told_remote run.attempts.remote run.attempts.passes.remote

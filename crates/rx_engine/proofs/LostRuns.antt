@@ -102,7 +102,8 @@ both-none whose.Remote here there h = let both = neither-won there here h in (bo
 -- a remote outcome alone is published
 published-alone : (outcome : Outcome) (origin : Origin) → won_remote plans.RemoteOnly (Some (ends.Done outcome origin)) ≡ None → ⊥
 published-alone outcome origin h =
-    none-some (sym h ∙ ap (λ test. if test then Some (record { outcome = outcome; origin = origin }) else None) (or_right (is_zero outcome.exit.code) true refl))
+    none-some (sym h ∙ ap (λ test. if test then Some (record { outcome = outcome; origin = origin }) else None)
+    (or_right (is_zero outcome.exit.code) true refl))
 
 module _ {P W B : Type 0} (m : Meanings P W B) (entries : List SourceEntry) (g : Grounds P) (asked : Request) (c : IsCalm m entries g asked) where
   not-lost-here : (gathered : Gathered) (told : Option Decision) (local : Option (End Outcome Cause)) (rest : List Ended) → HasGathered m g asked gathered → HasLocal m gathered told g.before g.after local
