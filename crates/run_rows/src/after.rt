@@ -1,8 +1,11 @@
 //! What rows ask of a run that ended, by their first words.
 
+use crate::desks::MemoryDesk;
 use crate::ends::{show_ends, show_passes};
 use crate::outcomes::{show_benches, show_entry, show_farm, show_files, show_reads, show_session};
 use crate::runs::Finished;
+use rx_base::NoMemory;
+use rx_engine::Transcript;
 use rx_rows::{Answer, Row, RowFault};
 use std::alloc::Global;
 
@@ -31,14 +34,40 @@ pub(crate) fn show_after(
     }
     let number = row.number()?;
     match word {
-        "session" => show_session(alloc, answer, nth(&run.transcripts, number)?)?,
-        "frame" => answer.bytes(nth(&run.desks, number)?.output.bytes.as_slice())?,
         "entry" => show_entry(alloc, answer, nth(&run.journal, number)?)?,
-        "ends" => show_ends(alloc, answer, &nth(&run.transcripts, number)?.ends)?,
-        "passes" => show_passes(answer, nth(&run.transcripts, number)?.passes)?,
-        "reads" => show_reads(answer, nth(&run.desks, number)?)?,
-        "calls" => show_farm(alloc, answer, nth(&run.desks, number)?)?,
-        _ => show_benches(answer, nth(&run.desks, number)?)?,
+        "session" | "ends" | "passes" => {
+            show_transcript(alloc, word, nth(&run.transcripts, number)?, answer)?
+        }
+        _ => show_desk(alloc, word, nth(&run.desks, number)?, answer)?,
     }
     Ok(())
+}
+
+/// What is left behind of a session.
+fn show_transcript(
+    alloc: Global,
+    word: &str,
+    transcript: &Transcript,
+    answer: &mut Answer,
+) -> Result<(), NoMemory> {
+    match word {
+        "session" => show_session(alloc, answer, transcript),
+        "ends" => show_ends(alloc, answer, &transcript.ends),
+        _ => show_passes(answer, transcript.passes),
+    }
+}
+
+/// What is left behind of a desk.
+fn show_desk(
+    alloc: Global,
+    word: &str,
+    desk: &MemoryDesk,
+    answer: &mut Answer,
+) -> Result<(), NoMemory> {
+    match word {
+        "frame" => answer.bytes(desk.output.bytes.as_slice()),
+        "reads" => show_reads(answer, desk),
+        "calls" => show_farm(alloc, answer, desk),
+        _ => show_benches(answer, desk),
+    }
 }

@@ -101,34 +101,49 @@ fn tree_for(is_apart: bool, own: PlannedTree) -> PlannedTree {
     if is_apart { own } else { PlannedTree::All }
 }
 
-/// The trees of a desk: the one that inputs are gathered from, and those of the local and of the remote
-/// attempt.
+/// The trees of the attempts.
 #[derive(Drop)]
-struct Trees {
-    gathered: MemorySources<Brand>,
+struct AttemptTrees {
     local: MemorySources<Brand>,
     remote: MemorySources<Brand>,
 }
 
-fn trees_of(alloc: Global, plan: &DeskPlan) -> Result<Trees, NoMemory> {
+fn attempt_trees(alloc: Global, plan: &DeskPlan) -> Result<AttemptTrees, NoMemory> {
     let local = tree_for(plan.local_apart, PlannedTree::Local);
     let remote = tree_for(plan.remote_apart, PlannedTree::Remote);
-    Ok(Trees {
-        gathered: sources_of(alloc, plan, PlannedTree::All, Part::Tree)?,
+    Ok(AttemptTrees {
         local: sources_of(alloc, plan, local, Part::TreeLocal)?,
         remote: sources_of(alloc, plan, remote, Part::TreeRemote)?,
     })
 }
 
-/// The parts of a plan's desk. Its farm's client answers no call.
-fn parts_of(alloc: Global, plan: &DeskPlan) -> Result<MemoryDesk, NoMemory> {
-    let trees = trees_of(alloc, plan)?;
-    Ok(Parts {
+/// What a desk has beside its trees.
+#[derive(Drop)]
+struct Rest {
+    input: MemorySource,
+    output: MemorySink,
+    benches: ToyBenches,
+}
+
+fn rest_of(alloc: Global, plan: &DeskPlan) -> Result<Rest, NoMemory> {
+    Ok(Rest {
         input: input_of(alloc, plan)?,
         output: output_of(alloc, plan)?,
-        tree: trees.gathered,
-        tree_local: trees.local,
         benches: benches_of(alloc, plan)?,
+    })
+}
+
+/// The parts of a plan's desk. Its farm's client answers no call.
+fn parts_of(alloc: Global, plan: &DeskPlan) -> Result<MemoryDesk, NoMemory> {
+    let rest = rest_of(alloc, plan)?;
+    let trees = attempt_trees(alloc, plan)?;
+    let tree = sources_of(alloc, plan, PlannedTree::All, Part::Tree)?;
+    Ok(Parts {
+        input: rest.input,
+        output: rest.output,
+        tree,
+        tree_local: trees.local,
+        benches: rest.benches,
         tree_remote: trees.remote,
         farm: FarmScript::new(alloc, Vec::new(alloc), Dialect::New),
     })
@@ -165,38 +180,61 @@ pub(crate) fn crowd_of<H: Hands>(
     Ok(desks)
 }
 
+/// The seats of the parts that may wait, in one meeting.
+#[derive(Drop)]
+struct Seats<H> {
+    input: Seat<H>,
+    tree: Seat<H>,
+    tree_local: Seat<H>,
+    benches: Seat<H>,
+    tree_remote: Seat<H>,
+    farm: Seat<H>,
+}
+
+fn seats_of<H: Hands>(hands: H, meeting: &Arc<Meeting, Global>) -> Result<Seats<H>, NoMemory> {
+    Ok(Seats {
+        input: Seat::new(hands, meeting, Part::Input)?,
+        tree: Seat::new(hands, meeting, Part::Tree)?,
+        tree_local: Seat::new(hands, meeting, Part::TreeLocal)?,
+        benches: Seat::new(hands, meeting, Part::Benches)?,
+        tree_remote: Seat::new(hands, meeting, Part::TreeRemote)?,
+        farm: Seat::new(hands, meeting, Part::Farm)?,
+    })
+}
+
 /// The desk of these parts. Each that may wait has its seat in one meeting.
 fn seated<H: Hands>(
     hands: H,
     parts: MemoryDesk,
     meeting: &Arc<Meeting, Global>,
 ) -> Result<ScriptedDesk<H>, NoMemory> {
+    let seats = seats_of(hands, meeting)?;
     Ok(MeetingDesk {
         parts: Parts {
             input: MeetingInput {
                 source: parts.input,
-                seat: Seat::new(hands, meeting, Part::Input)?,
+                seat: seats.input,
             },
             output: parts.output,
             tree: MeetingSources {
                 tree: parts.tree,
-                seat: Seat::new(hands, meeting, Part::Tree)?,
+                seat: seats.tree,
             },
             tree_local: MeetingSources {
                 tree: parts.tree_local,
-                seat: Seat::new(hands, meeting, Part::TreeLocal)?,
+                seat: seats.tree_local,
             },
             benches: MeetingBenches {
                 benches: parts.benches,
-                seat: Seat::new(hands, meeting, Part::Benches)?,
+                seat: seats.benches,
             },
             tree_remote: MeetingSources {
                 tree: parts.tree_remote,
-                seat: Seat::new(hands, meeting, Part::TreeRemote)?,
+                seat: seats.tree_remote,
             },
             farm: MeetingClient {
                 client: parts.farm,
-                seat: Seat::new(hands, meeting, Part::Farm)?,
+                seat: seats.farm,
             },
         },
     })
