@@ -1,14 +1,15 @@
 -- The desks of a run over the machine.
-use Rattle.std.proofs.Common.{◌≡◌, ◌∙◌, ℕ, List, [], ◌∷◌, None, Option, Some, refl, sym, subst}
+use Rattle.std.proofs.Common.{◌≡◌, ◌∙◌, ℕ, false, List, [], ◌∷◌, None, Option, Some, refl, sym, subst}
 use Rattle.std.specs.Prelude.{IfSome, MatchOption, String, option_map}
 use Rattle.std.specs.Option.{option_to_list}
 use Rattle.rx_board.specs.declared.journal.Entry.{Entry}
 use Rattle.rx_engine.specs.declared.transcripts.Transcript.{Transcript}
 use Rattle.rx_engine.specs.CoreRuns.{IsCoreRun, rules_of}
 use Rattle.rx_engine.specs.Meanings.{Meanings}
-use Rattle.rx_engine.specs.Proxy.{HasServingStatus, HasStatus, IsLegal}
+use Rattle.rx_engine.specs.Proxy.{HasServed, HasServingStatus, HasStatus, IsLegal}
 use Rattle.rx_engine.specs.Serves.{RunsDone}
 use Rattle.rx_engine.specs.Words.{Options, options_in, root_in}
+use Rattle.rx_host.specs.Clients.{Accepts}
 use Rattle.rx_world.specs.declared.outcomes.FileOut.{FileOut}
 use Rattle.reproxy.specs.Serves.{ServesClients, ServesDesk}
 
@@ -45,16 +46,17 @@ serves-made m parts Is words options limit faults (Some desk) left status journa
     serves-desk m parts Is (root_in words) limit faults (Some desk) desk left status journal handed ts refl is runs core legal has
 
 -- where the words are known, the run was over the desks of clients
-pub serves-clients : {D P W B : Type 0} (m : Meanings P W B) (parts : D → P) (found : Option (List ℕ)) (limit faults before after status : ℕ)
-    (journal : List Entry) (handed : List D) (ts : List Transcript)
+pub serves-clients : {D P W B : Type 0} (m : Meanings P W B) (parts : D → P) (found : Option (List ℕ)) (limit faults : ℕ) (before after : Accepts)
+    (status : ℕ) (journal : List Entry) (handed : List D) (ts : List Transcript)
     → IfSome found (λ root. RunsDone None None m parts root limit journal faults handed ts)
     → ((files : List FileOut) → IfSome found (λ root. IsCoreRun (rules_of m) files limit journal ts)) → IsLegal 1 journal ts
-    → IfSome found (λ root. HasServingStatus before after status ts)
+    → HasServed before.accepted after.accepted status ts → IfSome found (λ root. HasServingStatus false before.faults after.faults status ts)
     → IfSome found (λ root. ServesClients m parts root limit faults before after status journal handed ts)
-serves-clients m parts None limit faults before after status journal handed ts runs core legal has = tt
-serves-clients m parts (Some root) limit faults before after status journal handed ts runs core legal has = record {
+serves-clients m parts None limit faults before after status journal handed ts runs core legal served has = tt
+serves-clients m parts (Some root) limit faults before after status journal handed ts runs core legal served has = record {
   sessions = runs;
   core = core;
   legal = legal;
+  served = served;
   status_is = has;
 }

@@ -1,6 +1,6 @@
 //! The desks of `serve`: one for each client that connects.
 
-ghost use Rattle.std.specs.Prelude.{◌≡◌, None};
+ghost use Rattle.std.specs.Prelude.{◌≡◌, None, false};
 
 use crate::desk::{Host, HostParts, parts_over};
 use crate::halts::HostHalt;
@@ -90,7 +90,12 @@ impl<'a, H: Hands + Send + Sync> Front<HostWorld> for ClientFront<'a, H> {
 
     ghost coming = { λ f. None };
 
-    ghost faults = { λ f. f.listener };
+    ghost given = { λ f. f.listener.accepted };
+
+    // (clients come as long as the listener doesn't fail)
+    ghost over = { λ f. false };
+
+    ghost faults = { λ f. f.listener.faults };
 
     fn next(&mut self) -> Result<Option<ClientDesk<H>>, Failed> {
         let (input, output) = self.listener.accept(&self.host.rt)?;

@@ -1,6 +1,6 @@
 //! The parts of sessions over the machine, and the one desk of `exec`, over the standard streams.
 
-ghost use Rattle.std.specs.Prelude.{◌≡◌, IfOk, Some};
+ghost use Rattle.std.specs.Prelude.{◌≡◌, IfOk, Some, if◌then◌else◌, is_none};
 ghost use Rattle.std.specs.Option.{option_to_list};
 
 use crate::farm::farm_for;
@@ -119,6 +119,10 @@ impl<H: Hands + Send + Sync, I: Read + Send + Drop, O: Print + Send + Drop> Fron
     type D = HostDesk<H, I, O>;
 
     ghost coming = { λ f. Some (option_to_list f.desk) };
+
+    ghost given = { λ f. if is_none f.desk then 1 else 0 };
+
+    ghost over = { λ f. is_none f.desk };
 
     ghost faults = { λ f. 0 };
 

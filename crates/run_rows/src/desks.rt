@@ -1,6 +1,6 @@
 //! Desks in memory, and a front that gives them.
 
-ghost use Rattle.std.specs.Prelude.{◌≡◌, Some};
+ghost use Rattle.std.specs.Prelude.{◌≡◌, ◌≤◌, ◌-◌, ◌==◌, Some, length, vec_len};
 
 use crate::benches::MeetingBenches;
 use crate::clients::MeetingClient;
@@ -131,17 +131,23 @@ impl<H: Hands> Halt for MeetingHalt<H> {
     }
 }
 
-/// Gives desks, the first of them first.
+/// Gives desks, the first of them first, of as many as it had.
 #[derive(Drop)]
 pub(crate) struct ListFront<D> {
     pub desks: Vec<D>,
+    pub all: usize,
     pub script: Script,
+    ghost within: { vec_len desks ≤ all },
 }
 
 impl<D: Desk<RowWorld> + Send + Drop> Front<RowWorld> for ListFront<D> {
     type D = D;
 
     ghost coming = { λ f. Some f.desks.items };
+
+    ghost given = { λ f. f.all - length f.desks.items };
+
+    ghost over = { λ f. length f.desks.items == 0 };
 
     ghost faults = { λ f. f.script.faults };
 

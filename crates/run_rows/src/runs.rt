@@ -57,8 +57,10 @@ fn front_of<H: Hands>(
     plans: Vec<DeskPlan>,
     failing: &[FailingCall],
 ) -> Result<ListFront<ScriptedDesk<H>>, NoMemory> {
+    let desks = desks_of(rt, alloc, plans)?;
     Ok(ListFront {
-        desks: desks_of(rt, alloc, plans)?,
+        all: desks.len(),
+        desks,
         script: script_for(alloc, failing, Part::Front)?,
     })
 }

@@ -1,5 +1,5 @@
 -- What a run of sessions in threads keeps of them.
-use Rattle.std.specs.Prelude.{◌≡◌, ◌<◌, ℕ, List, [], Option, None, length}
+use Rattle.std.specs.Prelude.{◌≡◌, ◌≤◌, ℕ, Bool, false, List, [], Option, None, length}
 use Rattle.rx_board.specs.Board.{State}
 use Rattle.rx_world.specs.declared.outcomes.FileOut.{FileOut}
 use Rattle.rx_world.specs.declared.places.Place as places
@@ -7,14 +7,17 @@ use Rattle.rx_engine.specs.declared.pending.Pending.{Pending}
 use Rattle.rx_engine.specs.declared.transcripts.Transcript.{Transcript}
 use Rattle.rx_engine.specs.Meanings.{Meanings}
 use Rattle.rx_engine.specs.Pending.{IsPending}
-use Rattle.rx_engine.specs.Proxy.{Runs, most_desks}
+use Rattle.rx_engine.specs.Proxy.{Runs}
 use Rattle.rx_engine.specs.Serves.{Serves}
 
--- the board, and what the sessions left that have published, in that order
+-- The board, what the sessions left that have published, in that order, how many sessions ended, and whether one was given up, which left
+-- nothing.
 pub record Sessions (D Q : Type 0) : Type 0 where
   pub board : State Q
   pub transcripts : List Transcript
   pub desks : List D
+  pub concluded : ℕ
+  pub given_up : Bool
 
 -- how many entries the journal of a run takes
 abbrev pub run_limit : ℕ
@@ -25,7 +28,8 @@ pub record IsKept {D P Q W B : Type 0} (m : Meanings P W B) (p : places.Ghosts Q
     (kept : Sessions D Q) : Type 0 where
   pub limit : kept.board.limit ≡ run_limit
   pub opening_is : p.opening kept.board.place ≡ opening
-  pub few : length kept.transcripts < most_desks
+  pub within : length kept.transcripts ≤ kept.concluded
+  pub each : kept.given_up ≡ false → length kept.transcripts ≡ kept.concluded
   pub runs : Runs None None (Serves m parts root run_limit) [] kept.board.journal 0 (p.faults kept.board.place) kept.desks kept.transcripts
 
 -- a session is pending on the parts of some desk

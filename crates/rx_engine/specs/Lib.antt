@@ -1,3 +1,4 @@
+pub mod Accounts
 pub mod Addresses
 pub mod Answered
 pub mod Answers

@@ -1,5 +1,5 @@
 -- A run of sessions, one after the other.
-use Rattle.std.specs.Prelude.{◌≡◌, ◌⊎◌, ℕ, ◌+◌, ◌<◌, List, [], ◌∷◌, ◌++◌, Bool, false, true, Option, None, MatchOption, None, if◌then◌else◌, length}
+use Rattle.std.specs.Prelude.{◌≡◌, ◌≢◌, ◌⊎◌, ℕ, ◌+◌, ◌<◌, ◌≤◌, List, [], ◌∷◌, ◌++◌, Bool, false, true, Option, MatchOption, if◌then◌else◌, length}
 use Rattle.std.specs.List.{list_any}
 use Rattle.std.specs.Str.{bytes_eq}
 use Rattle.rx_base.specs.Told.{Told}
@@ -125,8 +125,23 @@ pub record HasStatus {D : Type 0} (old new : Option (List D)) (before now status
   pub stopped : IsStop old new before now ts stop
   pub status_is : status ≡ status_of stop ts
 
--- the same of a run in threads, whose front tells nothing
-pub record HasServingStatus (before now status : ℕ) (ts : List Transcript) : Type 0 where
+-- ---- in threads
+
+-- The front said that it has no more, its count rose, a session was asked to end the run, or memory ran out.
+abbrev pub IsServingStop : Bool → ℕ → ℕ → List Transcript → Stop → Type 0
+IsServingStop over before now ts Ended = over ≡ true
+IsServingStop over before now ts FrontLost = Rose before now
+IsServingStop over before now ts Spent = ⊥
+IsServingStop over before now ts ShutDown = is_asked_to_end ts ≡ true
+IsServingStop over before now ts NoMemory = Unit {0}
+
+pub record HasServingStatus (over : Bool) (before now status : ℕ) (ts : List Transcript) : Type 0 where
   pub stop : Stop
-  pub stopped : IsStop {D = Unit {0}} None None before now ts stop
+  pub stopped : IsServingStop over before now ts stop
   pub status_is : status ≡ serving_status stop
+
+-- A front gave so many desks before and after a run. Each transcript is that of one of them, and each of them has its transcript, but where the
+-- front failed or memory ran out.
+pub record HasServed (before now status : ℕ) (ts : List Transcript) : Type 0 where
+  pub within : before + length ts ≤ now
+  pub each : status ≢ 3 → status ≢ 4 → before + length ts ≡ now

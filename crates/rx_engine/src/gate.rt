@@ -1,23 +1,26 @@
 //! The front of a run of sessions in threads, which stands behind a lock, and why no more of its desks
 //! are asked for.
 
-ghost use Rattle.std.specs.Prelude.{◌≡◌, ◌⊎◌, ◌<◌, List, None, Some, length};
-ghost use Rattle.rx_engine.specs.declared.transcripts.Transcript.{Transcript};
-ghost use Rattle.rx_engine.specs.Proxy.{IsStop, most_desks};
+ghost use Rattle.std.specs.Prelude.{◌≡◌, ◌<◌, MatchOption};
+ghost use Rattle.rx_engine.specs.Accounts.{one_taken};
+ghost use Rattle.rx_engine.specs.Gates.{IsGate};
 
+use crate::accounts::Account;
 use crate::closing::Closing;
 use crate::desk::Front;
-use crate::kept::Run;
 use crate::proxy::Stop;
+use crate::runs::{Run, Taken};
 use rx_world::World;
 use std::marker::{Model, PhantomData};
+use std::sync::ledger::Book;
 
-/// A front, and why it isn't asked any more.
+/// A front, why it isn't asked any more, and how many desks were taken from it.
 #[derive(Drop)]
 pub(crate) struct Gate<W: World, F: Front<W> + Drop, K: Run> {
     front: F,
     stop: Option<Stop>,
-    of: PhantomData<(W, K)>,
+    taken: Book<Taken<K>>,
+    world: PhantomData<W>,
 }
 
 impl<W: World, F: Front<W> + Drop, K: Run> Model for Gate<W, F, K> {
@@ -25,25 +28,33 @@ impl<W: World, F: Front<W> + Drop, K: Run> Model for Gate<W, F, K> {
 
     ghost Value = { Entrance F };
 
-    ghost view = { λ g. record { front = g.front; stop = g.stop } };
+    ghost view = { λ g. record { front = g.front; stop = g.stop; taken = g.taken.total } };
 
-    ghost invariant = { λ g. IsGate F.faults K.faults (record { front = g.front; stop = g.stop }) };
+    ghost invariant = { λ g. IsGate F.faults F.given F.over K.faults K.given
+        (record { front = g.front; stop = g.stop; taken = g.taken.total }) };
 }
 
 impl<W: World, F: Front<W> + Drop, K: Run> Gate<W, F, K> {
     /// A front that wasn't asked yet.
-    pub(crate) fn new(front: F) -> Gate<W, F, K>
-        requires { F.faults front ≡ K.faults }
+    pub(crate) fn new(front: F, taken: Book<Taken<K>>) -> Gate<W, F, K>
+        requires faults { F.faults front ≡ K.faults }
+        requires given { F.given front ≡ K.given }
+        requires taken { taken.total ≡ 0 }
     {
         Gate {
             front,
             stop: None,
-            of: PhantomData,
+            taken,
+            world: PhantomData,
         }
     }
 
-    /// The next desk, unless no more are asked for.
-    pub(crate) fn next(&mut self, closing: Closing) -> Option<F::D> {
+    /// The next desk, unless no more are asked for. It counts as taken by the account.
+    pub(crate) fn next(&mut self, closing: Closing, account: &mut Account<K>) -> Option<F::D>
+        requires { 0 < account.old.parts }
+        ensures { MatchOption result (account.new ≡ account.old)
+            (λ desk. account.new ≡ one_taken account.old) }
+    {
         if self.stop.is_some() {
             return None;
         }
@@ -52,7 +63,10 @@ impl<W: World, F: Front<W> + Drop, K: Run> Gate<W, F, K> {
             return None;
         }
         match self.front.next() {
-            Ok(Some(desk)) => Some(desk),
+            Ok(Some(desk)) => {
+                account.take(&mut self.taken);
+                Some(desk)
+            }
             Ok(None) => {
                 self.stop = Some(Stop::Ended);
                 None
@@ -64,24 +78,24 @@ impl<W: World, F: Front<W> + Drop, K: Run> Gate<W, F, K> {
         }
     }
 
-    /// The front, and why no more desks were asked for. Which session asked for the end isn't told.
-    pub(crate) fn into_parts(self, closing: Closing) -> (F, Stop)
-        ensures { (transcripts : List Transcript) → length transcripts < most_desks →
-            IsStop {D = Unit {0}} None None K.faults (F.faults result.0) transcripts result.1
-            ⊎ (result.1 ≡ Stop.ShutDown) }
+    /// The front, and why it wasn't asked any more, with all accounts of the run.
+    pub(crate) fn into_parts(self, account: &mut Account<K>) -> (F, Option<Stop>)
+        requires { account.old.parts ≡ K.pieces }
+        ensures account { account.new ≡ account.old }
+        ensures gate { IsGate F.faults F.given F.over K.faults K.given (record {
+          front = result.0;
+          stop = result.1;
+          taken = account.old.taken;
+        }) }
     {
-        let Gate { front, stop, of: _ } = self;
-        (front, first_told(stop, closing))
-    }
-}
-
-/// What is told of why no more desks were asked for.
-fn first_told(stop: Option<Stop>, closing: Closing) -> Stop
-    ensures { (result ≡ Stop.NoMemory) ⊎ (stop ≡ Some result) }
-{
-    match (stop, closing) {
-        (Some(Stop::FrontLost), _) => Stop::FrontLost,
-        (_, Closing::NoMemory) | (None, _) => Stop::NoMemory,
-        (Some(stop), _) => stop,
+        let Gate {
+            front,
+            stop,
+            taken,
+            world: _,
+        } = self;
+        let mut taken = taken;
+        account.all_taken(&mut taken);
+        (front, stop)
     }
 }

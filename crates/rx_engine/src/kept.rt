@@ -1,24 +1,28 @@
 //! What a run of sessions in threads keeps of them, which stands behind a lock: the board, and of each
 //! session that ended its transcript and its desk, in the order in which they published.
 
-ghost use Rattle.std.specs.Prelude.{◌≡◌, ◌<◌, ◌≤◌, [], ℕ, IsTrue, List, Option, None, length, vec_capacity};
+ghost use Rattle.std.specs.Prelude.{◌≡◌, ◌<◌, ◌≤◌, IsTrue, List, false, length, vec_capacity};
 ghost use Rattle.rx_board.specs.Journal.{HoldsLast, IsKeptBy, count_short};
 ghost use Rattle.rx_world.specs.declared.outcomes.FileOut.{FileOut};
+ghost use Rattle.rx_engine.specs.Accounts.{one_concluded};
 ghost use Rattle.rx_engine.specs.CoreRuns.{IsCoreRun, rules_of};
 ghost use Rattle.rx_engine.specs.Kept.{IsPendingFor};
 ghost use Rattle.rx_engine.specs.Meanings.{meanings};
-ghost use Rattle.rx_engine.specs.Proxy.{IsLegal, most_desks};
+ghost use Rattle.rx_engine.specs.Proxy.{IsLegal};
 ghost use Rattle.rx_engine.specs.Serves.{RunsDone};
 
+use crate::accounts::Account;
 use crate::concluding::conclude;
 use crate::desk::{Desk, Log, Parts};
 use crate::pending::Pending;
+use crate::runs::{Concluded, Run};
 use crate::transcripts::Transcript;
 use rx_board::{Board, Entry, JOURNAL_LIMIT};
 use rx_exec_messages::Caller;
 use rx_world::{Bench, BenchMaker, Place, Sink, Source, Sources, World};
 use std::alloc::Global;
-use std::marker::{Brand, Model, PhantomData};
+use std::marker::{Model, PhantomData};
+use std::sync::ledger::Book;
 
 /// How many sessions a run may have: each has a number of 32 bits, and one of these is left.
 const MOST_SESSIONS: usize = 4_294_967_294;
@@ -32,34 +36,16 @@ fn has_room<T, U>(first: &mut Vec<T>, second: &mut Vec<U>) -> bool
     first.reserve(1).is_ok() && second.reserve(1).is_ok()
 }
 
-/// Which run it is: its root, what the place held and how often the front had failed as it began, as
-/// one type. The type is picked at a call, by `Brand`, from values that are known only then.
-pub(crate) trait Run {
-    /// The served root.
-    ghost root: { List ℕ };
-
-    /// What the place held at first, where it tells that.
-    ghost opening: { Option (List FileOut) };
-
-    /// How often the front had failed.
-    ghost faults: { ℕ };
-}
-
-impl Run for Brand {
-    ghost root = { [] };
-
-    ghost opening = { None };
-
-    ghost faults = { 0 };
-}
-
-/// The board, and what the sessions left that have published.
+/// The board, what the sessions left that have published, how many ended, and whether one was given up
+/// for want of memory or of numbers.
 #[derive(Drop)]
 pub(crate) struct Kept<W: World, D: Desk<W> + Drop, P: Place, K: Run> {
     board: Board<P>,
     transcripts: Vec<Transcript>,
     desks: Vec<D>,
-    of: PhantomData<(W, K)>,
+    concluded: Book<Concluded<K>>,
+    given_up: bool,
+    world: PhantomData<W>,
 }
 
 impl<W: World, D: Desk<W> + Drop, P: Place, K: Run> Model for Kept<W, D, P, K> {
@@ -73,18 +59,26 @@ impl<W: World, D: Desk<W> + Drop, P: Place, K: Run> Model for Kept<W, D, P, K> {
       board = k.board;
       transcripts = k.transcripts.items;
       desks = k.desks.items;
+      concluded = k.concluded.total;
+      given_up = k.given_up;
     } };
 
     ghost invariant = { λ k. IsKept
         (meanings W.World D.I.Source D.O.Sink D.T.Sources D.L.Sources D.B.BenchMaker D.B.B.Bench
         D.R.Sources D.C.Caller)
-        P.Place D.parts K.root K.opening
-        (record { board = k.board; transcripts = k.transcripts.items; desks = k.desks.items }) };
+        P.Place D.parts K.root K.opening (record {
+          board = k.board;
+          transcripts = k.transcripts.items;
+          desks = k.desks.items;
+          concluded = k.concluded.total;
+          given_up = k.given_up;
+        }) };
 }
 
 impl<W: World, D: Desk<W> + Drop, P: Place, K: Run> Kept<W, D, P, K> {
     /// Nothing is kept yet.
-    pub(crate) fn new(alloc: Global, place: P) -> Kept<W, D, P, K>
+    pub(crate) fn new(alloc: Global, place: P, concluded: Book<Concluded<K>>) -> Kept<W, D, P, K>
+        requires concluded { concluded.total ≡ 0 }
         requires contents { P.contents place ≡ P.opening place }
         requires opening { P.opening place ≡ K.opening }
         requires quiet { P.faults place ≡ 0 }
@@ -93,27 +87,34 @@ impl<W: World, D: Desk<W> + Drop, P: Place, K: Run> Kept<W, D, P, K> {
             board: Board::new(alloc, place, JOURNAL_LIMIT),
             transcripts: Vec::new(alloc),
             desks: Vec::new(alloc),
-            of: PhantomData,
+            concluded,
+            given_up: false,
+            world: PhantomData,
         }
     }
 
     /// Publishes and replies for a session that has made its attempts, and keeps what it did. False
-    /// where that can't be kept, for want of memory or of numbers; then nothing is published, and
-    /// nothing is replied.
+    /// where that can't be kept, for want of memory or of numbers; then the session is given up:
+    /// nothing is published, and nothing is replied. It counts as concluded by the account.
     pub(crate) fn conclude<L: Log>(
         &mut self,
         alloc: Global,
         log: &L,
         pending: Pending,
         parts: Parts<D::I, D::O, D::T, D::L, D::B, D::R, D::C>,
+        account: &mut Account<K>,
     ) -> bool
-        requires { IsPendingFor
+        requires pending { IsPendingFor
             (meanings W.World D.I.Source D.O.Sink D.T.Sources D.L.Sources D.B.BenchMaker
             D.B.B.Bench D.R.Sources D.C.Caller)
             D.parts K.root parts pending }
+        requires account { 0 < account.old.parts }
+        ensures { account.new ≡ one_concluded account.old }
     {
+        account.conclude(&mut self.concluded);
         let served = self.transcripts.len();
         if served >= MOST_SESSIONS || !has_room(&mut self.transcripts, &mut self.desks) {
+            self.given_up = true;
             drop(D::unite(parts));
             return false;
         }
@@ -126,9 +127,21 @@ impl<W: World, D: Desk<W> + Drop, P: Place, K: Run> Kept<W, D, P, K> {
         true
     }
 
+    /// Whether a session was given up.
+    pub(crate) fn has_given_up(&self) -> bool
+        ensures { result ≡ self.now.given_up }
+    {
+        self.given_up
+    }
+
     /// The place, the journal, and the transcript and the desk of each session, as if the sessions had
-    /// come one after the other.
-    pub(crate) fn into_parts(self) -> (P, Vec<Entry>, Vec<Transcript>, Vec<D>)
+    /// come one after the other, with all accounts of the run.
+    pub(crate) fn into_parts(
+        self,
+        account: &mut Account<K>,
+    ) -> (P, Vec<Entry>, Vec<Transcript>, Vec<D>)
+        requires { account.old.parts ≡ K.pieces }
+        ensures account { account.new ≡ account.old }
         ensures sessions { RunsDone None None
             (meanings W.World D.I.Source D.O.Sink D.T.Sources D.L.Sources D.B.BenchMaker
             D.B.B.Bench D.R.Sources D.C.Caller)
@@ -142,14 +155,19 @@ impl<W: World, D: Desk<W> + Drop, P: Place, K: Run> Kept<W, D, P, K> {
         ensures place { IsKeptBy K.opening (P.contents result.0) result.1.items }
         ensures last { HoldsLast K.opening (P.contents result.0) result.1.items }
         ensures short { count_short result.1.items ≤ P.faults result.0 }
-        ensures few { length result.2.items < most_desks }
+        ensures within { length result.2.items ≤ account.old.concluded }
+        ensures each { self.given_up ≡ false → length result.2.items ≡ account.old.concluded }
     {
         let Kept {
             board,
             transcripts,
             desks,
-            of: _,
+            concluded,
+            given_up: _,
+            world: _,
         } = self;
+        let mut concluded = concluded;
+        account.all_concluded(&mut concluded);
         let (place, journal) = board.into_parts();
         (place, journal, transcripts, desks)
     }

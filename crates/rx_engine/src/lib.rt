@@ -2,6 +2,7 @@
 //! reply out.
 #![tactic(auto)]
 
+mod accounts;
 mod addresses;
 mod answered;
 mod answers;
@@ -22,6 +23,7 @@ mod plans;
 mod proxy;
 mod publishing;
 mod racing;
+mod runs;
 mod sessions;
 mod there;
 mod threads;

@@ -1,23 +1,27 @@
 //! A run of sessions in threads: each takes a desk from the front, makes its attempts beside the
 //! others, and publishes and replies while no other does.
 
-ghost use Rattle.std.specs.Prelude.{◌≡◌, ◌≤◌, ◌↔◌, ◌+◌, List, [], IfSome, None};
+ghost use Rattle.std.specs.Prelude.{◌≡◌, ◌<◌, ◌≤◌, ◌↔◌, ◌+◌, List, [], IfSome, MatchOption, None};
 ghost use Rattle.rx_board.specs.Journal.{HoldsLast, IsKeptBy, count_short};
+ghost use Rattle.rx_engine.specs.Accounts.{IsEven, one_taken};
 ghost use Rattle.rx_engine.specs.CoreRuns.{IsCoreRun, rules_of};
+ghost use Rattle.rx_engine.specs.Gates.{IsTold};
 ghost use Rattle.rx_engine.specs.Meanings.{meanings};
-ghost use Rattle.rx_engine.specs.Proxy.{HasServingStatus, IsLegal};
+ghost use Rattle.rx_engine.specs.Proxy.{HasServed, HasServingStatus, IsLegal, is_asked_to_end};
 ghost use Rattle.rx_engine.specs.Serves.{RunsDone};
 ghost use Rattle.rx_engine.specs.Words.{root_in};
 ghost use Rattle.rx_world.specs.declared.outcomes.FileOut.{FileOut};
 
+use crate::accounts::{Account, Blanks, open};
 use crate::attempts::Means;
 use crate::closing::Closing;
 use crate::desk::{Desk, Front, Log};
 use crate::gate::Gate;
-use crate::kept::{Kept, Run};
+use crate::kept::Kept;
 use crate::pending::undertake;
-use crate::proxy::{Ran, serving_status};
-use crate::transcripts::asks_to_end;
+use crate::proxy::{Ran, Stop, serving_status};
+use crate::runs::Run;
+use crate::transcripts::{Transcript, asks_to_end};
 use crate::words::{at_once, root_in};
 use rx_blobs::{PRESENCE_LIMIT, Presence};
 use rx_board::JOURNAL_LIMIT;
@@ -28,19 +32,19 @@ use std::alloc::Global;
 use std::marker::Brand;
 use std::sync::ledger::Blank;
 use std::sync::{Mutex, Wait};
-use std::thread::{Threads, map_indices};
+use std::thread::{Threads, join};
 
 /// The served root, as requests name it, and how many sessions and local attempts run at once.
 #[derive(Clone, Copy)]
 struct Root<'a> {
     path: &'a str,
-    sessions: usize,
+    sessions: u16,
     slots: u32,
 }
 
-/// What all sessions of a run share, beside what stands behind the locks of the front and of the board.
+/// What all sessions of a run share, beside the slots for local attempts.
 #[derive(Drop)]
-struct Common<'a, W: World, L> {
+struct Common<'a, W: World, F: Front<W> + Drop, P: Place, K: Run, L> {
     root: Root<'a>,
     /// Digests of the source trees' files.
     cache: &'a DigestCache<W>,
@@ -48,6 +52,8 @@ struct Common<'a, W: World, L> {
     presence: &'a Presence,
     /// Whether more desks are asked for.
     closing: &'a Mutex<Closing>,
+    gate: &'a Mutex<Gate<W, F, K>>,
+    kept: &'a Mutex<Kept<W, F::D, P, K>>,
     log: &'a L,
 }
 
@@ -87,8 +93,12 @@ pub fn run_in_threads<
     ensures last { HoldsLast (P.opening place) (P.contents result.place) result.journal.items }
     // There are at most as many short entries as the place had faults.
     ensures short { count_short result.journal.items ≤ P.faults result.place }
-    // Each status has its cause.
-    ensures status { IfSome (root_in words.now) (λ root. HasServingStatus
+    // Each desk that left the front has its transcript, but where the front failed or memory ran out.
+    ensures served { HasServed (F.given front) (F.given result.front)
+        result.status result.transcripts.items }
+    // Each status has its cause: 0 comes only where the front said that it has no more desks, or where
+    // a session was asked to end the run.
+    ensures status { IfSome (root_in words.now) (λ root. HasServingStatus (F.over result.front)
         (F.faults front) (F.faults result.front)
         result.status result.transcripts.items) }
 {
@@ -103,12 +113,22 @@ pub fn run_in_threads<
         };
     };
     let (sessions, slots) = at_once(words);
-    let root = Root {
-        path: root,
-        sessions,
-        slots,
+    let begin = Begin {
+        root: Root {
+            path: root,
+            sessions,
+            slots,
+        },
+        accounts: Blanks::for_threads(sessions),
     };
-    serve_front::<W, F, P, Brand, L, R>(rt, alloc, root, front, place, log)
+    serve_front::<W, F, P, Brand, L, R>(rt, alloc, begin, front, place, log)
+}
+
+/// A root, and the ledgers of a run below it before it is known which run it is.
+#[derive(Drop)]
+struct Begin<'a> {
+    root: Root<'a>,
+    accounts: Blanks,
 }
 
 /// Serves the desks of a front below a root.
@@ -119,16 +139,23 @@ fn serve_front<
     K: Run + Send + Sync,
     L: Log + Sync,
     R: Threads + Wait + Sync,
->(rt: &R, alloc: Global, root: Root<'_>, front: F, place: P, log: &L) -> Ran<W, F, P>
+>(rt: &R, alloc: Global, begin: Begin<'_>, front: F, place: P, log: &L) -> Ran<W, F, P>
     requires contents { P.contents place ≡ P.opening place }
     requires quiet { P.faults place ≡ 0 }
-    requires root { root.path.now ≡ K.root }
+    requires root { begin.root.path.now ≡ K.root }
     requires opening { P.opening place ≡ K.opening }
     requires faults { F.faults front ≡ K.faults }
+    requires given { F.given front ≡ K.given }
+    requires taken { (begin.accounts.taken.name ≡ K.taken)
+        × (begin.accounts.taken.parts ≡ K.pieces) }
+    requires concluded { (begin.accounts.concluded.name ≡ K.concluded)
+        × (begin.accounts.concluded.parts ≡ K.pieces) }
+    requires pieces { K.pieces ≡ begin.root.sessions + 1 }
     ensures sessions { RunsDone None None
         (meanings W.World F.D.I.Source F.D.O.Sink F.D.T.Sources F.D.L.Sources F.D.B.BenchMaker
-        F.D.B.B.Bench F.D.R.Sources F.D.C.Caller) F.D.parts root.entry.path.now JOURNAL_LIMIT
-        result.journal.items (P.faults result.place) result.desks.items result.transcripts.items }
+        F.D.B.B.Bench F.D.R.Sources F.D.C.Caller) F.D.parts begin.entry.root.path.now
+        JOURNAL_LIMIT result.journal.items (P.faults result.place)
+        result.desks.items result.transcripts.items }
     ensures core { (files : List FileOut) → IsCoreRun (rules_of
         (meanings W.World F.D.I.Source F.D.O.Sink F.D.T.Sources F.D.L.Sources F.D.B.BenchMaker
         F.D.B.B.Bench F.D.R.Sources F.D.C.Caller))
@@ -137,13 +164,18 @@ fn serve_front<
     ensures place { IsKeptBy (P.opening place) (P.contents result.place) result.journal.items }
     ensures last { HoldsLast (P.opening place) (P.contents result.place) result.journal.items }
     ensures short { count_short result.journal.items ≤ P.faults result.place }
-    ensures status { HasServingStatus (F.faults front) (F.faults result.front)
+    ensures served { HasServed (F.given front) (F.given result.front)
+        result.status result.transcripts.items }
+    ensures status { HasServingStatus (F.over result.front)
+        (F.faults front) (F.faults result.front)
         result.status result.transcripts.items }
 {
-    let gate = Mutex::new(Gate::<W, F, K>::new(front));
+    let Begin { root, accounts } = begin;
+    let (taken, concluded, account) = open::<K>(accounts);
+    let gate = Mutex::new(Gate::<W, F, K>::new(front, taken));
     let closing = Mutex::new(Closing::Open);
-    let kept = Mutex::new(Kept::<W, F::D, P, K>::new(alloc, place));
-    match DigestCache::<W>::new(alloc, DIGEST_CACHE_LIMIT) {
+    let kept = Mutex::new(Kept::<W, F::D, P, K>::new(alloc, place, concluded));
+    let mut account = match DigestCache::<W>::new(alloc, DIGEST_CACHE_LIMIT) {
         Ok(cache) => {
             let presence = Presence::new(alloc, PRESENCE_LIMIT);
             let common = Common {
@@ -151,15 +183,20 @@ fn serve_front<
                 cache: &cache,
                 presence: &presence,
                 closing: &closing,
+                gate: &gate,
+                kept: &kept,
                 log,
             };
             let blank = blank_for(root.slots);
-            share_slots::<W, F, P, K, Brand, L, R>(rt, alloc, &common, blank, &gate, &kept);
+            share_slots::<W, F, P, K, Brand, L, R>(rt, alloc, &common, blank, account)
         }
-        Err(_) => {}
-    }
-    let (front, stop) = gate.into_inner().into_parts(closing.into_inner());
-    let (place, journal, transcripts, desks) = kept.into_inner().into_parts();
+        Err(_) => account,
+    };
+    let (front, left) = gate.into_inner().into_parts(&mut account);
+    let kept = kept.into_inner();
+    let given_up = kept.has_given_up();
+    let (place, journal, transcripts, desks) = kept.into_parts(&mut account);
+    let stop = told_stop(left, given_up, any_asked(&transcripts));
     Ran {
         status: serving_status(stop),
         front,
@@ -167,6 +204,26 @@ fn serve_front<
         journal,
         transcripts,
         desks,
+    }
+}
+
+/// Whether a session was asked to end the run.
+fn any_asked(transcripts: &[Transcript]) -> bool
+    ensures { result ≡ is_asked_to_end transcripts.now }
+{
+    transcripts.iter().any(|t| asks_to_end(t.read.as_slice()))
+}
+
+/// What is told of why a run ended.
+fn told_stop(left: Option<Stop>, given_up: bool, asked: bool) -> Stop
+    ensures { IsTold left given_up asked result }
+{
+    match left {
+        Some(Stop::FrontLost) => Stop::FrontLost,
+        _ if given_up => Stop::NoMemory,
+        _ if asked => Stop::ShutDown,
+        Some(Stop::Ended) => Stop::Ended,
+        _ => Stop::NoMemory,
     }
 }
 
@@ -182,21 +239,26 @@ fn share_slots<
 >(
     rt: &R,
     alloc: Global,
-    common: &Common<'_, W, L>,
+    common: &Common<'_, W, F, P, K, L>,
     blank: Blank,
-    gate: &Mutex<Gate<W, F, K>>,
-    kept: &Mutex<Kept<W, F::D, P, K>>,
-)
+    account: Account<K>,
+) -> Account<K>
     requires root { common.now.root.path.now ≡ K.root }
     requires name { blank.name ≡ N.name }
     requires parts { (blank.parts ≡ N.parts) × (N.parts ≡ N.most + 1) }
     requires slots { common.now.root.slots ≡ N.most }
+    requires account { common.now.root.sessions < account.parts }
+    requires even { IsEven account }
+    ensures parts { result.parts ≡ account.parts }
+    ensures even { IsEven result }
 {
     let slots = Slots::<N>::new(common.root.slots, blank);
-    work_all::<W, F, P, K, N, L, R>(rt, alloc, common, &slots, gate, kept);
+    work_all::<W, F, P, K, N, L, R>(rt, alloc, common, &slots, common.root.sessions, account)
 }
 
-/// Has so many threads work until there are no more desks.
+/// Has so many threads work until there are no more desks. They are halved at each step, and one half
+/// goes to a thread of its own, which halves it further.
+#[cycle(workers)]
 fn work_all<
     W: World + Send,
     F: Front<W> + Send + Drop,
@@ -208,19 +270,37 @@ fn work_all<
 >(
     rt: &R,
     alloc: Global,
-    common: &Common<'_, W, L>,
+    common: &Common<'_, W, F, P, K, L>,
     slots: &Slots<N>,
-    gate: &Mutex<Gate<W, F, K>>,
-    kept: &Mutex<Kept<W, F::D, P, K>>,
-)
-    requires { common.now.root.path.now ≡ K.root }
+    threads: u16,
+    account: Account<K>,
+) -> Account<K>
+    requires root { common.now.root.path.now ≡ K.root }
+    requires threads { threads ≤ account.parts }
+    requires account { 0 < account.parts }
+    requires even { IsEven account }
+    ensures parts { result.parts ≡ account.parts }
+    ensures even { IsEven result }
 {
-    let worker = |_thread: usize| -> ()
-        requires { common.now.root.path.now ≡ K.root }
-    { work::<W, F, P, K, N, L, R>(rt, alloc, common, slots, gate, kept) };
-    if map_indices(rt, alloc, common.root.sessions, &worker).is_err() {
-        common.closing.lock(rt).give_up();
+    if threads < 2 {
+        return work::<W, F, P, K, N, L, R>(rt, alloc, common, slots, account);
     }
+    let low = threads / 2;
+    let high = threads - low;
+    let mut rest = account;
+    let given = rest.split(u64::from(low));
+    let front = move || -> Account<K>
+        requires root { common.now.root.path.now ≡ K.root }
+        requires account { (low ≤ given.parts) × (0 < low) × IsEven given }
+        ensures { (result.parts ≡ given.parts) × IsEven result }
+    { work_all::<W, F, P, K, N, L, R>(rt, alloc, common, slots, low, given) };
+    let back = move || -> Account<K>
+        requires root { common.now.root.path.now ≡ K.root }
+        requires account { (high ≤ rest.parts) × (0 < high) × IsEven rest }
+        ensures { (result.parts ≡ rest.parts) × IsEven result }
+    { work_all::<W, F, P, K, N, L, R>(rt, alloc, common, slots, high, rest) };
+    let (given, rest) = join(rt, front, back);
+    given.join(rest)
 }
 
 /// The next desk, unless no more are asked for.
@@ -228,10 +308,15 @@ fn next_desk<W: World, F: Front<W> + Drop, K: Run, R: Wait>(
     rt: &R,
     gate: &Mutex<Gate<W, F, K>>,
     closing: &Mutex<Closing>,
-) -> Option<F::D> {
+    account: &mut Account<K>,
+) -> Option<F::D>
+    requires { 0 < account.old.parts }
+    ensures { MatchOption result (account.new ≡ account.old)
+        (λ desk. account.new ≡ one_taken account.old) }
+{
     let mut gate = gate.lock(rt);
     let now = *closing.lock(rt);
-    gate.next(now)
+    gate.next(now, account)
 }
 
 /// Serves one desk after the other, until there are no more. Who asks for the end of the run is told
@@ -247,16 +332,20 @@ fn work<
 >(
     rt: &R,
     alloc: Global,
-    common: &Common<'_, W, L>,
+    common: &Common<'_, W, F, P, K, L>,
     slots: &Slots<N>,
-    gate: &Mutex<Gate<W, F, K>>,
-    kept: &Mutex<Kept<W, F::D, P, K>>,
-)
-    requires { common.now.root.path.now ≡ K.root }
+    account: Account<K>,
+) -> Account<K>
+    requires root { common.now.root.path.now ≡ K.root }
+    requires account { 0 < account.parts }
+    requires even { IsEven account }
+    ensures parts { result.parts ≡ account.parts }
+    ensures even { IsEven result }
 {
+    let mut account = account;
     for _ in 0..u32::MAX {
-        let Some(desk) = next_desk(rt, gate, common.closing) else {
-            return;
+        let Some(desk) = next_desk(rt, common.gate, common.closing, &mut account) else {
+            break;
         };
         let halter = desk.halter();
         let means = Means {
@@ -270,8 +359,13 @@ fn work<
         if asks_to_end(pending.read.as_slice()) {
             common.closing.lock(rt).shut_down();
         }
-        if !kept.lock(rt).conclude(alloc, common.log, pending, parts) {
+        let (kept, log) = (common.kept, common.log);
+        if !kept
+            .lock(rt)
+            .conclude(alloc, log, pending, parts, &mut account)
+        {
             common.closing.lock(rt).give_up();
         }
     }
+    account
 }

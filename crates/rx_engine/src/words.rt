@@ -238,9 +238,9 @@ pub(crate) fn root_in(words: &[String]) -> Option<&str>
 }
 
 /// How many sessions and how many local attempts the words of a command line let run at once.
-pub(crate) fn at_once(words: &[String]) -> (usize, u32) {
+pub(crate) fn at_once(words: &[String]) -> (u16, u32) {
     match options_in(words) {
-        Some(options) => (usize::from(options.sessions), u32::from(options.slots)),
+        Some(options) => (options.sessions, u32::from(options.slots)),
         None => (0, 0),
     }
 }

@@ -1,6 +1,7 @@
 //! Where the proxy listens: a Unix socket's file, or a port of this machine.
 
-ghost use Rattle.std.specs.Prelude.{◌≡◌, ◌≤◌, ℕ};
+ghost use Rattle.std.specs.Prelude.{◌≡◌, ◌+◌, ◌≤◌, OnErr, OnOk};
+ghost use Rattle.rx_host.specs.Clients.{Accepts};
 ghost use Rattle.rx_world.specs.Causes.{HasCause, Rose};
 
 use rx_streams::{Faults, Socket, SocketSink, SocketSource, ends_of};
@@ -31,17 +32,19 @@ enum Listening {
     Tcp { listener: TcpListener },
 }
 
-/// Takes the connections of clients. The value that contracts see is how often it failed.
+/// Takes the connections of clients. The value that contracts see is how often it failed, and how many
+/// clients it took.
 #[derive(Debug, Drop)]
 pub struct HostListener {
     listening: Listening,
     faults: Faults,
+    accepted: u64,
 }
 
 impl Model for HostListener {
-    ghost Value = { ℕ };
+    ghost Value = { Accepts };
 
-    ghost view = { λ l. l.faults.count };
+    ghost view = { λ l. record { faults = l.faults.count; accepted = l.accepted } };
 }
 
 impl HostListener {
@@ -64,15 +67,25 @@ impl HostListener {
         Ok(HostListener {
             listening,
             faults: Faults::new(),
+            accepted: 0,
         })
     }
 
-    /// Waits for the next client. A connection that ends before it is taken is left out.
+    /// Waits for the next client. A connection that ends before it is taken is left out. It fails where
+    /// the socket does, or where more clients came than 64 bits count.
     pub fn accept(&mut self, rt: &impl Eprint) -> Result<(SocketSource, SocketSink), Failed>
-        ensures { HasCause self.old self.new result }
+        ensures cause { HasCause self.old.faults self.new.faults result }
+        ensures counted { OnOk result (self.new.accepted ≡ self.old.accepted + 1) }
+        ensures kept { OnErr result (self.new.accepted ≡ self.old.accepted) }
     {
+        if self.accepted == u64::MAX {
+            return Err(self.fail());
+        }
         match accept_any(&self.listening) {
-            Ok(ends) => Ok(ends),
+            Ok(ends) => {
+                self.accepted += 1;
+                Ok(ends)
+            }
             Err(error) => {
                 let _ = eprintln!(rt; "reproxy: no more clients: {error}");
                 Err(self.faults.failed(error))
@@ -82,8 +95,9 @@ impl HostListener {
 
     /// Counts a fault of what a client was to be served with.
     pub fn fail(&mut self) -> Failed
-        ensures later { self.old ≤ self.new }
-        ensures rose { Rose self.old self.new }
+        ensures later { self.old.faults ≤ self.new.faults }
+        ensures rose { Rose self.old.faults self.new.faults }
+        ensures kept { self.new.accepted ≡ self.old.accepted }
     {
         self.faults.raise();
         Failed
