@@ -99,9 +99,9 @@ fn slip_word(slip: Slip) -> &'static str {
         Slip::Unused => "unused",
         Slip::Refused => "refused",
         Slip::Live => "live",
-        Slip::Stopped => "stopped",
+        Slip::Stopped(_) => "stopped",
         Slip::Told(Verdict::Won) => "won",
-        Slip::Told(Verdict::Late) => "late",
+        Slip::Told(Verdict::Late) | Slip::Yielded(_) => "late",
         Slip::Told(Verdict::Noted) => "noted",
     }
 }

@@ -6,13 +6,14 @@ use Rattle.rx_core.specs.Remote.{Job, Rules}
 use Rattle.rx_core.specs.States.{State}
 use Rattle.rx_core.specs.ToldRaces.{FitsTold, HeardOf, LeavesEnd, ToldEnd, has_come_late, has_won, is_late, is_won, noted_progress, progress_of, seen_by, while_open}
 use Rattle.rx_core.proofs.Cases.{false-true}
-use Rattle.rx_core.proofs.OpenRaces.{decided_heard, heard_decided, heard_open, left-local, left-remote, offer-late, offer-local, offer-remote, offer-won, open_decision, open_heard, racing, stays-open}
+use Rattle.rx_core.proofs.OpenRaces.{decided_heard, heard_decided, heard_open, left-local, left-remote, offer-local, offer-remote, offer-won, open_decision, open_heard, racing, stays-open}
 use Rattle.rx_core.proofs.Reaching.{Reaches, cancelled}
 use Rattle.rx_race.specs.declared.events.Verdict.{Verdict}
 use Rattle.rx_race.specs.declared.events.Verdict.TheVariants.{Late, Noted, Won}
 use Rattle.rx_race.specs.declared.standing.Phase.TheVariants as phases
 use Rattle.rx_race.specs.Publishing.{may_publish}
 use Rattle.rx_race.specs.Standings.{in_plan}
+use Rattle.rx_race.proofs.LockLemmas.{settled-late}
 use Rattle.rx_world.specs.declared.attempts.Attempt.TheVariants.{Local, Remote}
 use Rattle.rx_world.specs.declared.attempts.Cause.{Cause}
 use Rattle.rx_world.specs.declared.attempts.End.{End}
@@ -103,7 +104,7 @@ module _ {H : Type 0} (rules : Rules H) (base : State H) (n session : ℕ) (job 
   late-local h r end Won made settled may at = at
   late-local h r end Noted made settled may at = at
   late-local h r end Late made settled may at =
-      offer-local rules base n session job plan h r made end Late may (offer-late made (may_publish plan Local end) (settled refl)) at
+      offer-local rules base n session job plan h r made end Late may (settled-late made (may_publish plan Local end) (settled refl)) at
 
   late-remote : (all : List H) (l : Progress Cause) (end : End Outcome RemoteCause) (v : Verdict) (made : Decision)
       → (is_late v ≡ true → IsSettled made) → LeavesEnd rules job (seen_by made v) end all
@@ -111,7 +112,7 @@ module _ {H : Type 0} (rules : Rules H) (base : State H) (n session : ℕ) (job 
   late-remote all l end Won made settled ends at = at
   late-remote all l end Noted made settled ends at = at
   late-remote all l end Late made settled ends at =
-      offer-remote rules base n session job plan all l made end Late ends (offer-late made (may_publish plan Remote end) (settled refl)) at
+      offer-remote rules base n session job plan all l made end Late ends (settled-late made (may_publish plan Remote end) (settled refl)) at
 
   -- the late ones of both
   pub end-local : (h : List H) (r : Progress RemoteCause) (local : Option (ToldEnd Cause)) (made : Decision)

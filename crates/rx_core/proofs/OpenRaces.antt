@@ -21,10 +21,9 @@ use Rattle.rx_world.specs.declared.attempts.End.{End}
 use Rattle.rx_world.specs.declared.attempts.Plan.{Plan}
 use Rattle.rx_world.specs.declared.attempts.Plan.TheVariants.{Both, Fallback, LocalOnly, RemoteOnly}
 use Rattle.rx_world.specs.declared.decisions.Decision.{Decision}
-use Rattle.rx_world.specs.declared.decisions.Decision.TheVariants.{By, Cancelled, Nothing, Undecided}
+use Rattle.rx_world.specs.declared.decisions.Decision.TheVariants.{Nothing, Undecided}
 use Rattle.rx_world.specs.declared.outcomes.Outcome.{Outcome}
 use Rattle.rx_world.specs.declared.remote_causes.RemoteCause.{RemoteCause}
-use Rattle.rx_world.specs.Decisions.{IsSettled}
 
 -- ---- plans
 
@@ -93,12 +92,6 @@ offer-won may e = ap (λ b. if b then Won else Noted) e
 
 offer-noted : (may : Bool) → may ≡ false → offer_verdict Undecided may ≡ Noted
 offer-noted may e = ap (λ b. if b then Won else Noted) e
-
-pub offer-late : (made : Decision) (may : Bool) → IsSettled made → offer_verdict made may ≡ Late
-offer-late (By x) may settled = refl
-offer-late Cancelled may settled = refl
-offer-late Undecided may settled = absurd settled
-offer-late Nothing may settled = absurd settled
 
 -- ---- the action of a race
 

@@ -1,4 +1,4 @@
--- The ends of the attempts of a session, as the core may have them: what the remote one heard, and which decision stopped one.
+-- The ends of the attempts of a session, as the core may have them: what the remote one heard, and that its race's decision stopped one.
 use Rattle.std.proofs.Common.{◌≡◌, ℕ, Bool, List, [], ◌∷◌, Option, None, Some, ap, refl, subst, sym, ◌∙◌}
 use Rattle.std.specs.Prelude.{Err, IfOk, IfSome}
 use Rattle.std.proofs.Common.{inl, inr}
@@ -6,11 +6,9 @@ use Rattle.rx_base.specs.declared.digests.Digest.{Digest}
 use Rattle.rx_core.specs.Attempts.{MayEnd, Stops, local_stop, remote_stop}
 use Rattle.rx_core.specs.FarmHistories.{farm_rules}
 use Rattle.rx_core.specs.Remote.{Job}
-use Rattle.rx_core.specs.ToldRaces.{LeavesEnd, LeavesOpen, seen_by}
+use Rattle.rx_core.specs.ToldRaces.{LeavesEnd, LeavesOpen}
 use Rattle.rx_exec_messages.specs.declared.callers.Caller as callers
 use Rattle.rx_local.specs.Local.{HasTold}
-use Rattle.rx_race.specs.declared.events.Verdict.{Verdict}
-use Rattle.rx_race.specs.declared.events.Verdict.TheVariants.{Late}
 use Rattle.rx_remote.specs.declared.asks.Ask.{Ask}
 use Rattle.rx_remote.specs.declared.asks.Ask.TheVariants.{Capabilities, End as Ends, Execute, Fetch, GetResult, NextOperation, Upload, Wait}
 use Rattle.rx_remote.specs.declared.asks.Heard.{Heard}
@@ -38,10 +36,8 @@ use Rattle.rx_world.specs.declared.remote_causes.RemoteCause.TheVariants as remo
 use Rattle.rx_world.specs.declared.sources.Sources as sources
 use Rattle.rx_world.specs.declared.trees.Tree.{Tree}
 use Rattle.rx_world.specs.declared.world.World as world
-use Rattle.rx_world.specs.Decisions.{IsSettled}
 use Rattle.rx_world.specs.Outcomes.{IsProper}
 use Rattle.rx_engine.specs.Attempts.{result_of}
-use Rattle.rx_engine.specs.CoreRuns.{end_by, remote_stop_at, stop_at}
 use Rattle.rx_engine.specs.RemoteAttempts.{EndsThere, HasRunThere, work_on}
 
 -- ---- what a history leaves
@@ -91,7 +87,7 @@ unstopped task marks phase (Fetched texts) e = refl
 unstopped task marks phase (Fault fault) e = refl
 unstopped task marks phase (Blobs fault) e = refl
 
-if-none : (found : Option Decision) (P : Decision → Type 0) → found ≡ None → IfSome found P
+pub if-none : (found : Option Decision) (P : Decision → Type 0) → found ≡ None → IfSome found P
 if-none found P e = rw e tt
 
 module _ (blob : Digest → List ℕ) (tool : Command → Tree → Outcome) (job : Job) where
@@ -122,9 +118,9 @@ module _ (blob : Digest → List ℕ) (tool : Command → Tree → Outcome) (job
   )
 
   -- an attempt that hears of a decision at once
-  stopped-at-once : (made : Decision) → IsSettled made
-      → LeavesEnd (farm_rules blob tool) job made (Failed (remote_causes.Stopped made)) (record { ask = Capabilities; heard = Stopped made } ∷ [])
-  stopped-at-once made settled = (record { asked = refl; answers = λ h. cc }, (refl, settled), refl, tt)
+  stopped-at-once : (made decision : Decision) → Stops made decision
+      → LeavesEnd (farm_rules blob tool) job made (Failed (remote_causes.Stopped decision)) (record { ask = Capabilities; heard = Stopped decision } ∷ [])
+  stopped-at-once made decision stops = (record { asked = refl; answers = λ h. cc }, stops, refl, tt)
 
   -- and one for which there is no memory
   starved-at-once : (made : Decision)
@@ -132,22 +128,7 @@ module _ (blob : Digest → List ℕ) (tool : Command → Tree → Outcome) (job
   unfolding after_fault
   starved-at-once made = (record { asked = refl; answers = tt }, tt, refl, tt)
 
--- ---- which decision stopped it
-
-same-cause : (made : Decision) (cause : RemoteCause) → remote_stop cause ≡ None → remote_stop_at made cause ≡ cause
-same-cause made (remote_causes.Stopped decision) e = let never : Some decision ≡ None = e in cc
-same-cause made (remote_causes.CallFailed faults) e = refl
-same-cause made (remote_causes.BadBlob expected got) e = refl
-same-cause made (remote_causes.BadResult fault) e = refl
-same-cause made remote_causes.OperationsSpent e = refl
-same-cause made (remote_causes.InputChanged input) e = refl
-same-cause made (remote_causes.WrongVersion low high) e = refl
-same-cause made (remote_causes.SourceFault path) e = refl
-same-cause made remote_causes.NoMemory e = refl
-
-same-end : (made : Decision) (end : End Outcome RemoteCause) → stop_of end ≡ None → end_by (remote_stop_at made) end ≡ end
-same-end made (Done outcome origin) e = refl
-same-end made (Failed cause) e = ap Failed (same-cause made cause e)
+-- ---- stops
 
 stopped-cause : (cause : RemoteCause) (decision : Decision) → remote_stop cause ≡ Some decision → cause ≡ remote_causes.Stopped decision
 stopped-cause (remote_causes.Stopped made) decision e = let same : made ≡ decision = cc in ap remote_causes.Stopped same
@@ -164,33 +145,23 @@ stopped-end : (end : End Outcome RemoteCause) (decision : Decision) → stop_of 
 stopped-end (Done outcome origin) decision e = cc
 stopped-end (Failed cause) decision e = ap Failed (stopped-cause cause decision e)
 
--- a decision that was told makes the offer late, and is settled
-seen-late : (made : Decision) (told : Option Decision) (verdict : Verdict) (decision : Decision) → told ≡ Some decision
-    → IfSome told (λ seen. verdict ≡ Late) → (verdict ≡ Late → IsSettled made) → Stops (seen_by made verdict) made
-seen-late made told verdict decision is late settled =
-    let came : verdict ≡ Late = subst (λ found. IfSome found (λ seen. verdict ≡ Late)) is late in
-    subst (λ v. Stops (seen_by made v) made) (sym came) (refl, settled came)
-
 -- ---- local ends
 
-local-cause : (command : Command) (made : Decision) (told : Option Decision) (verdict : Verdict) (cause : Cause) → HasTold None told (Err cause)
-    → IfSome told (λ seen. verdict ≡ Late) → (verdict ≡ Late → IsSettled made)
-    → MayEnd local_stop command (seen_by made verdict) (Failed (stop_at made cause))
-local-cause command made told verdict (causes.Stopped decision) is late settled = seen-late made told verdict decision is.1 late settled
-local-cause command made told verdict (causes.BenchFault step) is late settled = tt
-local-cause command made told verdict (causes.OutputMissing path) is late settled = tt
-local-cause command made told verdict (causes.InputChanged input) is late settled = tt
-local-cause command made told verdict (causes.OutputTooLarge limit n) is late settled = tt
-local-cause command made told verdict (causes.SourceFault path) is late settled = tt
-local-cause command made told verdict causes.NoMemory is late settled = tt
+local-cause : (command : Command) (made : Decision) (told : Option Decision) (cause : Cause) → HasTold None told (Err cause) → IfSome told (Stops made)
+    → MayEnd local_stop command made (Failed cause)
+local-cause command made told (causes.Stopped decision) is stops = subst (λ found. IfSome found (Stops made)) is.1 stops
+local-cause command made told (causes.BenchFault step) is stops = tt
+local-cause command made told (causes.OutputMissing path) is stops = tt
+local-cause command made told (causes.InputChanged input) is stops = tt
+local-cause command made told (causes.OutputTooLarge limit n) is stops = tt
+local-cause command made told (causes.SourceFault path) is stops = tt
+local-cause command made told causes.NoMemory is stops = tt
 
 -- a local attempt may end so in the core
-pub local-may-end : (command : Command) (made : Decision) (told : Option Decision) (verdict : Verdict) (end : End Outcome Cause)
-    → IfOk (result_of end) (IsProper command) → HasTold None told (result_of end)
-    → IfSome told (λ seen. verdict ≡ Late) → (verdict ≡ Late → IsSettled made)
-    → MayEnd local_stop command (seen_by made verdict) (end_by (stop_at made) end)
-local-may-end command made told verdict (Done outcome origin) proper is late settled = proper
-local-may-end command made told verdict (Failed cause) proper is late settled = local-cause command made told verdict cause is late settled
+pub local-may-end : (command : Command) (made : Decision) (told : Option Decision) (end : End Outcome Cause) → IfOk (result_of end) (IsProper command)
+    → HasTold None told (result_of end) → IfSome told (Stops made) → MayEnd local_stop command made end
+local-may-end command made told (Done outcome origin) proper is stops = proper
+local-may-end command made told (Failed cause) proper is stops = local-cause command made told cause is stops
 
 -- ---- remote ends
 
@@ -202,19 +173,18 @@ pub record Hears (blob : Digest → List ℕ) (tool : Command → Tree → Outco
   pub leaves : LeavesEnd (farm_rules blob tool) (job_of blobs) made end heard
 
 module _ {C T W : Type 0} (w : world.Ghosts W) (c : callers.Ghosts C W) (s : sources.Ghosts T W) (gathered : Gathered) (accepts : Bool) (tree : Tree)
-    (made : Decision) (told : Option Decision) (verdict : Verdict) (late : IfSome told (λ seen. verdict ≡ Late)) (settled : verdict ≡ Late → IsSettled made)
-    (farm_before farm_after : C) (before after : T) where
+    (made : Decision) (told : Option Decision) (stops : IfSome told (Stops made)) (farm_before farm_after : C) (before after : T) where
   abbrev job_with : List Digest → Job
   job_with blobs = record { command = gathered.command; tree = tree; accept_cached = accepts; blobs = blobs }
 
   abbrev Here : End Outcome RemoteCause → Type 0
-  Here end = Hears w.blob w.tool job_with (seen_by made verdict) end
+  Here end = Hears w.blob w.tool job_with made end
 
   starved : (end : End Outcome RemoteCause) → end ≡ Failed remote_causes.NoMemory → Here end
   starved end is = subst Here (sym is) (record {
     blobs = [];
     heard = record { ask = Capabilities; heard = Fault no_memory } ∷ [];
-    leaves = starved-at-once w.blob w.tool (job_with []) (seen_by made verdict);
+    leaves = starved-at-once w.blob w.tool (job_with []) made;
   })
 
   by-history : (work : Work) (end : End Outcome RemoteCause) → task_of work ≡ record { command = gathered.command; accept_cached = accepts }
@@ -222,7 +192,7 @@ module _ {C T W : Type 0} (w : world.Ghosts W) (c : callers.Ghosts C W) (s : sou
   by-history work end same by none = record {
     blobs = by.stored;
     heard = by.history;
-    leaves = left-end w.blob w.tool (job_with by.stored) (seen_by made verdict) by.history end
+    leaves = left-end w.blob w.tool (job_with by.stored) made by.history end
         (subst (λ task. IsLegal task by.stored by.history) same by.legal)
         (subst (λ task. next_of task by.history ≡ Ends end) same by.leaves) none;
   }
@@ -244,19 +214,21 @@ module _ {C T W : Type 0} (w : world.Ghosts W) (c : callers.Ghosts C W) (s : sou
       let tells : StopTellsEnd None told (Failed (remote_causes.Stopped decision)) = subst (StopTellsEnd None told) is run.stopped in tells.1
 
   stopped-hears : (end : End Outcome RemoteCause) (decision : Decision) → EndsThere w c s gathered accepts told farm_before farm_after before after end
-      → end ≡ Failed (remote_causes.Stopped decision) → Here (end_by (remote_stop_at made) end)
+      → end ≡ Failed (remote_causes.Stopped decision) → Here end
   stopped-hears end decision there is =
-      let stops = seen-late made told verdict decision (was-told-of end decision there is) late settled in
-      let now = subst (λ seen. LeavesEnd (farm_rules w.blob w.tool) (job_with []) seen (Failed (remote_causes.Stopped made))
-      (record { ask = Capabilities; heard = Stopped made } ∷ [])) stops.0 (stopped-at-once w.blob w.tool (job_with []) made stops.1) in
-      subst Here (ap (end_by (remote_stop_at made)) (sym is)) (record { blobs = []; heard = record { ask = Capabilities; heard = Stopped made } ∷ []; leaves = now })
+      let stop : Stops made decision = subst (λ found. IfSome found (Stops made)) (was-told-of end decision there is) stops in
+      subst Here (sym is) (record {
+        blobs = [];
+        heard = record { ask = Capabilities; heard = Stopped decision } ∷ [];
+        leaves = stopped-at-once w.blob w.tool (job_with []) made decision stop;
+      })
 
   hears-by : (end : End Outcome RemoteCause) (stop : Option Decision) → stop_of end ≡ stop
-      → EndsThere w c s gathered accepts told farm_before farm_after before after end → Here (end_by (remote_stop_at made) end)
-  hears-by end None is there = subst Here (sym (same-end made end is)) (unstopped-hears end there is)
+      → EndsThere w c s gathered accepts told farm_before farm_after before after end → Here end
+  hears-by end None is there = unstopped-hears end there is
   hears-by end (Some decision) is there = stopped-hears end decision there (stopped-end end decision is)
 
   -- what a remote attempt may have heard in the core, that ended so
   pub hears : (end : End Outcome RemoteCause) → EndsThere w c s gathered accepts told farm_before farm_after before after end
-      → Here (end_by (remote_stop_at made) end)
+      → Here end
   hears end there = hears-by end (stop_of end) refl there

@@ -1,16 +1,16 @@
 -- The race of a session's attempts, as its passes were told, is one that the core may have.
 use Rattle.std.proofs.Common.{◌≡◌, ◌∙◌, ◌&&◌, ◌||◌, true, false, Option, None, Some, ap, refl, subst, sym}
-use Rattle.std.proofs.lemmas.Bool.{and_parts, false_from_ne_true, or_from, or_left, or_parts, or_right}
+use Rattle.std.proofs.lemmas.Bool.{and_from, and_parts, false_from_ne_true, or_from, or_left, or_parts, or_right}
 use Rattle.std.specs.Prelude.{is_some, not}
-use Rattle.rx_core.specs.Attempts.{phase_in}
-use Rattle.rx_core.specs.ToldRaces.{ToldRace, are_all_noted, has_come_late, has_won, noted_progress, progress_of}
+use Rattle.rx_core.specs.Attempts.{Stops, phase_in}
+use Rattle.rx_core.specs.ToldRaces.{ToldRace, are_all_noted, decided_by, has_come_late, has_won, noted_progress, progress_of}
 use Rattle.rx_core.proofs.Cases.{false-true}
 use Rattle.rx_race.specs.declared.events.Verdict.TheVariants.{Late, Noted, Won}
 use Rattle.rx_race.specs.declared.slips.Seat.TheVariants.{Canceller, Of}
 use Rattle.rx_race.specs.declared.slips.Slip.{Slip}
-use Rattle.rx_race.specs.declared.slips.Slip.TheVariants.{Live, Refused, Stopped, Told, Unused}
-use Rattle.rx_race.specs.Locked.{AllNoted, AreTold, IsLook, SomeoneWon, slips_of}
-use Rattle.rx_race.specs.Slips.{slip_at}
+use Rattle.rx_race.specs.declared.slips.Slip.TheVariants.{Live, Refused, Stopped, Told, Unused, Yielded}
+use Rattle.rx_race.specs.Locked.{AllNoted, AreTold, IsDecidedFor, IsLook, SomeoneWon, slips_of}
+use Rattle.rx_race.specs.Slips.{seen_in, slip_at, told_in}
 use Rattle.rx_race.specs.Standings.{in_plan, is_offered, is_turn}
 use Rattle.rx_race.proofs.SoundOffers.{has-offered, offered-if}
 use Rattle.rx_world.specs.declared.attempts.Attempt.{Attempt}
@@ -24,8 +24,8 @@ use Rattle.rx_world.specs.declared.outcomes.Outcome.{Outcome}
 use Rattle.rx_world.specs.declared.remote_causes.RemoteCause.{RemoteCause}
 use Rattle.rx_engine.specs.Plans.{has_remote, is_due_here, is_noted}
 use Rattle.rx_engine.specs.Racing.{FitsEnd, is_cancelled, is_told_won}
-use Rattle.rx_engine.proofs.Cases.{won-slip}
-use Rattle.rx_engine.proofs.CorePasses.{has-turn, is_told_late, late-slip, noted-offered, offered-noted, planned-local, planned-remote, same-late, same-remote, same-won, started-due, told_as}
+use Rattle.rx_engine.proofs.Cases.{late-won, won-slip}
+use Rattle.rx_engine.proofs.CorePasses.{has-turn, late-told, noted-offered, offered-noted, planned-local, planned-remote, same-remote, same-won, started-due, told_as}
 
 -- ---- who won
 
@@ -52,24 +52,42 @@ module _ (plan : Plan) (local remote cancel : Slip) (told : AreTold plan (slips_
   free-remote gone = false_from_ne_true (is_told_won remote) (λ e.
       let same = told.one (Of Remote) Canceller (won-slip remote e) (won-slip cancel gone) in cc)
 
+  pub lost-here : is_told_won remote ≡ true → is_told_won local ≡ false
+  lost-here won = false_from_ne_true (is_told_won local) (λ also.
+      false-true (sym one-attempt ∙ and_from (is_told_won local) (is_told_won remote) also won))
+
   pub free-of-both : is_cancelled cancel ≡ true → is_told_won local || is_told_won remote ≡ false
   free-of-both gone = or_from (is_told_won local) (is_told_won remote) (free-local gone) (free-remote gone)
 
-  after-late-local : local ≡ Told Late → SomeoneWon (slips_of local remote cancel) → is_told_won remote || is_cancelled cancel ≡ true
-  after-late-local late (Of Local, won) = false-true (ap is_told_won (sym late ∙ won))
+  after-late-local : told_in local ≡ Some Late → SomeoneWon (slips_of local remote cancel) → is_told_won remote || is_cancelled cancel ≡ true
+  after-late-local late (Of Local, won) = absurd (late-won local late won)
   after-late-local late (Of Remote, won) = or_left (is_told_won remote) (is_cancelled cancel) (ap is_told_won won)
   after-late-local late (Canceller, won) = or_right (is_told_won remote) (is_cancelled cancel) (ap is_cancelled won)
 
-  pub late-here : is_told_late local ≡ true → is_told_won remote || is_cancelled cancel ≡ true
-  late-here e = let late = late-slip local e in after-late-local late (told.late Local late)
+  pub late-here : told_in local ≡ Some Late → is_told_won remote || is_cancelled cancel ≡ true
+  late-here late = after-late-local late (told.late Local late)
 
-  after-late-remote : remote ≡ Told Late → SomeoneWon (slips_of local remote cancel) → is_told_won local || is_cancelled cancel ≡ true
-  after-late-remote late (Of Remote, won) = false-true (ap is_told_won (sym late ∙ won))
+  after-late-remote : told_in remote ≡ Some Late → SomeoneWon (slips_of local remote cancel) → is_told_won local || is_cancelled cancel ≡ true
+  after-late-remote late (Of Remote, won) = absurd (late-won remote late won)
   after-late-remote late (Of Local, won) = or_left (is_told_won local) (is_cancelled cancel) (ap is_told_won won)
   after-late-remote late (Canceller, won) = or_right (is_told_won local) (is_cancelled cancel) (ap is_cancelled won)
 
-  pub late-there : is_told_late remote ≡ true → is_told_won local || is_cancelled cancel ≡ true
-  late-there e = let late = late-slip remote e in after-late-remote late (told.late Remote late)
+  pub late-there : told_in remote ≡ Some Late → is_told_won local || is_cancelled cancel ≡ true
+  late-there late = after-late-remote late (told.late Remote late)
+
+  -- a decision that an attempt saw is the race's
+  abbrev made : Decision
+  made = decided_by (is_told_won local) (is_told_won remote) (is_cancelled cancel)
+
+  seen-is : (d : Decision) → IsDecidedFor d (slips_of local remote cancel) → Stops made d
+  seen-is d (Of Local, won, is) = rw (ap is_told_won won, is) (refl, tt)
+  seen-is d (Of Remote, won, is) =
+      let also : is_told_won remote ≡ true = ap is_told_won won in rw (lost-here also, also, is) (refl, tt)
+  seen-is d (Canceller, won, is) =
+      let gone : is_cancelled cancel ≡ true = ap is_cancelled won in rw (free-local gone, free-remote gone, gone, is) (refl, tt)
+
+  pub seen-stops : (x : Attempt) (seen : Decision) → slip_at (Of x) (slips_of local remote cancel) ≡ Yielded seen → Stops made seen
+  seen-stops x seen at = seen-is seen (told.seen x seen (ap seen_in at))
 
   -- where none won, an attempt that was to start was noted
   due-noted : {C : Type 0} (x : Attempt) (seen : Option Decision) (end : Option (End Outcome C)) (slip : Slip)
@@ -78,11 +96,12 @@ module _ (plan : Plan) (local remote cancel : Slip) (told : AreTold plan (slips_
       absurd (not-won none (told.look x (subst IsLook (sym (at ∙ fits.0)) tt)))
   due-noted x seen (Some end) (Told Noted) at none lost fits = refl
   due-noted x seen (Some end) (Told Won) at none lost fits = false-true (sym lost)
-  due-noted x seen (Some end) (Told Late) at none lost fits = absurd (not-won none (told.late x at))
+  due-noted x seen (Some end) (Told Late) at none lost fits = absurd (not-won none (told.late x (ap told_in at)))
   due-noted x seen (Some end) Unused at none lost fits = absurd fits
   due-noted x seen (Some end) Refused at none lost fits = absurd fits
   due-noted x seen (Some end) Live at none lost fits = absurd fits
-  due-noted x seen (Some end) Stopped at none lost fits = absurd fits
+  due-noted x seen (Some end) (Stopped d) at none lost fits = absurd fits
+  due-noted x seen (Some end) (Yielded d) at none lost fits = absurd (not-won none (told.late x (ap told_in at)))
 
 -- ---- a whole race
 
@@ -93,7 +112,7 @@ due-local RemoteOnly remote planned noted = planned
 due-local Fallback remote planned noted = ap is_noted (noted refl)
 due-local Both remote planned noted = refl
 
-module _ (plan : Plan) (here : Cause → Cause) (there : RemoteCause → RemoteCause) (told_local : Option Decision) (local : Option (End Outcome Cause))
+module _ (plan : Plan) (told_local : Option Decision) (local : Option (End Outcome Cause))
     (told_remote : Option Decision) (remote : Option (End Outcome RemoteCause)) (at_local at_remote cancel : Slip)
     (told : AreTold plan (slips_of at_local at_remote cancel)) (fits_local : FitsEnd plan Local (is_due_here plan at_remote) told_local local at_local)
     (fits_remote : FitsEnd plan Remote (has_remote plan) told_remote remote at_remote) where
@@ -101,16 +120,16 @@ module _ (plan : Plan) (here : Cause → Cause) (there : RemoteCause → RemoteC
   abbrev pub told_race : ToldRace
   told_race = record {
     plan = plan;
-    local = told_as here local at_local;
-    remote = told_as there remote at_remote;
+    local = told_as local at_local;
+    remote = told_as remote at_remote;
     cancelled = is_cancelled cancel;
   }
 
-  pub won-here : has_won (told_as here local at_local) ≡ is_told_won at_local
-  won-here = same-won here plan Local (is_due_here plan at_remote) told_local local at_local fits_local
+  pub won-here : has_won (told_as local at_local) ≡ is_told_won at_local
+  won-here = same-won plan Local (is_due_here plan at_remote) told_local local at_local fits_local
 
-  pub won-there : has_won (told_as there remote at_remote) ≡ is_told_won at_remote
-  won-there = same-won there plan Remote (has_remote plan) told_remote remote at_remote fits_remote
+  pub won-there : has_won (told_as remote at_remote) ≡ is_told_won at_remote
+  won-there = same-won plan Remote (has_remote plan) told_remote remote at_remote fits_remote
 
   abbrev Lost : Type 0
   Lost = NoneWon plan at_local at_remote cancel told
@@ -128,26 +147,26 @@ module _ (plan : Plan) (here : Cause → Cause) (there : RemoteCause → RemoteC
 
   pub all-noted : Lost → are_all_noted told_race ≡ true
   all-noted none =
-      let first : not (in_plan plan Local) || is_offered (phase_in (noted_progress (told_as here local at_local))) ≡ true =
-      offered-if (in_plan plan Local) (is_offered (phase_in (noted_progress (told_as here local at_local))))
-      (λ planned. offered-noted here plan Local (is_due_here plan at_remote) told_local local at_local fits_local (local-noted none planned)) in
-      let second : not (in_plan plan Remote) || is_offered (phase_in (noted_progress (told_as there remote at_remote))) ≡ true =
-      offered-if (in_plan plan Remote) (is_offered (phase_in (noted_progress (told_as there remote at_remote))))
-      (λ planned. offered-noted there plan Remote (has_remote plan) told_remote remote at_remote fits_remote
+      let first : not (in_plan plan Local) || is_offered (phase_in (noted_progress (told_as local at_local))) ≡ true =
+      offered-if (in_plan plan Local) (is_offered (phase_in (noted_progress (told_as local at_local))))
+      (λ planned. offered-noted plan Local (is_due_here plan at_remote) told_local local at_local fits_local (local-noted none planned)) in
+      let second : not (in_plan plan Remote) || is_offered (phase_in (noted_progress (told_as remote at_remote))) ≡ true =
+      offered-if (in_plan plan Remote) (is_offered (phase_in (noted_progress (told_as remote at_remote))))
+      (λ planned. offered-noted plan Remote (has_remote plan) told_remote remote at_remote fits_remote
       (remote-noted none (same-remote plan ∙ planned))) in
       rw (first, second) refl
 
   noted-each : are_all_noted told_race ≡ true → AllNoted plan (slips_of at_local at_remote cancel)
   noted-each all Local planned =
-      let both = and_parts (not (in_plan plan Local) || is_offered (phase_in (noted_progress (told_as here local at_local))))
-      (not (in_plan plan Remote) || is_offered (phase_in (noted_progress (told_as there remote at_remote)))) all in
-      noted-offered here plan Local (is_due_here plan at_remote) told_local local at_local
-      (has-offered (in_plan plan Local) (is_offered (phase_in (noted_progress (told_as here local at_local)))) both.0 planned)
+      let both = and_parts (not (in_plan plan Local) || is_offered (phase_in (noted_progress (told_as local at_local))))
+      (not (in_plan plan Remote) || is_offered (phase_in (noted_progress (told_as remote at_remote)))) all in
+      noted-offered plan Local (is_due_here plan at_remote) told_local local at_local
+      (has-offered (in_plan plan Local) (is_offered (phase_in (noted_progress (told_as local at_local)))) both.0 planned)
   noted-each all Remote planned =
-      let both = and_parts (not (in_plan plan Local) || is_offered (phase_in (noted_progress (told_as here local at_local))))
-      (not (in_plan plan Remote) || is_offered (phase_in (noted_progress (told_as there remote at_remote)))) all in
-      noted-offered there plan Remote (has_remote plan) told_remote remote at_remote
-      (has-offered (in_plan plan Remote) (is_offered (phase_in (noted_progress (told_as there remote at_remote)))) both.1 planned)
+      let both = and_parts (not (in_plan plan Local) || is_offered (phase_in (noted_progress (told_as local at_local))))
+      (not (in_plan plan Remote) || is_offered (phase_in (noted_progress (told_as remote at_remote)))) all in
+      noted-offered plan Remote (has_remote plan) told_remote remote at_remote
+      (has-offered (in_plan plan Remote) (is_offered (phase_in (noted_progress (told_as remote at_remote)))) both.1 planned)
 
   -- a race that was cancelled has an attempt left
   pub some-left : is_cancelled cancel ≡ true → are_all_noted told_race ≡ false
@@ -173,17 +192,15 @@ module _ (plan : Plan) (here : Cause → Cause) (there : RemoteCause → RemoteC
 
   pub is-raced : IsRaced
   is-raced =
-      let due-here = started-due here plan Local (is_due_here plan at_remote) told_local local at_local fits_local in
-      let late-now-here = same-late here plan Local (is_due_here plan at_remote) told_local local at_local fits_local in
-      let late-now-there = same-late there plan Remote (has_remote plan) told_remote remote at_remote fits_remote in
+      let due-here = started-due plan Local (is_due_here plan at_remote) told_local local at_local fits_local in
       record {
         planned_local = λ some. planned-local plan at_remote (due-here some);
-        planned_remote = λ some. planned-remote plan (started-due there plan Remote (has_remote plan) told_remote remote at_remote fits_remote some);
-        turn = λ some. has-turn plan told_remote there remote at_remote fits_remote (due-here some);
+        planned_remote = λ some. planned-remote plan (started-due plan Remote (has_remote plan) told_remote remote at_remote fits_remote some);
+        turn = λ some. has-turn plan told_remote remote at_remote fits_remote (due-here some);
         one = rw (won-here, won-there) (one-attempt plan at_local at_remote cancel told);
         free = λ gone. rw (won-here, won-there) (free-of-both plan at_local at_remote cancel told gone);
-        late_local = λ late. rw won-there (late-here plan at_local at_remote cancel told (sym late-now-here ∙ late));
-        late_remote = λ late. rw won-here (late-there plan at_local at_remote cancel told (sym late-now-there ∙ late));
+        late_local = λ late. rw won-there (late-here plan at_local at_remote cancel told (late-told local at_local late));
+        late_remote = λ late. rw won-here (late-there plan at_local at_remote cancel told (late-told remote at_remote late));
         nothing = λ none. all-noted (lost-by (rw (won-here, won-there) at none));
         left = some-left;
       }

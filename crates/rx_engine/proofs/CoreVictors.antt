@@ -1,7 +1,7 @@
 -- Whose outcome a session publishes, and whose the core has as the one that won: they are one.
 use Rattle.std.proofs.Common.{◌≡◌, ◌∙◌, ◌||◌, Bool, true, false, Option, None, Some, ap, refl, subst, sym}
 use Rattle.std.specs.Prelude.{if◌then◌else◌}
-use Rattle.std.proofs.lemmas.Bool.{and_from, false_from_ne_true}
+use Rattle.std.proofs.lemmas.Bool.{false_from_ne_true}
 use Rattle.rx_core.specs.Actions.{winner_of}
 use Rattle.rx_core.specs.Attempts.{Finished, finished_in}
 use Rattle.rx_core.specs.ToldRaces.{decided_by, progress_of}
@@ -9,9 +9,10 @@ use Rattle.rx_core.proofs.Cases.{false-true, none-some, some-is, some-none}
 use Rattle.rx_race.specs.declared.events.Verdict.TheVariants.{Late, Noted, Won}
 use Rattle.rx_race.specs.declared.slips.Seat.TheVariants.{Canceller, Of}
 use Rattle.rx_race.specs.declared.slips.Slip.{Slip}
-use Rattle.rx_race.specs.declared.slips.Slip.TheVariants.{Live, Refused, Stopped, Told, Unused}
+use Rattle.rx_race.specs.declared.slips.Slip.TheVariants.{Live, Refused, Stopped, Told, Unused, Yielded}
 use Rattle.rx_race.specs.Locked.{AreTold, SomeoneWon, slips_of}
 use Rattle.rx_race.specs.Publishing.{is_remote_only, is_zero}
+use Rattle.rx_race.specs.Slips.{told_in}
 use Rattle.rx_world.specs.declared.attempts.Attempt.TheVariants.{Local, Remote}
 use Rattle.rx_world.specs.declared.attempts.Cause.{Cause}
 use Rattle.rx_world.specs.declared.attempts.End.{End}
@@ -27,7 +28,7 @@ use Rattle.rx_engine.specs.Plans.{has_remote, is_due_here}
 use Rattle.rx_engine.specs.Racing.{FitsEnd, first_by, is_cancelled, is_told_won}
 use Rattle.rx_engine.proofs.Cases.{won-slip}
 use Rattle.rx_engine.proofs.CorePasses.{told_as}
-use Rattle.rx_engine.proofs.CoreRaces.{one-attempt}
+use Rattle.rx_engine.proofs.CoreRaces.{lost-here}
 use Rattle.rx_engine.proofs.RaceLemmas.{unstarted-told}
 
 -- as the core has it
@@ -41,7 +42,8 @@ first-local (Told Noted) e = refl
 first-local Unused e = refl
 first-local Refused e = refl
 first-local Live e = refl
-first-local Stopped e = refl
+first-local (Stopped seen) e = refl
+first-local (Yielded seen) e = refl
 
 free-by : (test : Bool) (made : Option Winner) (won : Winner) → (if test then None else made) ≡ Some won → test ≡ false
 free-by true made won e = none-some e
@@ -63,7 +65,7 @@ none-test : (test : Bool) (first : Winner) (other : Option Winner) → test ≡ 
 none-test true first other e h = some-none h
 none-test false first other e h = false-true e
 
-module _ (plan : Plan) (f : Cause → Cause) (h : RemoteCause → RemoteCause) (told_local : Option Decision) (local : Option (End Outcome Cause))
+module _ (plan : Plan) (told_local : Option Decision) (local : Option (End Outcome Cause))
     (told_remote : Option Decision) (remote : Option (End Outcome RemoteCause)) (at_local at_remote cancel : Slip)
     (told : AreTold plan (slips_of at_local at_remote cancel)) where
   abbrev FitsHere : Option (End Outcome Cause) → Slip → Type 0
@@ -75,7 +77,7 @@ module _ (plan : Plan) (f : Cause → Cause) (h : RemoteCause → RemoteCause) (
   -- ---- the remote one won
 
   there-won : (end : Option (End Outcome RemoteCause)) (slip : Slip) (other : Option Winner) (won : Winner) → FitsThere end slip → slip ≡ Told Won
-      → first_won (won_remote plan end) other ≡ Some won → finished_in (progress_of (told_as h end slip)) ≡ Some (as_finished won)
+      → first_won (won_remote plan end) other ≡ Some won → finished_in (progress_of (told_as end slip)) ≡ Some (as_finished won)
   there-won None slip other won fits is e = absurd (unstarted-told (has_remote plan) Won (sym fits.0 ∙ is))
   there-won (Some (Done outcome origin)) (Told Won) other won fits is e =
       ap (λ w. Some (as_finished w)) (test-first (is_zero outcome.exit.code || is_remote_only plan) (record { outcome = outcome; origin = origin }) won other
@@ -86,7 +88,8 @@ module _ (plan : Plan) (f : Cause → Cause) (h : RemoteCause → RemoteCause) (
   there-won (Some end) Unused other won fits is e = absurd fits
   there-won (Some end) Refused other won fits is e = absurd fits
   there-won (Some end) Live other won fits is e = absurd fits
-  there-won (Some end) Stopped other won fits is e = absurd fits
+  there-won (Some end) (Stopped seen) other won fits is e = absurd fits
+  there-won (Some end) (Yielded seen) other won fits is e = cc
 
   there-has : (end : Option (End Outcome RemoteCause)) (slip : Slip) (other : Option Winner) → FitsThere end slip → slip ≡ Told Won
       → first_won (won_remote plan end) other ≡ None → ⊥
@@ -99,7 +102,8 @@ module _ (plan : Plan) (f : Cause → Cause) (h : RemoteCause → RemoteCause) (
   there-has (Some end) Unused other fits is e = fits
   there-has (Some end) Refused other fits is e = fits
   there-has (Some end) Live other fits is e = fits
-  there-has (Some end) Stopped other fits is e = fits
+  there-has (Some end) (Stopped seen) other fits is e = fits
+  there-has (Some end) (Yielded seen) other fits is e = cc
 
   -- ---- the remote one didn't win, and nobody cancelled
 
@@ -115,7 +119,7 @@ module _ (plan : Plan) (f : Cause → Cause) (h : RemoteCause → RemoteCause) (
         → at_local ≡ Told Won
     there-late None slip won at fits e = none-some e
     there-late (Some (Failed cause)) slip won at fits e = none-some e
-    there-late (Some (Done outcome origin)) (Told Late) won at fits e = winner-here (told.late Remote at)
+    there-late (Some (Done outcome origin)) (Told Late) won at fits e = winner-here (told.late Remote (ap told_in at))
     there-late (Some (Done outcome origin)) (Told Won) won at fits e = false-true (sym lost ∙ ap is_told_won at)
     there-late (Some (Done outcome origin)) (Told Noted) won at fits e =
         false-true (sym (fits.1.noted refl)
@@ -123,7 +127,8 @@ module _ (plan : Plan) (f : Cause → Cause) (h : RemoteCause → RemoteCause) (
     there-late (Some (Done outcome origin)) Unused won at fits e = absurd fits
     there-late (Some (Done outcome origin)) Refused won at fits e = absurd fits
     there-late (Some (Done outcome origin)) Live won at fits e = absurd fits
-    there-late (Some (Done outcome origin)) Stopped won at fits e = absurd fits
+    there-late (Some (Done outcome origin)) (Stopped seen) won at fits e = absurd fits
+    there-late (Some (Done outcome origin)) (Yielded seen) won at fits e = winner-here (told.late Remote (ap told_in at))
 
     -- the local one won, where there is an outcome to publish
     here-won : (end : Option (End Outcome Cause)) (slip : Slip) (won : Winner) → at_local ≡ slip → FitsHere end slip → FitsThere remote at_remote
@@ -131,16 +136,17 @@ module _ (plan : Plan) (f : Cause → Cause) (h : RemoteCause → RemoteCause) (
     here-won None slip won at fits there e = sym at ∙ there-late remote at_remote won refl there e
     here-won (Some (Failed cause)) slip won at fits there e = sym at ∙ there-late remote at_remote won refl there e
     here-won (Some (Done outcome origin)) (Told Won) won at fits there e = refl
-    here-won (Some (Done outcome origin)) (Told Late) won at fits there e = sym at ∙ winner-here (told.late Local at)
+    here-won (Some (Done outcome origin)) (Told Late) won at fits there e = sym at ∙ winner-here (told.late Local (ap told_in at))
     here-won (Some (Done outcome origin)) (Told Noted) won at fits there e = false-true (sym (fits.1.noted refl))
     here-won (Some (Done outcome origin)) Unused won at fits there e = absurd fits
     here-won (Some (Done outcome origin)) Refused won at fits there e = absurd fits
     here-won (Some (Done outcome origin)) Live won at fits there e = absurd fits
-    here-won (Some (Done outcome origin)) Stopped won at fits there e = absurd fits
+    here-won (Some (Done outcome origin)) (Stopped seen) won at fits there e = absurd fits
+    here-won (Some (Done outcome origin)) (Yielded seen) won at fits there e = sym at ∙ winner-here (told.late Local (ap told_in at))
 
   -- a local attempt that won has the outcome
   here-is : (end : Option (End Outcome Cause)) (slip : Slip) (other : Option Winner) (won : Winner) → FitsHere end slip → slip ≡ Told Won
-      → first_won (outcome_of end) other ≡ Some won → finished_in (progress_of (told_as f end slip)) ≡ Some (as_finished won)
+      → first_won (outcome_of end) other ≡ Some won → finished_in (progress_of (told_as end slip)) ≡ Some (as_finished won)
   here-is None slip other won fits is e = absurd (unstarted-told (is_due_here plan at_remote) Won (sym fits.0 ∙ is))
   here-is (Some (Done outcome origin)) (Told verdict) other won fits is e = ap (λ w. Some (as_finished w)) (some-is e)
   here-is (Some (Failed cause)) (Told Won) other won fits is e = false-true (fits.1.won refl)
@@ -149,7 +155,8 @@ module _ (plan : Plan) (f : Cause → Cause) (h : RemoteCause → RemoteCause) (
   here-is (Some end) Unused other won fits is e = absurd fits
   here-is (Some end) Refused other won fits is e = absurd fits
   here-is (Some end) Live other won fits is e = absurd fits
-  here-is (Some end) Stopped other won fits is e = absurd fits
+  here-is (Some end) (Stopped seen) other won fits is e = absurd fits
+  here-is (Some end) (Yielded seen) other won fits is e = cc
 
   here-has : (end : Option (End Outcome Cause)) (slip : Slip) (other : Option Winner) → FitsHere end slip → slip ≡ Told Won
       → first_won (outcome_of end) other ≡ None → ⊥
@@ -161,7 +168,8 @@ module _ (plan : Plan) (f : Cause → Cause) (h : RemoteCause → RemoteCause) (
   here-has (Some end) Unused other fits is e = fits
   here-has (Some end) Refused other fits is e = fits
   here-has (Some end) Live other fits is e = fits
-  here-has (Some end) Stopped other fits is e = fits
+  here-has (Some end) (Stopped seen) other fits is e = fits
+  here-has (Some end) (Yielded seen) other fits is e = cc
 
   -- ---- both
 
@@ -170,19 +178,14 @@ module _ (plan : Plan) (f : Cause → Cause) (h : RemoteCause → RemoteCause) (
 
   abbrev in_race : Option Finished
   in_race = winner_of (decided_by (is_told_won at_local) (is_told_won at_remote) (is_cancelled cancel))
-      (finished_in (progress_of (told_as f local at_local))) (finished_in (progress_of (told_as h remote at_remote)))
-
-  lost-here : is_told_won at_remote ≡ true → is_told_won at_local ≡ false
-  lost-here won = false_from_ne_true (is_told_won at_local) (λ also.
-      false-true (sym (one-attempt plan at_local at_remote cancel told)
-      ∙ and_from (is_told_won at_local) (is_told_won at_remote) also won))
+      (finished_in (progress_of (told_as local at_local))) (finished_in (progress_of (told_as remote at_remote)))
 
   victor-by : (there : Bool) (won : Winner) → is_told_won at_remote ≡ there → is_cancelled cancel ≡ false → FitsHere local at_local → FitsThere remote at_remote
       → won_by (first_by at_remote) (outcome_of local) (won_remote plan remote) ≡ Some won → in_race ≡ Some (as_finished won)
   victor-by true won is free here there e =
       let slip = won-slip at_remote is in
       let first = subst (λ x. won_by (first_by x) (outcome_of local) (won_remote plan remote) ≡ Some won) slip e in
-      rw (is, lost-here is) (there-won remote at_remote (outcome_of local) won there slip first)
+      rw (is, lost-here plan at_local at_remote cancel told is) (there-won remote at_remote (outcome_of local) won there slip first)
   victor-by false won is free here there e =
       let first = subst (λ x. won_by x (outcome_of local) (won_remote plan remote) ≡ Some won) (first-local at_remote is) e in
       let slip = here-won is free local at_local won refl here there first in

@@ -1,6 +1,6 @@
 -- What follows from the race of a plan's attempts: which of them won, and what the other was told.
 use Rattle.std.proofs.Common.{◌≡◌, ◌∙◌, ◌||◌, Bool, true, false, ap, refl, subst, sym}
-use Rattle.std.specs.Prelude.{Err, IfSome, None, Option, Some, if◌then◌else◌, is_some}
+use Rattle.std.specs.Prelude.{◌≢◌, Err, None, Option, Some, if◌then◌else◌, is_some}
 use Rattle.rx_core.proofs.Cases.{false-true, none-some, some-none}
 use Rattle.rx_local.specs.Local.{HasTold, IsStopped, Tells}
 use Rattle.rx_race.specs.declared.events.Verdict.{Verdict}
@@ -8,10 +8,10 @@ use Rattle.rx_race.specs.declared.events.Verdict.TheVariants.{Late, Noted, Won}
 use Rattle.rx_race.specs.declared.slips.Seat.{Seat}
 use Rattle.rx_race.specs.declared.slips.Seat.TheVariants.{Canceller, Of}
 use Rattle.rx_race.specs.declared.slips.Slip.{Slip}
-use Rattle.rx_race.specs.declared.slips.Slip.TheVariants.{Live, Refused, Stopped, Told, Unused}
+use Rattle.rx_race.specs.declared.slips.Slip.TheVariants.{Live, Refused, Stopped, Told, Unused, Yielded}
 use Rattle.rx_race.specs.Locked.{IsLook, SomeoneWon, slips_of}
 use Rattle.rx_race.specs.Publishing.{is_remote_only, is_zero, may_publish}
-use Rattle.rx_race.specs.Slips.{slip_at}
+use Rattle.rx_race.specs.Slips.{slip_at, told_in}
 use Rattle.rx_scan.specs.declared.gathering.Gathered.{Gathered}
 use Rattle.rx_world.specs.declared.attempts.Attempt.{Attempt}
 use Rattle.rx_world.specs.declared.attempts.Attempt.TheVariants.{Local, Remote}
@@ -30,15 +30,13 @@ use Rattle.rx_engine.specs.Attempts.{Attempts, HasAttempts, HasLocal, first_of, 
 use Rattle.rx_engine.specs.Meanings.{Meanings}
 use Rattle.rx_engine.specs.Plans.{has_both, has_local, has_remote, is_due_here}
 use Rattle.rx_engine.specs.Racing.{FitsEnd, HaveRaced, IsVerdictOn, first_by, is_cancelled, unstarted}
+use Rattle.rx_engine.proofs.Cases.{late-won}
 
 pub refused-told : (verdict : Verdict) → Refused ≡ Told verdict → ⊥
 refused-told verdict h = cc
 
 pub unused-told : (verdict : Verdict) → Unused ≡ Told verdict → ⊥
 unused-told verdict h = cc
-
-late-won : Told Late ≡ Told Won → ⊥
-late-won h = cc
 
 local-remote : Local ≡ Remote → ⊥
 local-remote h = cc
@@ -49,20 +47,24 @@ unstarted-told false verdict h = unused-told verdict h
 
 -- ---- one attempt
 
--- an attempt that offered its end was to start, and was told something
+-- An attempt that offered its end was to start. It was late where it had been told of a decision, and else was told something else.
 pub record WasTold {C : Type 0} (plan : Plan) (x : Attempt) (due : Bool) (told : Option Decision) (end : End Outcome C) (slip : Slip) : Type 0 where
-  pub verdict : Verdict
-  pub slip_is : slip ≡ Told verdict
   pub due_is : due ≡ true
-  pub on : IsVerdictOn plan x told end verdict
+  pub late : told ≢ None → told_in slip ≡ Some Late
+  pub timely : told_in slip ≢ Some Late → (verdict : Verdict) × (slip ≡ Told verdict) × IsVerdictOn plan x told end verdict
 
 pub was-told : {C : Type 0} (plan : Plan) (x : Attempt) (due : Bool) (told : Option Decision) (end : End Outcome C) (slip : Slip) → FitsEnd plan x due told (Some end) slip
     → WasTold plan x due told end slip
-was-told plan x due told end (Told verdict) fits = record { verdict = verdict; slip_is = refl; due_is = fits.0; on = fits.1 }
+was-told plan x due told end (Told verdict) fits = record {
+  due_is = fits.0;
+  late = λ n. absurd (n fits.1.untold);
+  timely = λ n. (verdict, refl, fits.1);
+}
+was-told plan x due told end (Yielded seen) fits = record { due_is = fits.0; late = λ n. refl; timely = λ n. absurd (n refl) }
 was-told plan x due told end Unused fits = absurd fits
 was-told plan x due told end Refused fits = absurd fits
 was-told plan x due told end Live fits = absurd fits
-was-told plan x due told end Stopped fits = absurd fits
+was-told plan x due told end (Stopped seen) fits = absurd fits
 
 -- an attempt that was started was to start
 was-due : {C : Type 0} (plan : Plan) (x : Attempt) (due : Bool) (told : Option Decision) (ended : Option (End Outcome C)) (slip : Slip) → FitsEnd plan x due told ended slip
@@ -95,7 +97,8 @@ first-told (Told Noted) e = absurd (local-remote (sym e))
 first-told Unused e = absurd (local-remote (sym e))
 first-told Refused e = absurd (local-remote (sym e))
 first-told Live e = absurd (local-remote (sym e))
-first-told Stopped e = absurd (local-remote (sym e))
+first-told (Stopped seen) e = absurd (local-remote (sym e))
+first-told (Yielded seen) e = absurd (local-remote (sym e))
 
 -- an attempt that is stopped was told of a decision
 stopped-told : (cause : Cause) (told : Option Decision) → Tells None told cause → IsStopped cause → told ≡ None → ⊥
@@ -106,11 +109,6 @@ stopped-told (causes.InputChanged input) told t s e = s
 stopped-told (causes.OutputTooLarge limit n) told t s e = s
 stopped-told (causes.SourceFault path) told t s e = s
 stopped-told causes.NoMemory told t s e = s
-
--- and so it was late
-told-late : (told : Option Decision) (verdict : Verdict) → (told ≡ None → ⊥) → IfSome told (λ decision. verdict ≡ Late) → verdict ≡ Late
-told-late None verdict n late = absurd (n refl)
-told-late (Some decision) verdict n late = late
 
 -- ---- a race that wasn't cancelled, and in which the remote attempt has nothing that is published
 
@@ -137,8 +135,8 @@ module _ (plan : Plan) (told_local : Option Decision) (local : Option (End Outco
   raced-unstopped why e t s =
       let was = was-told plan Local (is_due_here plan passes.remote) told_local (ends.Failed why) passes.local
       (subst (λ x. FitsEnd plan Local (is_due_here plan passes.remote) told_local x passes.local) e r.fits_local) in
-      let late : passes.local ≡ Told Late = was.slip_is ∙ ap Told (told-late told_local was.verdict (stopped-told why told_local t s) was.on.late) in
-      no-winner (r.told.late Local late) (λ won. late-won (sym late ∙ won))
+      let late = was.late (stopped-told why told_local t s) in
+      no-winner (r.told.late Local late) (late-won passes.local late)
 
 -- ---- the attempts of a plan
 

@@ -1,14 +1,15 @@
 -- A race of a plan that hasn't both attempts at once and wasn't cancelled: they came in turn, and nothing stopped them.
 use Rattle.std.proofs.Common.{◌≡◌, ◌∙◌, ◌⊎◌, ◌||◌, Bool, true, false, ap, inl, inr, refl, subst, sym}
-use Rattle.std.specs.Prelude.{IfSome, None, Option, Some, if◌then◌else◌, is_some}
+use Rattle.std.specs.Prelude.{None, Option, Some, if◌then◌else◌, is_some}
 use Rattle.rx_core.proofs.Cases.{false-true}
 use Rattle.rx_race.specs.declared.events.Verdict.{Verdict}
 use Rattle.rx_race.specs.declared.events.Verdict.TheVariants.{Late, Noted, Won}
 use Rattle.rx_race.specs.declared.slips.Seat.TheVariants.{Canceller, Of}
 use Rattle.rx_race.specs.declared.slips.Slip.{Slip}
-use Rattle.rx_race.specs.declared.slips.Slip.TheVariants.{Refused, Told, Unused}
+use Rattle.rx_race.specs.declared.slips.Slip.TheVariants.{Live, Refused, Stopped, Told, Unused, Yielded}
 use Rattle.rx_race.specs.Locked.{IsLook, SomeoneWon, slips_of}
 use Rattle.rx_race.specs.Publishing.{is_remote_only, is_zero, may_publish}
+use Rattle.rx_race.specs.Slips.{told_in}
 use Rattle.rx_world.specs.declared.attempts.Attempt.{Attempt}
 use Rattle.rx_world.specs.declared.attempts.Attempt.TheVariants.{Local, Remote}
 use Rattle.rx_world.specs.declared.attempts.Cause.{Cause}
@@ -24,10 +25,8 @@ use Rattle.rx_engine.specs.declared.transcripts.Passes.{Passes}
 use Rattle.rx_engine.specs.Attempts.{AreInTurn, Attempts, won_remote}
 use Rattle.rx_engine.specs.Plans.{has_both, is_noted}
 use Rattle.rx_engine.specs.Racing.{FitsEnd, HaveRaced, IsVerdictOn, is_cancelled}
+use Rattle.rx_engine.proofs.Cases.{late-won}
 use Rattle.rx_engine.proofs.RaceLemmas.{refused-told, unused-told, was-told}
-
-late-told : Told Late ≡ Told Won → ⊥
-late-told h = cc
 
 noted-told : Told Noted ≡ Told Won → ⊥
 noted-told h = cc
@@ -53,23 +52,12 @@ record HasEnded {C : Type 0} (plan : Plan) (x : Attempt) (told : Option Decision
   on : IsVerdictOn plan x told end verdict
   told_is : told ≡ None
 
-untold : (told : Option Decision) (verdict : Verdict) → (verdict ≡ Late → ⊥) → IfSome told (λ decision. verdict ≡ Late) → told ≡ None
-untold None verdict n late = refl
-untold (Some decision) verdict n late = absurd (n late)
-
 has-ended : {C : Type 0} (plan : Plan) (x : Attempt) (told : Option Decision) (ended : Option (End Outcome C)) (slip : Slip) → FitsEnd plan x true told ended slip
-    → (slip ≡ Refused → ⊥) → (slip ≡ Told Late → ⊥) → HasEnded plan x told ended slip
+    → (slip ≡ Refused → ⊥) → (told_in slip ≡ Some Late → ⊥) → HasEnded plan x told ended slip
 has-ended plan x told None slip fits look late = absurd (look fits.0)
 has-ended plan x told (Some end) slip fits look late =
-    let was = was-told plan x true told end slip fits in
-    record {
-      end = end;
-      verdict = was.verdict;
-      end_is = refl;
-      slip_is = was.slip_is;
-      on = was.on;
-      told_is = untold told was.verdict (λ e. late (was.slip_is ∙ ap Told e)) was.on.late;
-    }
+    let was = (was-told plan x true told end slip fits).timely late in
+    record { end = end; verdict = was.0; end_is = refl; slip_is = was.1; on = was.2; told_is = was.2.untold }
 
 -- a remote end is published exactly where it may be
 is-some-if : (test : Bool) (won : Winner) → is_some (if test then Some won else None) ≡ test
@@ -94,15 +82,15 @@ module _ (plan : Plan) (local : Option (End Outcome Cause)) (remote : Option (En
   here-look : (passes.remote ≡ Told Won → ⊥) → passes.local ≡ Refused → ⊥
   here-look n e = elim (who-won (r.told.look Local (subst IsLook (sym e) tt))) [ inl won ↦ refused-told Won (sym e ∙ won) | inr won ↦ n won ]
 
-  here-late : (passes.remote ≡ Told Won → ⊥) → passes.local ≡ Told Late → ⊥
-  here-late n e = elim (who-won (r.told.late Local e)) [ inl won ↦ late-told (sym e ∙ won) | inr won ↦ n won ]
+  here-late : (passes.remote ≡ Told Won → ⊥) → told_in passes.local ≡ Some Late → ⊥
+  here-late n e = elim (who-won (r.told.late Local e)) [ inl won ↦ late-won passes.local e won | inr won ↦ n won ]
 
   -- and so the remote one where the local one didn't
   there-look : (passes.local ≡ Told Won → ⊥) → passes.remote ≡ Refused → ⊥
   there-look n e = elim (who-won (r.told.look Remote (subst IsLook (sym e) tt))) [ inl won ↦ n won | inr won ↦ refused-told Won (sym e ∙ won) ]
 
-  there-late : (passes.local ≡ Told Won → ⊥) → passes.remote ≡ Told Late → ⊥
-  there-late n e = elim (who-won (r.told.late Remote e)) [ inl won ↦ n won | inr won ↦ late-told (sym e ∙ won) ]
+  there-late : (passes.local ≡ Told Won → ⊥) → told_in passes.remote ≡ Some Late → ⊥
+  there-late n e = elim (who-won (r.told.late Remote e)) [ inl won ↦ n won | inr won ↦ late-won passes.remote e won ]
 
 -- the attempts of a race
 abbrev attempts_of : Option (End Outcome Cause) → Option (End Outcome RemoteCause) → Option Decision → Option Decision → Passes → Attempts
@@ -146,9 +134,20 @@ module _ (local : Option (End Outcome Cause)) (remote : Option (End Outcome Remo
         let near = left-out Fallback Local told_local local passes.local (by-remote Refused e) in
         there-look Fallback local remote told_local told_remote passes r free (λ won. unused-told Won (sym near.slip_is ∙ won)) e
 
-    not-late : passes.remote ≡ Told Late → ⊥
+    late-noted : (slip : Slip) → told_in slip ≡ Some Late → is_noted slip ≡ false
+    late-noted (Told Noted) e = cc
+    late-noted (Told Won) e = refl
+    late-noted (Told Late) e = refl
+    late-noted (Yielded seen) e = refl
+    late-noted Unused e = refl
+    late-noted Refused e = refl
+    late-noted Live e = refl
+    late-noted (Stopped seen) e = refl
+
+    not-late : told_in passes.remote ≡ Some Late → ⊥
     not-late e =
-        let near = left-out Fallback Local told_local local passes.local (by-remote (Told Late) e) in
+        let fits = subst (λ due. FitsEnd Fallback Local due told_local local passes.local) (late-noted passes.remote e) r.fits_local in
+        let near = left-out Fallback Local told_local local passes.local fits in
         there-late Fallback local remote told_local told_remote passes r free (λ won. unused-told Won (sym near.slip_is ∙ won)) e
 
     after-remote : (end : End Outcome RemoteCause) (verdict : Verdict) → remote ≡ Some end → passes.remote ≡ Told verdict → IsVerdictOn Fallback Remote told_remote end verdict
@@ -171,7 +170,7 @@ module _ (local : Option (End Outcome Cause)) (remote : Option (End Outcome Remo
           told_local_is = near.told_is;
           told_remote_is = none;
         }
-    after-remote end Late is e on none = absurd (not-late e)
+    after-remote end Late is e on none = absurd (not-late (ap told_in e))
 
     fallen-back : AreInTurn Fallback (attempts_of local remote told_local told_remote passes)
     fallen-back =

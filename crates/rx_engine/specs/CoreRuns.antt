@@ -1,5 +1,5 @@
 -- What the sessions of a run are to the core: each one that made attempts is an action, and steps of the core lead to all of them.
-use Rattle.std.specs.Prelude.{◌≡◌, ◌⊎◌, ℕ, Bool, List, [], ◌∷◌, Option, None, Some, MatchOption, map}
+use Rattle.std.specs.Prelude.{◌≡◌, ◌⊎◌, ℕ, Bool, List, [], ◌∷◌, Option, None, Some, MatchOption}
 use Rattle.rx_board.specs.declared.journal.Entry.{Entry}
 use Rattle.rx_core.specs.Actions.{Action}
 use Rattle.rx_core.specs.Attempts.{Ended as HasEnded, Idle, Offered, Progress, Running, end_in}
@@ -10,22 +10,15 @@ use Rattle.rx_core.specs.Runs.{IsReached}
 use Rattle.rx_core.specs.States.{Has, State}
 use Rattle.rx_core.specs.ToldRaces.{decided_by}
 use Rattle.rx_race.specs.declared.slips.Slip.{Slip}
-use Rattle.rx_race.specs.declared.slips.Slip.TheVariants.{Told}
+use Rattle.rx_race.specs.Slips.{told_in}
 use Rattle.rx_remote.specs.Marks.{Turn}
 use Rattle.rx_scan.specs.Gathering.{IsPlanned, command_asked}
 use Rattle.rx_session.specs.declared.replies.Reply.{Reply}
 use Rattle.rx_session.specs.declared.replies.Reply.TheVariants as reply
 use Rattle.rx_session.specs.declared.requests.Request.{Request}
-use Rattle.rx_world.specs.declared.attempts.Cause.{Cause}
-use Rattle.rx_world.specs.declared.attempts.Cause.TheVariants as causes
-use Rattle.rx_world.specs.declared.attempts.End.{End}
-use Rattle.rx_world.specs.declared.attempts.End.TheVariants.{Done, Failed}
 use Rattle.rx_world.specs.declared.attempts.Ended.{Ended}
-use Rattle.rx_world.specs.declared.attempts.Ended.TheVariants as ended
 use Rattle.rx_world.specs.declared.decisions.Decision.{Decision}
 use Rattle.rx_world.specs.declared.outcomes.FileOut.{FileOut}
-use Rattle.rx_world.specs.declared.remote_causes.RemoteCause.{RemoteCause}
-use Rattle.rx_world.specs.declared.remote_causes.RemoteCause.TheVariants as remote_causes
 use Rattle.rx_engine.specs.declared.transcripts.Passes.{Passes}
 use Rattle.rx_engine.specs.declared.transcripts.Transcript.{Transcript}
 use Rattle.rx_engine.specs.Answers.{asked_of}
@@ -49,38 +42,9 @@ abbrev pub HasPass : {C : Type 0} → Progress C → Slip → Type 0
 HasPass Idle slip = (due : Bool) × (slip ≡ unstarted due)
 HasPass Running slip = ⊥
 HasPass (HasEnded end) slip = ⊥
-HasPass (Offered end verdict) slip = slip ≡ Told verdict
+HasPass (Offered end verdict) slip = told_in slip ≡ Some verdict
 
 -- ---- ends
-
--- an attempt that was stopped was stopped by this decision
-abbrev pub stop_at : Decision → Cause → Cause
-stop_at made (causes.Stopped decision) = causes.Stopped made
-stop_at made (causes.BenchFault step) = causes.BenchFault step
-stop_at made (causes.OutputMissing path) = causes.OutputMissing path
-stop_at made (causes.InputChanged input) = causes.InputChanged input
-stop_at made (causes.OutputTooLarge limit n) = causes.OutputTooLarge limit n
-stop_at made (causes.SourceFault path) = causes.SourceFault path
-stop_at made causes.NoMemory = causes.NoMemory
-
-abbrev pub remote_stop_at : Decision → RemoteCause → RemoteCause
-remote_stop_at made (remote_causes.Stopped decision) = remote_causes.Stopped made
-remote_stop_at made (remote_causes.CallFailed faults) = remote_causes.CallFailed faults
-remote_stop_at made (remote_causes.BadBlob expected got) = remote_causes.BadBlob expected got
-remote_stop_at made (remote_causes.BadResult fault) = remote_causes.BadResult fault
-remote_stop_at made remote_causes.OperationsSpent = remote_causes.OperationsSpent
-remote_stop_at made (remote_causes.InputChanged input) = remote_causes.InputChanged input
-remote_stop_at made (remote_causes.WrongVersion low high) = remote_causes.WrongVersion low high
-remote_stop_at made (remote_causes.SourceFault path) = remote_causes.SourceFault path
-remote_stop_at made remote_causes.NoMemory = remote_causes.NoMemory
-
-abbrev pub end_by : {O C : Type 0} → (C → C) → End O C → End O C
-end_by cause_by (Done outcome origin) = Done outcome origin
-end_by cause_by (Failed cause) = Failed (cause_by cause)
-
-abbrev pub stopped_at : Decision → Ended → Ended
-stopped_at made (ended.Local end) = ended.Local (end_by (stop_at made) end)
-stopped_at made (ended.Remote end) = ended.Remote (end_by (remote_stop_at made) end)
 
 -- the ends of an action as a transcript keeps them, by what became of the remote one's pass
 abbrev pub ends_of : {H : Type 0} → Action H → Slip → List Ended
@@ -109,7 +73,7 @@ in_core (Some (reply.Blocked path)) = None
 -- ---- sessions
 
 -- An action has what a transcript tells of its request's race: each end with what its offer was told, the decision, the entry and the
--- reply. An attempt that was stopped was stopped by that decision.
+-- reply.
 pub record IsActionOf {H : Type 0} (t : Transcript) (a : Action H) : Type 0 where
   pub request : Request
   pub request_is : t.request ≡ Some request
@@ -120,7 +84,7 @@ pub record IsActionOf {H : Type 0} (t : Transcript) (a : Action H) : Type 0 wher
   pub local_is : HasPass a.local t.passes.local
   pub remote_is : HasPass a.remote t.passes.remote
   pub decision_is : a.decision ≡ decision_of t.passes
-  pub ends_are : map (stopped_at a.decision) t.ends ≡ ends_of a t.passes.remote
+  pub ends_are : t.ends ≡ ends_of a t.passes.remote
   pub entry_is : MatchOption t.receipt (a.entry ≡ None) (λ receipt. (entry : Entry) × (a.entry ≡ Some entry) × (entry.number ≡ receipt.number))
   pub reply_is : a.reply ≡ in_core t.reply
 

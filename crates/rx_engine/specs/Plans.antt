@@ -2,7 +2,7 @@
 use Rattle.std.specs.Prelude.{Bool, true, false}
 use Rattle.rx_race.specs.declared.events.Verdict.TheVariants.{Late, Noted, Won}
 use Rattle.rx_race.specs.declared.slips.Slip.{Slip}
-use Rattle.rx_race.specs.declared.slips.Slip.TheVariants.{Live, Refused, Stopped, Told, Unused}
+use Rattle.rx_race.specs.declared.slips.Slip.TheVariants.{Live, Refused, Stopped, Told, Unused, Yielded}
 use Rattle.rx_world.specs.declared.attempts.Plan.{Plan}
 use Rattle.rx_world.specs.declared.attempts.Plan.TheVariants.{Both, Fallback, LocalOnly, RemoteOnly}
 
@@ -33,7 +33,8 @@ is_noted (Told Late) = false
 is_noted Unused = false
 is_noted Refused = false
 is_noted Live = false
-is_noted Stopped = false
+is_noted (Stopped seen) = false
+is_noted (Yielded seen) = false
 
 -- whether the local attempt is to start, by what became of the remote one's pass: where it falls back, only after that was noted
 abbrev pub is_due_here : Plan → Slip → Bool

@@ -3,7 +3,7 @@ use Rattle.std.specs.Prelude.{◌≡◌, Bool, true, false, Option, None, Some, 
 use Rattle.rx_exec_messages.specs.declared.callers.Caller as callers
 use Rattle.rx_race.specs.declared.slips.Seat.TheVariants.{Of}
 use Rattle.rx_race.specs.declared.slips.Slip.{Slip}
-use Rattle.rx_race.specs.declared.slips.Slip.TheVariants.{Live, Refused, Stopped, Told, Unused}
+use Rattle.rx_race.specs.declared.slips.Slip.TheVariants.{Live, Refused, Stopped, Told, Unused, Yielded}
 use Rattle.rx_race.specs.Slips.{Ticket}
 use Rattle.rx_scan.specs.declared.gathering.Gathered.{Gathered}
 use Rattle.rx_world.specs.declared.attempts.Attempt.{Attempt}
@@ -30,7 +30,8 @@ abbrev pub is_refused : Slip → Bool
 is_refused Refused = true
 is_refused Unused = false
 is_refused Live = false
-is_refused Stopped = false
+is_refused (Stopped seen) = false
+is_refused (Yielded seen) = false
 is_refused (Told verdict) = false
 
 -- whether an attempt was to start: it did, or was refused

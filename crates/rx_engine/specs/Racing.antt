@@ -3,7 +3,7 @@ use Rattle.std.specs.Prelude.{◌≡◌, Bool, Option, None, Some, IfSome, false
 use Rattle.rx_race.specs.declared.events.Verdict.{Verdict}
 use Rattle.rx_race.specs.declared.events.Verdict.TheVariants.{Late, Noted, Won}
 use Rattle.rx_race.specs.declared.slips.Slip.{Slip}
-use Rattle.rx_race.specs.declared.slips.Slip.TheVariants.{Live, Refused, Stopped, Told, Unused}
+use Rattle.rx_race.specs.declared.slips.Slip.TheVariants.{Live, Refused, Stopped, Told, Unused, Yielded}
 use Rattle.rx_race.specs.Locked.{AreTold, slips_of}
 use Rattle.rx_race.specs.Publishing.{may_publish}
 use Rattle.rx_world.specs.declared.attempts.Attempt.{Attempt}
@@ -21,12 +21,12 @@ use Rattle.rx_engine.specs.Plans.{has_remote, is_due_here}
 abbrev pub unused_passes : Passes
 unused_passes = record { local = Unused; remote = Unused; cancel = Unused }
 
--- An end that was offered was told what fits it: it won only where it may be published, and was noted only where it may not; and it was late
--- where its attempt had been told of a decision.
+-- The end of an attempt that had been told of no decision was told what fits it: it won only where it may be published, and was noted only
+-- where it may not.
 pub record IsVerdictOn {C : Type 0} (plan : Plan) (x : Attempt) (told : Option Decision) (end : End Outcome C) (verdict : Verdict) : Type 0 where
   pub won : verdict ≡ Won → may_publish plan x end ≡ true
   pub noted : verdict ≡ Noted → may_publish plan x end ≡ false
-  pub late : IfSome told (λ decision. verdict ≡ Late)
+  pub untold : told ≡ None
 
 -- the pass of an attempt that didn't start: it was refused or, where the attempt wasn't to start, not used
 abbrev pub unstarted : Bool → Slip
@@ -34,9 +34,11 @@ unstarted true = Refused
 unstarted false = Unused
 
 -- What became of the pass of an attempt, by whether it was to start and by its end. Without an end it didn't start, and was told nothing.
+-- The pass of one that had been told of a decision says which.
 abbrev pub FitsEnd : {C : Type 0} → Plan → Attempt → Bool → Option Decision → Option (End Outcome C) → Slip → Type 0
 FitsEnd plan x due told None slip = (slip ≡ unstarted due) × (told ≡ None)
 FitsEnd plan x due told (Some end) (Told verdict) = (due ≡ true) × IsVerdictOn plan x told end verdict
+FitsEnd plan x due told (Some end) (Yielded seen) = (due ≡ true) × IfSome told (λ decision. decision ≡ seen)
 FitsEnd plan x due told (Some end) slip = ⊥
 
 -- the attempt that is published before the other, by what became of the remote one's pass: where that won it is the remote one
@@ -47,7 +49,8 @@ first_by (Told Noted) = Local
 first_by Unused = Local
 first_by Refused = Local
 first_by Live = Local
-first_by Stopped = Local
+first_by (Stopped seen) = Local
+first_by (Yielded seen) = Local
 
 -- the offer of this pass won the race
 abbrev pub is_told_won : Slip → Bool
@@ -57,7 +60,8 @@ is_told_won (Told Noted) = false
 is_told_won Unused = false
 is_told_won Refused = false
 is_told_won Live = false
-is_told_won Stopped = false
+is_told_won (Stopped seen) = false
+is_told_won (Yielded seen) = false
 
 -- the right to cancel won the race
 abbrev pub is_cancelled : Slip → Bool

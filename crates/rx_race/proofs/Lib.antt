@@ -1,5 +1,6 @@
 pub mod LockLemmas
 pub mod LookLemmas
+pub mod SlipLemmas
 pub mod SoundLemmas
 pub mod SoundOffers
 pub mod SoundStarts

@@ -1,5 +1,5 @@
 -- What each call under the lock keeps.
-use Rattle.std.proofs.Common.{◌≡◌, ℕ, Bool, true, false, [], arith, refl, sym, subst, ◌∙◌}
+use Rattle.std.proofs.Common.{◌≡◌, ℕ, Bool, true, false, [], Some, ap, arith, refl, sym, subst, ◌∙◌}
 use Rattle.std.specs.Prelude.{◌≢◌, if◌then◌else◌}
 use Rattle.rx_world.specs.declared.attempts.Attempt.{Attempt}
 use Rattle.rx_world.specs.declared.attempts.Attempt.TheVariants.{Local, Remote}
@@ -14,14 +14,14 @@ use Rattle.rx_race.specs.declared.events.Verdict.TheVariants.{Late, Noted, Won}
 use Rattle.rx_race.specs.declared.slips.Seat.{Seat}
 use Rattle.rx_race.specs.declared.slips.Seat.TheVariants.{Canceller, Of}
 use Rattle.rx_race.specs.declared.slips.Slip.{Slip}
-use Rattle.rx_race.specs.declared.slips.Slip.TheVariants.{Live, Refused, Stopped, Told, Unused}
+use Rattle.rx_race.specs.declared.slips.Slip.TheVariants.{Live, Refused, Stopped, Told, Unused, Yielded}
 use Rattle.rx_race.specs.declared.standing.Phase.{Phase}
 use Rattle.rx_race.specs.declared.standing.Phase.TheVariants.{Idle, Offered, Running}
 use Rattle.rx_race.specs.declared.standing.Standing.{Standing}
-use Rattle.rx_race.specs.Locked.{Fits, FitsCancel, IsLocked, Locked}
+use Rattle.rx_race.specs.Locked.{Fits, FitsCancel, IsLocked, IsSeen, Locked}
 use Rattle.rx_race.specs.Publishing.{cancel_verdict, offer_verdict}
 use Rattle.rx_race.specs.Races.{Course, IsStep, cancels_of, is_cancel, standing_of, with_event}
-use Rattle.rx_race.specs.Slips.{Slips, unused_slips, with_slip}
+use Rattle.rx_race.specs.Slips.{Slips, offered, slip_at, told_in, unused_slips, with_slip}
 use Rattle.rx_race.specs.Standings.{after, decision_after_cancel, may_start, phase_of}
 use Rattle.rx_race.proofs.SoundLemmas.{decision-after, sound-after}
 use Rattle.rx_race.proofs.SoundStarts.{sound-fresh}
@@ -39,22 +39,28 @@ settled-made Cancelled h = λ e. cc
 settled-made Nothing h = absurd h
 
 -- while a decision that was made stays
+seen-kept : (d now seen : Decision) → (d ≢ Undecided → now ≡ d) → IsSeen d seen → IsSeen now seen
+seen-kept d now seen kept h = subst (λ x. IsSeen x seen) (sym (kept (settled-made d h.1))) h
+
 fits-kept : (d now : Decision) (p : Phase) (slip : Slip) → (d ≢ Undecided → now ≡ d) → Fits d p slip
     → Fits now p slip
 fits-kept d now Idle Unused kept h = tt
 fits-kept d now Idle Refused kept h = subst IsSettled (sym (kept (settled-made d h))) h
 fits-kept d now Idle Live kept h = absurd h
-fits-kept d now Idle Stopped kept h = absurd h
+fits-kept d now Idle (Stopped s) kept h = absurd h
+fits-kept d now Idle (Yielded s) kept h = absurd h
 fits-kept d now Idle (Told v) kept h = absurd h
 fits-kept d now Running Unused kept h = absurd h
 fits-kept d now Running Refused kept h = absurd h
 fits-kept d now Running Live kept h = tt
-fits-kept d now Running Stopped kept h = subst IsSettled (sym (kept (settled-made d h))) h
+fits-kept d now Running (Stopped s) kept h = seen-kept d now s kept h
+fits-kept d now Running (Yielded s) kept h = absurd h
 fits-kept d now Running (Told v) kept h = absurd h
 fits-kept d now (Offered w) Unused kept h = absurd h
 fits-kept d now (Offered w) Refused kept h = absurd h
 fits-kept d now (Offered w) Live kept h = absurd h
-fits-kept d now (Offered w) Stopped kept h = absurd h
+fits-kept d now (Offered w) (Stopped s) kept h = absurd h
+fits-kept d now (Offered w) (Yielded s) kept h = (h.0, seen-kept d now s kept h.1)
 fits-kept d now (Offered w) (Told v) kept h = h
 
 -- and where nothing but a cancel cancels
@@ -63,7 +69,8 @@ cancel-kept : (d now : Decision) (n m : ℕ) (slip : Slip) → m ≡ n → (d �
 cancel-kept d now n m Unused e kept back h = (e ∙ h.0, λ c. h.1 (back c))
 cancel-kept d now n m Refused e kept back h = absurd h
 cancel-kept d now n m Live e kept back h = absurd h
-cancel-kept d now n m Stopped e kept back h = absurd h
+cancel-kept d now n m (Stopped s) e kept back h = absurd h
+cancel-kept d now n m (Yielded s) e kept back h = absurd h
 cancel-kept d now n m (Told Won) e kept back h = kept (λ u. cc) ∙ h
 cancel-kept d now n m (Told Late) e kept back h =
     let same = kept h.0 in (λ u. h.0 (sym same ∙ u), λ c. h.1 (sym same ∙ c))
@@ -144,30 +151,58 @@ offer-back s Remote Won e = cc
 offer-back s Remote Late e = e
 offer-back s Remote Noted e = if-back _ s.decision e
 
+-- an offer is late once an attempt won or a cancel did
+pub settled-late : (d : Decision) (may : Bool) → IsSettled d → offer_verdict d may ≡ Late
+settled-late Undecided may h = absurd h
+settled-late (By x) may h = refl
+settled-late Cancelled may h = refl
+settled-late Nothing may h = absurd h
+
+-- a pass whose attempt ran was used up
+pub record IsOffer (now : Decision) (verdict : Verdict) (new : Slip) : Type 0 where
+  pub fits : Fits now (Offered verdict) new
+  pub told : told_in new ≡ Some verdict
+
+pub offer-fits : (d now : Decision) (may : Bool) (slip : Slip) → (d ≢ Undecided → now ≡ d)
+    → Fits d Running slip
+    → IsOffer now (offer_verdict d may) (offered slip (offer_verdict d may))
+offer-fits d now may Unused kept h = absurd h
+offer-fits d now may Refused kept h = absurd h
+offer-fits d now may Live kept h = record { fits = refl; told = refl }
+offer-fits d now may (Stopped s) kept h =
+    let late = settled-late d may h.1 in
+    record { fits = (late, seen-kept d now s kept h); told = ap Some (sym late) }
+offer-fits d now may (Yielded s) kept h = absurd h
+offer-fits d now may (Told v) kept h = absurd h
+
 pub locked-offer : (plan : Plan) (race : Course) (slips : Slips) (x : Attempt) (may : Bool)
     → IsLocked plan (at race slips) → phase_of x (standing_of race) ≡ Running
     → (let v = offer_told race may in
-    IsLocked plan (at_event race (Offer x v) (Of x) (Told v) slips))
+    IsLocked plan (at_event race (Offer x v) (Of x) (offered (slip_at (Of x) slips) v) slips))
 locked-offer plan race slips Local may was run =
     let s = standing_of race in
     let event = Offer Local (offer_told race may) in
     let step : IsStep s event = (run, (may, refl)) in
     let kept = decision-after s event step in
+    let running = subst (λ p. Fits s.decision p slips.local) run was.local in
+    let local = (offer-fits s.decision _ may slips.local kept running).fits in
     let remote = fits-kept s.decision _ s.remote slips.remote kept was.remote in
     let count = no-cancel race event refl in
     let back = offer-back s Local _ in
     let cancel = cancel-kept s.decision _ _ _ slips.cancel count kept back was.cancel in
-    locked-more plan race event slips _ was step (refl, remote, cancel)
+    locked-more plan race event slips _ was step (local, remote, cancel)
 locked-offer plan race slips Remote may was run =
     let s = standing_of race in
     let event = Offer Remote (offer_told race may) in
     let step : IsStep s event = (run, (may, refl)) in
     let kept = decision-after s event step in
+    let running = subst (λ p. Fits s.decision p slips.remote) run was.remote in
     let local = fits-kept s.decision _ s.local slips.local kept was.local in
+    let remote = (offer-fits s.decision _ may slips.remote kept running).fits in
     let count = no-cancel race event refl in
     let back = offer-back s Remote _ in
     let cancel = cancel-kept s.decision _ _ _ slips.cancel count kept back was.cancel in
-    locked-more plan race event slips _ was step (local, refl, cancel)
+    locked-more plan race event slips _ was step (local, remote, cancel)
 
 -- the first cancel
 new-cancel : (d : Decision) (n : ℕ) → d ≢ Cancelled

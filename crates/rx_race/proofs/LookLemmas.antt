@@ -1,5 +1,5 @@
 -- Looks and refused starts under the lock: what they keep, and what an attempt is refused for.
-use Rattle.std.proofs.Common.{◌≡◌, Bool, true, false, refl, ap, sym, subst, true≢false, ◌∙◌}
+use Rattle.std.proofs.Common.{◌≡◌, Bool, true, false, Some, refl, ap, sym, subst, true≢false, ◌∙◌}
 use Rattle.std.specs.Prelude.{◌&&◌}
 use Rattle.rx_world.specs.declared.attempts.Attempt.{Attempt}
 use Rattle.rx_world.specs.declared.attempts.Attempt.TheVariants.{Local, Remote}
@@ -10,16 +10,17 @@ use Rattle.rx_world.specs.Decisions.{IsSettled}
 use Rattle.rx_race.specs.declared.events.Verdict.TheVariants.{Noted}
 use Rattle.rx_race.specs.declared.slips.Seat.TheVariants.{Of}
 use Rattle.rx_race.specs.declared.slips.Slip.{Slip}
-use Rattle.rx_race.specs.declared.slips.Slip.TheVariants.{Live, Refused, Stopped, Told, Unused}
+use Rattle.rx_race.specs.declared.slips.Slip.TheVariants.{Live, Refused, Stopped, Told, Unused, Yielded}
 use Rattle.rx_race.specs.declared.standing.Phase.{Phase}
 use Rattle.rx_race.specs.declared.standing.Phase.TheVariants.{Idle, Offered, Running}
 use Rattle.rx_race.specs.Locked.{Fits, IsLocked, falls_back}
+use Rattle.rx_race.specs.Publishing.{offer_verdict}
 use Rattle.rx_race.specs.Races.{Course, standing_of}
-use Rattle.rx_race.specs.Slips.{Slips, is_live, slip_at, with_slip}
+use Rattle.rx_race.specs.Slips.{Slips, is_live, offered, slip_at, told_in, with_slip}
 use Rattle.rx_race.specs.Standings.{in_plan, is_idle, is_turn, is_undecided, may_start, phase_of}
 use Rattle.rx_race.proofs.SoundOffers.{settled-unless}
 use Rattle.rx_race.proofs.StepLemmas.{plan-standing, start-says}
-use Rattle.rx_race.proofs.LockLemmas.{at}
+use Rattle.rx_race.proofs.LockLemmas.{at, offer-fits}
 
 -- what became of an attempt's pass fits how the race stands
 abbrev FitsAt : Course → Attempt → Slip → Type 0
@@ -60,9 +61,10 @@ live-running d p Refused live h = cc
 live-running d Idle Live live h = absurd h
 live-running d Running Live live h = refl
 live-running d (Offered v) Live live h = absurd h
-live-running d Idle Stopped live h = absurd h
-live-running d Running Stopped live h = refl
-live-running d (Offered v) Stopped live h = absurd h
+live-running d Idle (Stopped s) live h = absurd h
+live-running d Running (Stopped s) live h = refl
+live-running d (Offered v) (Stopped s) live h = absurd h
+live-running d p (Yielded s) live h = cc
 live-running d p (Told v) live h = cc
 
 -- the attempt of a live pass runs
@@ -71,6 +73,18 @@ pub runs : (plan : Plan) (race : Course) (slips : Slips) (x : Attempt)
     → phase_of x (standing_of race) ≡ Running
 runs plan race slips x was live =
     live-running _ _ (slip_at (Of x) slips) live (fits-at plan race slips x was)
+
+-- so its offer is told what is due
+pub offer-told : (plan : Plan) (race : Course) (slips : Slips) (x : Attempt) (may : Bool)
+    → IsLocked plan (at race slips) → is_live (slip_at (Of x) slips) ≡ true
+    → (let v = offer_verdict (standing_of race).decision may in
+    told_in (offered (slip_at (Of x) slips) v) ≡ Some v)
+offer-told plan race slips x may was live =
+    let d = (standing_of race).decision in
+    let slip = slip_at (Of x) slips in
+    let run = runs plan race slips x was live in
+    let fits = subst (λ p. Fits d p slip) run (fits-at plan race slips x was) in
+    (offer-fits d d may slip (λ made. refl) fits).told
 
 -- the attempt of an unused pass wasn't started
 idle : (plan : Plan) (race : Course) (slips : Slips) (x : Attempt) → IsLocked plan (at race slips)
@@ -89,9 +103,12 @@ locked-refused plan race slips x was unused settled =
 pub locked-stopped : (plan : Plan) (race : Course) (slips : Slips) (x : Attempt)
     → IsLocked plan (at race slips) → is_live (slip_at (Of x) slips) ≡ true
     → IsSettled (standing_of race).decision
-    → IsLocked plan (at race (with_slip (Of x) Stopped slips))
+    → (let seen = (standing_of race).decision in
+    IsLocked plan (at race (with_slip (Of x) (Stopped seen) slips)))
 locked-stopped plan race slips x was live settled =
-    locked-slip plan race slips x Stopped was (rw (runs plan race slips x was live) settled)
+    let seen = (standing_of race).decision in
+    locked-slip plan race slips x (Stopped seen) was
+    (rw (runs plan race slips x was live) (refl, settled))
 
 -- ---- starts that are refused
 

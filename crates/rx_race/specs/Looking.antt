@@ -10,6 +10,6 @@ pub record Looked : Type 0 where
   pub attempt : Attempt
   pub seen : Option Decision
 
--- where a decision was seen, the pass says so
+-- where a decision was seen, the pass says which
 abbrev pub IsLooking : Slip → Option Decision → Type 0
-IsLooking slip seen = IfSome seen (λ decision. slip ≡ Stopped)
+IsLooking slip seen = IfSome seen (λ decision. slip ≡ Stopped decision)

@@ -3,14 +3,14 @@
 ghost use Rattle.std.specs.Prelude.{◌≡◌, ◌<◌};
 ghost use Rattle.rx_race.specs.declared.slips.Seat.TheVariants.{Canceller as canceller, Of as of_attempt};
 ghost use Rattle.rx_race.specs.declared.slips.Slip.TheVariants.{Unused as unused};
-ghost use Rattle.rx_race.specs.Slips.{AreBlank, code, slip_at, unused_slips, with_slip};
+ghost use Rattle.rx_race.specs.Slips.{AreBlank, code, number_of, slip_at, unused_slips, with_slip};
 ghost use Rattle.rx_world.specs.declared.attempts.Attempt.TheVariants.{Local as local_attempt, Remote as remote_attempt};
 
 use crate::Verdict;
 use crate::contests::{Blanks, CancelSeat, LocalSeat, RemoteSeat, Seats};
 use crate::slips::{Seat, Slip};
 use crate::tickets::Ticket;
-use rx_world::Attempt;
+use rx_world::{Attempt, Decision};
 use std::marker::Model;
 use std::sync::ledger::{Book, Ledger, Share};
 
@@ -37,6 +37,20 @@ impl<K: Seats> Model for SlipDesk<K> {
         d.local_book.total d.remote_book.total d.cancel_book.total };
 }
 
+/// The number of a decision.
+fn number_of(decision: Decision) -> u64
+    ensures number { result ≡ number_of decision }
+    ensures below { result < 5 }
+{
+    match decision {
+        Decision::Undecided => 0,
+        Decision::By(Attempt::Local) => 1,
+        Decision::By(Attempt::Remote) => 2,
+        Decision::Cancelled => 3,
+        Decision::Nothing => 4,
+    }
+}
+
 /// The number that stands for a slip in a ledger.
 fn code(slip: Slip) -> u64
     ensures { result ≡ code slip }
@@ -45,19 +59,21 @@ fn code(slip: Slip) -> u64
         Slip::Unused => 0,
         Slip::Refused => 1,
         Slip::Live => 2,
-        Slip::Stopped => 3,
-        Slip::Told(Verdict::Won) => 4,
-        Slip::Told(Verdict::Late) => 5,
-        Slip::Told(Verdict::Noted) => 6,
+        Slip::Told(Verdict::Won) => 3,
+        Slip::Told(Verdict::Late) => 4,
+        Slip::Told(Verdict::Noted) => 5,
+        Slip::Stopped(decision) => 6 + number_of(decision),
+        Slip::Yielded(decision) => 11 + number_of(decision),
     }
 }
 
-/// The book and its one share agree, and both go on to another number.
-fn rewrite<L: Ledger>(book: &mut Book<L>, share: &mut Share<L>, from: Slip, to: Slip)
+/// The book and its one share agree on a slip, and both go on to another.
+fn rewrite<L: Ledger>(book: &mut Book<L>, share: &mut Share<L>, held: Slip, from: Slip, to: Slip)
+    requires held { book.old.total ≡ code held }
     requires whole { share.old.parts ≡ L.parts }
     requires some { 0 < share.old.parts }
     requires from { share.old.amount ≡ code from }
-    ensures agree { book.old.total ≡ code from }
+    ensures agree { held ≡ from }
     ensures total { book.new.total ≡ code to }
     ensures amount { share.new.amount ≡ code to }
     ensures parts { share.new.parts ≡ share.old.parts }
@@ -110,15 +126,33 @@ impl<K: Seats> SlipDesk<K> {
     {
         match ticket.seat {
             Seat::Of(Attempt::Local) => {
-                rewrite(&mut self.local_book, &mut ticket.local, ticket.slip, slip);
+                rewrite(
+                    &mut self.local_book,
+                    &mut ticket.local,
+                    self.local,
+                    ticket.slip,
+                    slip,
+                );
                 self.local = slip;
             }
             Seat::Of(Attempt::Remote) => {
-                rewrite(&mut self.remote_book, &mut ticket.remote, ticket.slip, slip);
+                rewrite(
+                    &mut self.remote_book,
+                    &mut ticket.remote,
+                    self.remote,
+                    ticket.slip,
+                    slip,
+                );
                 self.remote = slip;
             }
             Seat::Canceller => {
-                rewrite(&mut self.cancel_book, &mut ticket.cancel, ticket.slip, slip);
+                rewrite(
+                    &mut self.cancel_book,
+                    &mut ticket.cancel,
+                    self.cancel,
+                    ticket.slip,
+                    slip,
+                );
                 self.cancel = slip;
             }
         }

@@ -1,13 +1,13 @@
 //! What is under the lock of a shared race: the race, and what became of its passes.
 
-ghost use Rattle.std.specs.Prelude.{◌≡◌, ◌≢◌, ◌↔◌, [], false, true, IfErr, IfNone, IfOk, IfSome, IsTrue};
+ghost use Rattle.std.specs.Prelude.{◌≡◌, ◌≢◌, ◌↔◌, [], false, true, IfErr, IfNone, IfOk, IfSome, IsTrue, Some};
 ghost use Rattle.rx_race.specs.declared.events.Verdict.TheVariants.{Late as late, Noted as noted, Won as won};
 ghost use Rattle.rx_race.specs.declared.slips.Seat.TheVariants.{Canceller as canceller, Of as of_attempt};
 ghost use Rattle.rx_race.specs.declared.slips.Slip.TheVariants.{Live as live, Refused as refused, Stopped as stopped, Told as told, Unused as unused};
 ghost use Rattle.rx_race.specs.Locked.{AreTold, IsUnstarted, slips_of};
 ghost use Rattle.rx_race.specs.Publishing.{may_publish};
 ghost use Rattle.rx_race.specs.Races.{standing_of};
-ghost use Rattle.rx_race.specs.Slips.{is_live, unused_slips};
+ghost use Rattle.rx_race.specs.Slips.{is_live, offered, seen_in, told_in, unused_slips};
 ghost use Rattle.rx_race.specs.Standings.{in_plan, is_turn};
 ghost use Rattle.rx_world.specs.declared.attempts.Attempt.TheVariants.{Local as local_attempt, Remote as remote_attempt};
 ghost use Rattle.rx_world.specs.Decisions.{IsSettled};
@@ -44,6 +44,16 @@ fn is_settled(decision: Decision) -> bool
     match decision {
         Decision::By(_) | Decision::Cancelled => true,
         Decision::Undecided | Decision::Nothing => false,
+    }
+}
+
+/// What becomes of a live pass whose offer was told this.
+fn offered(slip: Slip, verdict: Verdict) -> Slip
+    ensures { result ≡ offered slip verdict }
+{
+    match slip {
+        Slip::Stopped(decision) | Slip::Yielded(decision) => Slip::Yielded(decision),
+        Slip::Unused | Slip::Refused | Slip::Live | Slip::Told(_) => Slip::Told(verdict),
     }
 }
 
@@ -110,13 +120,13 @@ impl<K: Contest> Held<K> {
         requires live { is_live ticket.old.slip ≡ true }
         ensures some { IfSome result (λ decision. IsSettled decision) }
         ensures stopped { IfSome result (λ decision.
-            ticket.new ≡ record { seat = of_attempt attempt; slip = stopped }) }
+            ticket.new ≡ record { seat = of_attempt attempt; slip = stopped decision }) }
         ensures none { IfNone result (ticket.new ≡ ticket.old) }
     {
         self.desk.check(ticket);
         let decision = self.race.decision();
         if is_settled(decision) {
-            self.desk.write(ticket, Slip::Stopped);
+            self.desk.write(ticket, Slip::Stopped(decision));
             return Some(decision);
         }
         None
@@ -131,14 +141,17 @@ impl<K: Contest> Held<K> {
     ) -> Verdict
         requires seat { ticket.old.seat ≡ of_attempt attempt }
         requires live { is_live ticket.old.slip ≡ true }
-        ensures ticket { ticket.new ≡ record { seat = of_attempt attempt; slip = told result } }
+        ensures seat { ticket.new.seat ≡ of_attempt attempt }
+        ensures told { told_in ticket.new.slip ≡ Some result }
+        ensures seen { seen_in ticket.new.slip ≡ seen_in ticket.old.slip }
+        ensures late { IfSome (seen_in ticket.old.slip) (λ decision. result ≡ late) }
         ensures won { result ≡ won → may_publish K.plan attempt end.now ≡ true }
         ensures noted { result ≡ noted → may_publish K.plan attempt end.now ≡ false }
-        ensures late { ticket.old.slip ≡ stopped → result ≡ late }
     {
         self.desk.check(ticket);
         let verdict = self.race.offer(attempt, end);
-        self.desk.write(ticket, Slip::Told(verdict));
+        let slip = offered(ticket.slip(), verdict);
+        self.desk.write(ticket, slip);
         verdict
     }
 

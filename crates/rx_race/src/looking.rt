@@ -1,9 +1,10 @@
 //! A running attempt that looks at its own race.
 
-ghost use Rattle.std.specs.Prelude.{◌≡◌, IfSome, None, false, true};
+ghost use Rattle.std.specs.Prelude.{◌≡◌, IfSome, None, Some, false, true};
 ghost use Rattle.rx_race.specs.declared.events.Verdict.TheVariants.{Late as late, Noted as noted, Won as won};
 ghost use Rattle.rx_race.specs.declared.slips.Seat.TheVariants.{Of as of_attempt};
 ghost use Rattle.rx_race.specs.Publishing.{may_publish};
+ghost use Rattle.rx_race.specs.Slips.{seen_in};
 
 use crate::contests::Contest;
 use crate::passes::{Live, Mark};
@@ -53,6 +54,8 @@ impl<'a, K: Contest, R: Wait> Looking<'a, K, R> {
             → may_publish K.plan self.entry.attempt end.now ≡ true }
         ensures noted { result.verdict ≡ noted
             → may_publish K.plan self.entry.attempt end.now ≡ false }
+        ensures seen { IfSome self.entry.seen (λ decision.
+            seen_in result.ticket.slip ≡ Some decision) }
         ensures late { IfSome self.entry.seen (λ decision. result.verdict ≡ late) }
     {
         let Looking {

@@ -1,10 +1,10 @@
 //! The passes of a shared race. Each is the one right to a call, which consumes it, and what the
 //! call hands back says what became of it.
 
-ghost use Rattle.std.specs.Prelude.{◌≡◌, true};
+ghost use Rattle.std.specs.Prelude.{◌≡◌, Some, true};
 ghost use Rattle.rx_race.specs.declared.slips.Seat.TheVariants.{Canceller as canceller, Of as of_attempt};
-ghost use Rattle.rx_race.specs.declared.slips.Slip.TheVariants.{Told as told, Unused as unused};
-ghost use Rattle.rx_race.specs.Slips.{is_live, is_unstarted};
+ghost use Rattle.rx_race.specs.declared.slips.Slip.TheVariants.{Unused as unused};
+ghost use Rattle.rx_race.specs.Slips.{is_live, is_unstarted, told_in};
 ghost use Rattle.rx_race.specs.Standings.{in_plan};
 
 use crate::Verdict;
@@ -54,5 +54,5 @@ pub struct CancelPass<K: Contest> {
 pub struct Mark<K: Contest> {
     pub verdict: Verdict,
     pub ticket: Ticket<K>,
-    pub ghost slip: { ticket.slip ≡ told verdict },
+    pub ghost slip: { told_in ticket.slip ≡ Some verdict },
 }

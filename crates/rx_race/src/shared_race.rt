@@ -3,10 +3,10 @@
 ghost use Rattle.std.specs.Prelude.{◌≡◌, ◌≢◌, [], false, true, IfErr, IfNone, IfOk, IfSome};
 ghost use Rattle.rx_race.specs.declared.events.Verdict.TheVariants.{Late as late, Noted as noted, Won as won};
 ghost use Rattle.rx_race.specs.declared.slips.Seat.TheVariants.{Canceller as canceller, Of as of_attempt};
-ghost use Rattle.rx_race.specs.declared.slips.Slip.TheVariants.{Refused as refused, Stopped as stopped};
+ghost use Rattle.rx_race.specs.declared.slips.Slip.TheVariants.{Refused as refused, Stopped as stopped, Told as told};
 ghost use Rattle.rx_race.specs.Locked.{AreTold, falls_back, slips_of};
 ghost use Rattle.rx_race.specs.Publishing.{may_publish};
-ghost use Rattle.rx_race.specs.Slips.{AreBlank};
+ghost use Rattle.rx_race.specs.Slips.{AreBlank, seen_in};
 ghost use Rattle.rx_race.specs.Standings.{in_plan};
 ghost use Rattle.rx_world.specs.declared.attempts.Attempt.TheVariants.{Local as local_attempt, Remote as remote_attempt};
 ghost use Rattle.rx_world.specs.Decisions.{IsSettled};
@@ -117,7 +117,7 @@ impl<K: Contest> SharedRace<K> {
     pub fn look(&self, rt: &impl Wait, live: &mut Live<K>) -> Option<Decision>
         ensures attempt { live.new.attempt ≡ live.old.attempt }
         ensures some { IfSome result (λ decision. IsSettled decision) }
-        ensures stopped { IfSome result (λ decision. live.new.ticket.slip ≡ stopped) }
+        ensures stopped { IfSome result (λ decision. live.new.ticket.slip ≡ stopped decision) }
         ensures none { IfNone result (live.new.ticket ≡ live.old.ticket) }
     {
         let attempt = live.attempt;
@@ -130,7 +130,8 @@ impl<K: Contest> SharedRace<K> {
         ensures seat { result.ticket.seat ≡ of_attempt live.attempt }
         ensures won { result.verdict ≡ won → may_publish K.plan live.attempt end.now ≡ true }
         ensures noted { result.verdict ≡ noted → may_publish K.plan live.attempt end.now ≡ false }
-        ensures late { live.ticket.slip ≡ stopped → result.verdict ≡ late }
+        ensures seen { seen_in result.ticket.slip ≡ seen_in live.ticket.slip }
+        ensures late { IfSome (seen_in live.ticket.slip) (λ decision. result.verdict ≡ late) }
     {
         let Live { attempt, ticket } = live;
         let mut ticket = ticket;
@@ -143,6 +144,7 @@ impl<K: Contest> SharedRace<K> {
     /// Cancels. Won, or Late where the race was decided.
     pub fn cancel(&self, rt: &impl Wait, pass: CancelPass<K>) -> Mark<K>
         ensures seat { result.ticket.seat ≡ canceller }
+        ensures told { result.ticket.slip ≡ told result.verdict }
         ensures verdict { result.verdict ≢ noted }
     {
         let CancelPass { ticket } = pass;

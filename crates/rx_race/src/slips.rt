@@ -1,7 +1,7 @@
 //! The passes of a shared race, and what became of each.
 
 use crate::Verdict;
-use rx_world::Attempt;
+use rx_world::{Attempt, Decision};
 
 /// Whose a pass is.
 #[derive(Clone, Copy, Debug, PartialEq, Eq)]
@@ -21,8 +21,10 @@ pub enum Slip {
     Refused,
     /// Its attempt runs.
     Live,
-    /// Its attempt runs, and has seen the race decided for an attempt, or cancelled.
-    Stopped,
-    /// It was used up, and this was told.
+    /// Its attempt runs, and has seen this decision: for an attempt, or a cancel.
+    Stopped(Decision),
+    /// Its attempt had seen this decision, and its offer came late.
+    Yielded(Decision),
+    /// It was used up without a decision seen, and this was told.
     Told(Verdict),
 }
