@@ -1,13 +1,14 @@
 -- Which sessions of a run were asked to end it.
-use Rattle.std.proofs.Common.{◌≡◌, ◌⊎◌, ◌≤◌, ◌∙◌, ℕ, length, Bool, false, List, [], ◌∷◌, ◌++◌, Option, ap, arith, inl, inr, refl}
-use Rattle.std.specs.Prelude.{◌≢◌}
-use Rattle.std.proofs.lemmas.Bool.{false_from_ne_true}
+use Rattle.std.proofs.Common.{◌≡◌, ◌⊎◌, ◌+◌, ◌≤◌, ◌∙◌, ℕ, length, Bool, true, false, List, [], ◌∷◌, ◌++◌, Option, arith, inl, inr, refl, sym}
+use Rattle.std.specs.Prelude.{◌≢◌, None, Some}
 use Rattle.std.proofs.lemmas.List.Folds.{list_any-append}
+use Rattle.rx_engine.specs.declared.gate.Left.{Left}
+use Rattle.rx_engine.specs.declared.gate.Left.TheVariants.{Ended, Lost}
 use Rattle.rx_engine.specs.declared.proxy.Stop.{Stop}
 use Rattle.rx_engine.specs.declared.proxy.Stop.TheVariants as stops
 use Rattle.rx_engine.specs.declared.transcripts.Transcript.{Transcript}
-use Rattle.rx_engine.specs.Gates.{IsGate, IsTold}
-use Rattle.rx_engine.specs.Proxy.{EndsWhereAsked, HasServed, HasServingStatus, IsEndedBy, IsServingStop, asks_to_end, is_asked_to_end, serving_status, status_of}
+use Rattle.rx_engine.specs.Gates.{IsGate, serving_status}
+use Rattle.rx_engine.specs.Proxy.{EndsWhereAsked, HasServed, HasServingStatus, IsEndedBy, asks_to_end, is_asked_to_end, status_of}
 
 -- one session more, which wasn't asked
 pub unasked-more : (ts : List Transcript) (t : Transcript) → is_asked_to_end ts ≡ false → asks_to_end t.read ≡ false → is_asked_to_end (ts ++ t ∷ []) ≡ false
@@ -15,37 +16,38 @@ unasked-more ts t h k = list_any-append (λ (x : Transcript). asks_to_end x.read
 
 -- ---- in threads
 
-module _ {F : Type 0} (faults given : F → ℕ) (over : F → Bool) (first_faults first_given : ℕ) (front : F) (left : Option Stop) (taken : ℕ)
-    (gate : IsGate faults given over first_faults first_given (record { front = front; stop = left; taken = taken }))
-    (ts : List Transcript) (given_up : Bool) (told : Stop) (is : IsTold left given_up (is_asked_to_end ts) told) (status : ℕ)
-    (status_is : status ≡ serving_status told) where
-  stopped-by : (stop : Stop) → told ≡ stop → IsServingStop (over front) first_faults (faults front) ts stop
-  stopped-by stops.Ended e = gate.ended (is.ended e)
-  stopped-by stops.FrontLost e = gate.lost (is.lost e)
-  stopped-by stops.NoMemory e = tt
-  stopped-by stops.ShutDown e = is.asked_is e
-  stopped-by stops.Spent e = is.unspent e
+module _ {F : Type 0} (faults given : F → ℕ) (over : F → Bool) (first_faults first_given : ℕ) (front : F) (taken : ℕ) (ts : List Transcript) where
+  abbrev At : Option Left → Type 0
+  At left = IsGate faults given over first_faults first_given (record { front = front; left = left; taken = taken })
 
-  pub status-told : HasServingStatus (over front) first_faults (faults front) status ts
-  status-told = record { stop = told; stopped = stopped-by told refl; status_is = status_is }
+  starved : HasServingStatus (over front) first_faults (faults front) 4 ts
+  starved = record { ended = λ e. cc; lost = λ e. cc; no_other = inr (inr refl) }
 
-  module _ (concluded : ℕ) (even : taken ≡ concluded) (within : length ts ≤ concluded) (each : given_up ≡ false → length ts ≡ concluded) where
-    status-of : (stop : Stop) → told ≡ stop → status ≡ serving_status stop
-    status-of stop e = status_is ∙ ap serving_status e
+  pub status-told : (left : Option Left) (given_up asked : Bool) → At left → asked ≡ is_asked_to_end ts
+      → HasServingStatus (over front) first_faults (faults front) (serving_status left given_up asked) ts
+  status-told (Some Lost) given_up asked gate is = record { ended = λ e. cc; lost = λ e. gate.lost refl; no_other = inr (inl refl) }
+  status-told (Some Ended) true asked gate is = starved
+  status-told (Some Ended) false asked gate is = record { ended = λ e. inl (gate.ended refl); lost = λ e. cc; no_other = inl refl }
+  status-told None true asked gate is = starved
+  status-told None false true gate is = record { ended = λ e. inr (sym is); lost = λ e. cc; no_other = inl refl }
+  status-told None false false gate is = starved
 
-    failed : (told ≡ stops.FrontLost) ⊎ (told ≡ stops.NoMemory) → status ≢ 3 → status ≢ 4 → ⊥
-    failed (inl e) front_is_well has_memory = front_is_well (status-of stops.FrontLost e)
-    failed (inr e) front_is_well has_memory = has_memory (status-of stops.NoMemory e)
-
-    -- each desk that was taken has its transcript, but where the front failed or memory ran out
-    pub served-told : HasServed first_given (given front) status ts
-    served-told = record {
+  module _ (concluded : ℕ) (even : taken ≡ concluded) (within : length ts ≤ concluded) where
+    -- as many transcripts as desks that were taken, but where the front failed or memory ran out
+    pub served-told : (left : Option Left) (given_up asked : Bool) → At left → (given_up ≡ false → length ts ≡ concluded)
+        → HasServed first_given (given front) (serving_status left given_up asked) ts
+    served-told left given_up asked gate each = record {
       within = omega (arith, gate.within, even, within);
-      each = λ front_is_well has_memory.
-          let all = gate.each (λ lost. front_is_well (status-of stops.FrontLost (is.lost_is lost))) in
-          let kept = each (false_from_ne_true given_up (λ up. failed (is.given_up_is up) front_is_well has_memory)) in
-          omega (arith, all, even, kept);
-    }
+      each = λ front_is_well has_memory. as-many left given_up asked gate each front_is_well has_memory;
+    } where
+      as-many : (left : Option Left) (given_up asked : Bool) → At left → (given_up ≡ false → length ts ≡ concluded)
+          → serving_status left given_up asked ≢ 3 → serving_status left given_up asked ≢ 4 → first_given + length ts ≡ given front
+      as-many (Some Lost) given_up asked gate each front_is_well has_memory = absurd (front_is_well refl)
+      as-many (Some Ended) true asked gate each front_is_well has_memory = absurd (has_memory refl)
+      as-many (Some Ended) false asked gate each front_is_well has_memory = omega (arith, gate.each (λ e. cc), even, each refl)
+      as-many None true asked gate each front_is_well has_memory = absurd (has_memory refl)
+      as-many None false true gate each front_is_well has_memory = omega (arith, gate.each (λ e. cc), even, each refl)
+      as-many None false false gate each front_is_well has_memory = absurd (has_memory refl)
 
 -- the status where a run stopped
 pub ends-by : (stop : Stop) (ts : List Transcript) → IsEndedBy stop ts → EndsWhereAsked (status_of stop ts) ts

@@ -1,39 +1,27 @@
--- The front of a run of sessions in threads.
-use Rattle.std.specs.Prelude.{◌≡◌, ◌≢◌, ◌⊎◌, ℕ, ◌+◌, ◌≤◌, Bool, true, Option, None, Some}
+-- The front of a run of sessions in threads, and the status of the run.
+use Rattle.std.specs.Prelude.{◌≡◌, ◌≢◌, ℕ, ◌+◌, ◌≤◌, Bool, true, Option, None, Some, if◌then◌else◌}
 use Rattle.rx_world.specs.Causes.{Rose}
-use Rattle.rx_engine.specs.declared.proxy.Stop.{Stop}
-use Rattle.rx_engine.specs.declared.proxy.Stop.TheVariants.{Ended, FrontLost, NoMemory, ShutDown, Spent}
+use Rattle.rx_engine.specs.declared.gate.Left.{Left}
+use Rattle.rx_engine.specs.declared.gate.Left.TheVariants.{Ended, Lost}
 
--- a front, why it isn't asked any more, and how many desks were taken from it
+-- a front, why it can't be asked any more, and how many desks were taken from it
 pub record Entrance (F : Type 0) : Type 0 where
   pub front : F
-  pub stop : Option Stop
+  pub left : Option Left
   pub taken : ℕ
 
 -- The front's count of faults didn't fall since it stood at first, and the front is called lost only where that count rose. Each desk that it
 -- gave was taken, but where it is lost. It is called ended only where it said so.
 pub record IsGate {F : Type 0} (faults given : F → ℕ) (over : F → Bool) (first_faults first_given : ℕ) (gate : Entrance F) : Type 0 where
   pub later : first_faults ≤ faults gate.front
-  pub lost : gate.stop ≡ Some FrontLost → Rose first_faults (faults gate.front)
+  pub lost : gate.left ≡ Some Lost → Rose first_faults (faults gate.front)
   pub within : first_given + gate.taken ≤ given gate.front
-  pub each : gate.stop ≢ Some FrontLost → first_given + gate.taken ≡ given gate.front
-  pub ended : gate.stop ≡ Some Ended → over gate.front ≡ true
+  pub each : gate.left ≢ Some Lost → first_given + gate.taken ≡ given gate.front
+  pub ended : gate.left ≡ Some Ended → over gate.front ≡ true
 
--- sessions close a run only for these
-abbrev pub IsClosing : Option Stop → Type 0
-IsClosing None = Unit {0}
-IsClosing (Some ShutDown) = Unit {0}
-IsClosing (Some NoMemory) = Unit {0}
-IsClosing (Some Ended) = ⊥
-IsClosing (Some FrontLost) = ⊥
-IsClosing (Some Spent) = ⊥
-
--- What is told of why a run ended, where its front was left for one cause or none, sessions were given up or not, and one was asked to end the
--- run or not.
-pub record IsTold (left : Option Stop) (given_up asked : Bool) (told : Stop) : Type 0 where
-  pub lost_is : left ≡ Some FrontLost → told ≡ FrontLost
-  pub given_up_is : given_up ≡ true → (told ≡ FrontLost) ⊎ (told ≡ NoMemory)
-  pub lost : told ≡ FrontLost → left ≡ Some FrontLost
-  pub ended : told ≡ Ended → left ≡ Some Ended
-  pub asked_is : told ≡ ShutDown → asked ≡ true
-  pub unspent : told ≢ Spent
+-- The status: 3 where the front was lost, else 4 where a session was given up. Else it is 0 where the front had ended or a session was asked to
+-- end the run; and where neither is so, there was no memory to begin with.
+abbrev pub serving_status : Option Left → Bool → Bool → ℕ
+serving_status (Some Lost) given_up asked = 3
+serving_status (Some Ended) given_up asked = if given_up then 4 else 0
+serving_status None given_up asked = if given_up then 4 else if asked then 0 else 4

@@ -10,8 +10,8 @@ use Rattle.rx_engine.specs.Pending.{IsPending}
 use Rattle.rx_engine.specs.Proxy.{Runs}
 use Rattle.rx_engine.specs.Serves.{Serves}
 
--- The board, what the sessions left that have published, in that order, how many sessions ended, and whether one was given up, which left
--- nothing.
+-- The board, what the sessions left that have published, in that order, how many sessions ended, and whether memory or numbers ran out: then one
+-- may have been given up, which left nothing.
 pub record Sessions (D Q : Type 0) : Type 0 where
   pub board : State Q
   pub transcripts : List Transcript

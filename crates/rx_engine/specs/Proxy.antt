@@ -67,14 +67,6 @@ status_of Ended ts = status_over 0 ts
 status_of ShutDown ts = status_over 0 ts
 status_of Spent ts = status_over 7 ts
 
--- the status of a run in threads, in which the streams of one session are a matter of its client alone
-abbrev pub serving_status : Stop → ℕ
-serving_status FrontLost = 3
-serving_status NoMemory = 4
-serving_status Ended = 0
-serving_status ShutDown = 0
-serving_status Spent = 7
-
 -- how many desks a run serves at most, one for each number of 32 bits
 abbrev pub most_desks : ℕ
 most_desks = 4294967295
@@ -127,21 +119,15 @@ pub record HasStatus {D : Type 0} (old new : Option (List D)) (before now status
 
 -- ---- in threads
 
--- The front said that it has no more, its count rose, a session was asked to end the run, or memory ran out.
-abbrev pub IsServingStop : Bool → ℕ → ℕ → List Transcript → Stop → Type 0
-IsServingStop over before now ts Ended = over ≡ true
-IsServingStop over before now ts FrontLost = Rose before now
-IsServingStop over before now ts Spent = ⊥
-IsServingStop over before now ts ShutDown = is_asked_to_end ts ≡ true
-IsServingStop over before now ts NoMemory = Unit {0}
-
+-- The status is 0 only where the front said that it has no more desks or a session was asked to end the run, and 3 only where the front's count
+-- rose. Else it is 4: memory ran out.
 pub record HasServingStatus (over : Bool) (before now status : ℕ) (ts : List Transcript) : Type 0 where
-  pub stop : Stop
-  pub stopped : IsServingStop over before now ts stop
-  pub status_is : status ≡ serving_status stop
+  pub ended : status ≡ 0 → (over ≡ true) ⊎ (is_asked_to_end ts ≡ true)
+  pub lost : status ≡ 3 → Rose before now
+  pub no_other : (status ≡ 0) ⊎ ((status ≡ 3) ⊎ (status ≡ 4))
 
--- A front gave so many desks before and after a run. Each transcript is that of one of them, and each of them has its transcript, but where the
--- front failed or memory ran out.
+-- A front gave so many desks before a run and after it. There are no more transcripts than desks that it gave meanwhile, and as many, but where
+-- the front failed or memory ran out.
 pub record HasServed (before now status : ℕ) (ts : List Transcript) : Type 0 where
   pub within : before + length ts ≤ now
   pub each : status ≢ 3 → status ≢ 4 → before + length ts ≡ now

@@ -1,24 +1,30 @@
-//! The front of a run of sessions in threads, which stands behind a lock, and why no more of its desks
-//! are asked for.
+//! The front of a run of sessions in threads, which stands behind a lock, and how it was left.
 
 ghost use Rattle.std.specs.Prelude.{◌≡◌, ◌<◌, MatchOption};
 ghost use Rattle.rx_engine.specs.Accounts.{one_taken};
 ghost use Rattle.rx_engine.specs.Gates.{IsGate};
 
 use crate::accounts::Account;
-use crate::closing::Closing;
 use crate::desk::Front;
-use crate::proxy::Stop;
 use crate::runs::{Run, Taken};
 use rx_world::World;
 use std::marker::{Model, PhantomData};
 use std::sync::ledger::Book;
 
-/// A front, why it isn't asked any more, and how many desks were taken from it.
+/// Why a front can't be asked any more.
+#[derive(Clone, Copy, Debug, PartialEq, Eq)]
+pub(crate) enum Left {
+    /// It said that it has no more desks.
+    Ended,
+    /// It failed.
+    Lost,
+}
+
+/// A front, why it can't be asked any more, and how many desks were taken from it.
 #[derive(Drop)]
 pub(crate) struct Gate<W: World, F: Front<W> + Drop, K: Run> {
     front: F,
-    stop: Option<Stop>,
+    left: Option<Left>,
     taken: Book<Taken<K>>,
     world: PhantomData<W>,
 }
@@ -28,10 +34,10 @@ impl<W: World, F: Front<W> + Drop, K: Run> Model for Gate<W, F, K> {
 
     ghost Value = { Entrance F };
 
-    ghost view = { λ g. record { front = g.front; stop = g.stop; taken = g.taken.total } };
+    ghost view = { λ g. record { front = g.front; left = g.left; taken = g.taken.total } };
 
     ghost invariant = { λ g. IsGate F.faults F.given F.over K.faults K.given
-        (record { front = g.front; stop = g.stop; taken = g.taken.total }) };
+        (record { front = g.front; left = g.left; taken = g.taken.total }) };
 }
 
 impl<W: World, F: Front<W> + Drop, K: Run> Gate<W, F, K> {
@@ -43,23 +49,19 @@ impl<W: World, F: Front<W> + Drop, K: Run> Gate<W, F, K> {
     {
         Gate {
             front,
-            stop: None,
+            left: None,
             taken,
             world: PhantomData,
         }
     }
 
-    /// The next desk, unless no more are asked for. It counts as taken by the account.
-    pub(crate) fn next(&mut self, closing: Closing, account: &mut Account<K>) -> Option<F::D>
+    /// The next desk, unless the run was closed. It counts as taken by the account.
+    pub(crate) fn next(&mut self, is_closed: bool, account: &mut Account<K>) -> Option<F::D>
         requires { 0 < account.old.parts }
         ensures { MatchOption result (account.new ≡ account.old)
             (λ desk. account.new ≡ one_taken account.old) }
     {
-        if self.stop.is_some() {
-            return None;
-        }
-        if let Some(stop) = closing.stop() {
-            self.stop = Some(stop);
+        if is_closed || self.left.is_some() {
             return None;
         }
         match self.front.next() {
@@ -68,34 +70,34 @@ impl<W: World, F: Front<W> + Drop, K: Run> Gate<W, F, K> {
                 Some(desk)
             }
             Ok(None) => {
-                self.stop = Some(Stop::Ended);
+                self.left = Some(Left::Ended);
                 None
             }
             Err(_) => {
-                self.stop = Some(Stop::FrontLost);
+                self.left = Some(Left::Lost);
                 None
             }
         }
     }
 
-    /// The front, and why it wasn't asked any more, with all accounts of the run.
-    pub(crate) fn into_parts(self, account: &mut Account<K>) -> (F, Option<Stop>)
+    /// The front, and why it can't be asked any more, with all accounts of the run.
+    pub(crate) fn into_parts(self, account: &mut Account<K>) -> (F, Option<Left>)
         requires { account.old.parts ≡ K.pieces }
         ensures account { account.new ≡ account.old }
         ensures gate { IsGate F.faults F.given F.over K.faults K.given (record {
           front = result.0;
-          stop = result.1;
+          left = result.1;
           taken = account.old.taken;
         }) }
     {
         let Gate {
             front,
-            stop,
+            left,
             taken,
             world: _,
         } = self;
         let mut taken = taken;
         account.all_taken(&mut taken);
-        (front, stop)
+        (front, left)
     }
 }

@@ -1,7 +1,7 @@
 //! What a run of sessions in threads keeps of them, which stands behind a lock: the board, and of each
 //! session that ended its transcript and its desk, in the order in which they published.
 
-ghost use Rattle.std.specs.Prelude.{◌≡◌, ◌<◌, ◌≤◌, IsTrue, List, false, length, vec_capacity};
+ghost use Rattle.std.specs.Prelude.{◌≡◌, ◌+◌, ◌<◌, ◌≤◌, IsTrue, List, false, length, vec_capacity};
 ghost use Rattle.rx_board.specs.Journal.{HoldsLast, IsKeptBy, count_short};
 ghost use Rattle.rx_world.specs.declared.outcomes.FileOut.{FileOut};
 ghost use Rattle.rx_engine.specs.Accounts.{one_concluded};
@@ -27,17 +27,18 @@ use std::sync::ledger::Book;
 /// How many sessions a run may have: each has a number of 32 bits, and one of these is left.
 const MOST_SESSIONS: usize = 4_294_967_294;
 
-/// Whether there is room, which may have to be made, for one more in each of both lists.
-fn has_room<T, U>(first: &mut Vec<T>, second: &mut Vec<U>) -> bool
+/// Whether there is room, which may have to be made, for so many more in each of both lists.
+fn has_room<T, U>(first: &mut Vec<T>, second: &mut Vec<U>, more: u16) -> bool
     ensures items { (first.new.items ≡ first.old.items) × (second.new.items ≡ second.old.items) }
-    ensures room { IsTrue result → (length first.new.items < vec_capacity first.new)
-        × (length second.new.items < vec_capacity second.new) }
+    ensures room { IsTrue result → (length first.new.items + more ≤ vec_capacity first.new)
+        × (length second.new.items + more ≤ vec_capacity second.new) }
 {
-    first.reserve(1).is_ok() && second.reserve(1).is_ok()
+    let more = usize::from(more);
+    first.reserve(more).is_ok() && second.reserve(more).is_ok()
 }
 
-/// The board, what the sessions left that have published, how many ended, and whether one was given up
-/// for want of memory or of numbers.
+/// The board, what the sessions left that have published, how many ended, and whether memory or
+/// numbers ran out, so that one may have been given up.
 #[derive(Drop)]
 pub(crate) struct Kept<W: World, D: Desk<W> + Drop, P: Place, K: Run> {
     board: Board<P>,
@@ -93,6 +94,16 @@ impl<W: World, D: Desk<W> + Drop, P: Place, K: Run> Kept<W, D, P, K> {
         }
     }
 
+    /// Makes room for what so many sessions more leave, so that none of them is given up. False where
+    /// there is no memory for it.
+    pub(crate) fn make_room(&mut self, sessions: u16) -> bool {
+        if has_room(&mut self.transcripts, &mut self.desks, sessions) {
+            return true;
+        }
+        self.given_up = true;
+        false
+    }
+
     /// Publishes and replies for a session that has made its attempts, and keeps what it did. False
     /// where that can't be kept, for want of memory or of numbers; then the session is given up:
     /// nothing is published, and nothing is replied. It counts as concluded by the account.
@@ -113,7 +124,7 @@ impl<W: World, D: Desk<W> + Drop, P: Place, K: Run> Kept<W, D, P, K> {
     {
         account.conclude(&mut self.concluded);
         let served = self.transcripts.len();
-        if served >= MOST_SESSIONS || !has_room(&mut self.transcripts, &mut self.desks) {
+        if served >= MOST_SESSIONS || !has_room(&mut self.transcripts, &mut self.desks, 1) {
             self.given_up = true;
             drop(D::unite(parts));
             return false;
@@ -127,7 +138,7 @@ impl<W: World, D: Desk<W> + Drop, P: Place, K: Run> Kept<W, D, P, K> {
         true
     }
 
-    /// Whether a session was given up.
+    /// Whether memory or numbers ran out.
     pub(crate) fn has_given_up(&self) -> bool
         ensures { result ≡ self.now.given_up }
     {

@@ -5,7 +5,7 @@ ghost use Rattle.std.specs.List.{list_any};
 ghost use Rattle.rx_board.specs.Journal.{HoldsLast, IsKeptBy, count_short};
 ghost use Rattle.rx_engine.specs.CoreRuns.{IsCoreRun, rules_of};
 ghost use Rattle.rx_engine.specs.Meanings.{meanings};
-ghost use Rattle.rx_engine.specs.Proxy.{EndsWhereAsked, HasStatus, IsEndedBy, IsLegal, IsStop, Runs, is_sink_lost, is_source_lost, serving_status, status_of, status_over};
+ghost use Rattle.rx_engine.specs.Proxy.{EndsWhereAsked, HasStatus, IsEndedBy, IsLegal, IsStop, Runs, is_sink_lost, is_source_lost, status_of, status_over};
 ghost use Rattle.rx_engine.specs.Serves.{RunsDone, Serves};
 ghost use Rattle.rx_engine.specs.Words.{root_in};
 ghost use Rattle.rx_world.specs.declared.outcomes.FileOut.{FileOut};
@@ -25,7 +25,7 @@ use std::thread::Threads;
 
 /// Why no more desks are asked for.
 #[derive(Clone, Copy, Debug, PartialEq, Eq)]
-pub(crate) enum Stop {
+enum Stop {
     /// The front has no more.
     Ended,
     /// The front failed.
@@ -145,7 +145,7 @@ fn status_over(otherwise: u8, transcripts: &[Transcript]) -> u8
     otherwise
 }
 
-pub(crate) fn status_of(stop: Stop, transcripts: &[Transcript]) -> u8
+fn status_of(stop: Stop, transcripts: &[Transcript]) -> u8
     ensures { result ≡ status_of stop transcripts.now }
 {
     match stop {
@@ -153,18 +153,6 @@ pub(crate) fn status_of(stop: Stop, transcripts: &[Transcript]) -> u8
         Stop::NoMemory => 4,
         Stop::Ended | Stop::ShutDown => status_over(0, transcripts),
         Stop::Spent => status_over(7, transcripts),
-    }
-}
-
-/// The status of a run in threads.
-pub(crate) fn serving_status(stop: Stop) -> u8
-    ensures { result ≡ serving_status stop }
-{
-    match stop {
-        Stop::FrontLost => 3,
-        Stop::NoMemory => 4,
-        Stop::Ended | Stop::ShutDown => 0,
-        Stop::Spent => 7,
     }
 }
 

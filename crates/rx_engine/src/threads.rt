@@ -5,23 +5,22 @@ ghost use Rattle.std.specs.Prelude.{◌≡◌, ◌<◌, ◌≤◌, ◌↔◌, �
 ghost use Rattle.rx_board.specs.Journal.{HoldsLast, IsKeptBy, count_short};
 ghost use Rattle.rx_engine.specs.Accounts.{IsEven, one_taken};
 ghost use Rattle.rx_engine.specs.CoreRuns.{IsCoreRun, rules_of};
-ghost use Rattle.rx_engine.specs.Gates.{IsTold};
 ghost use Rattle.rx_engine.specs.Meanings.{meanings};
-ghost use Rattle.rx_engine.specs.Proxy.{HasServed, HasServingStatus, IsLegal, is_asked_to_end};
+ghost use Rattle.rx_engine.specs.Proxy.{HasServed, HasServingStatus, IsLegal};
 ghost use Rattle.rx_engine.specs.Serves.{RunsDone};
 ghost use Rattle.rx_engine.specs.Words.{root_in};
 ghost use Rattle.rx_world.specs.declared.outcomes.FileOut.{FileOut};
 
 use crate::accounts::{Account, Blanks, open};
 use crate::attempts::Means;
-use crate::closing::Closing;
 use crate::desk::{Desk, Front, Log};
 use crate::gate::Gate;
 use crate::kept::Kept;
 use crate::pending::undertake;
-use crate::proxy::{Ran, Stop, serving_status};
+use crate::proxy::Ran;
 use crate::runs::Run;
-use crate::transcripts::{Transcript, asks_to_end};
+use crate::serving::{any_asked, serving_status};
+use crate::transcripts::asks_to_end;
 use crate::words::{at_once, root_in};
 use rx_blobs::{PRESENCE_LIMIT, Presence};
 use rx_board::JOURNAL_LIMIT;
@@ -34,27 +33,32 @@ use std::sync::ledger::Blank;
 use std::sync::{Mutex, Wait};
 use std::thread::{Threads, join};
 
-/// The served root, as requests name it, and how many sessions and local attempts run at once.
-#[derive(Clone, Copy)]
-struct Root<'a> {
-    path: &'a str,
+/// What a run serves.
+#[derive(Drop)]
+struct Service<'a, L> {
+    /// The served root, as requests name it.
+    root: &'a str,
+    /// How many sessions run at once.
     sessions: u16,
+    /// How many local attempts run at once.
     slots: u32,
+    /// Who hears what each session did.
+    log: &'a L,
 }
 
 /// What all sessions of a run share, beside the slots for local attempts.
 #[derive(Drop)]
 struct Common<'a, W: World, F: Front<W> + Drop, P: Place, K: Run, L> {
-    root: Root<'a>,
+    service: Service<'a, L>,
     /// Digests of the source trees' files.
     cache: &'a DigestCache<W>,
     /// Which blobs the farm is known to have.
     presence: &'a Presence,
-    /// Whether more desks are asked for.
-    closing: &'a Mutex<Closing>,
     gate: &'a Mutex<Gate<W, F, K>>,
+    /// Whether no more desks are asked for. It has a lock of its own, since that of the gate is held as
+    /// long as a client is waited for.
+    closed: &'a Mutex<bool>,
     kept: &'a Mutex<Kept<W, F::D, P, K>>,
-    log: &'a L,
 }
 
 /// Serves the desks of a front in threads, so many at a time as the words let, and hands everything
@@ -93,7 +97,8 @@ pub fn run_in_threads<
     ensures last { HoldsLast (P.opening place) (P.contents result.place) result.journal.items }
     // There are at most as many short entries as the place had faults.
     ensures short { count_short result.journal.items ≤ P.faults result.place }
-    // Each desk that left the front has its transcript, but where the front failed or memory ran out.
+    // There are as many transcripts as desks that left the front, but where the front failed or memory
+    // ran out.
     ensures served { HasServed (F.given front) (F.given result.front)
         result.status result.transcripts.items }
     // Each status has its cause: 0 comes only where the front said that it has no more desks, or where
@@ -113,22 +118,14 @@ pub fn run_in_threads<
         };
     };
     let (sessions, slots) = at_once(words);
-    let begin = Begin {
-        root: Root {
-            path: root,
-            sessions,
-            slots,
-        },
-        accounts: Blanks::for_threads(sessions),
+    let service = Service {
+        root,
+        sessions,
+        slots,
+        log,
     };
-    serve_front::<W, F, P, Brand, L, R>(rt, alloc, begin, front, place, log)
-}
-
-/// A root, and the ledgers of a run below it before it is known which run it is.
-#[derive(Drop)]
-struct Begin<'a> {
-    root: Root<'a>,
-    accounts: Blanks,
+    let accounts = Blanks::for_threads(sessions);
+    serve_front::<W, F, P, Brand, L, R>(rt, alloc, service, accounts, front, place)
 }
 
 /// Serves the desks of a front below a root.
@@ -139,21 +136,27 @@ fn serve_front<
     K: Run + Send + Sync,
     L: Log + Sync,
     R: Threads + Wait + Sync,
->(rt: &R, alloc: Global, begin: Begin<'_>, front: F, place: P, log: &L) -> Ran<W, F, P>
+>(
+    rt: &R,
+    alloc: Global,
+    service: Service<'_, L>,
+    accounts: Blanks,
+    front: F,
+    place: P,
+) -> Ran<W, F, P>
     requires contents { P.contents place ≡ P.opening place }
     requires quiet { P.faults place ≡ 0 }
-    requires root { begin.root.path.now ≡ K.root }
+    requires root { service.root.now ≡ K.root }
     requires opening { P.opening place ≡ K.opening }
     requires faults { F.faults front ≡ K.faults }
     requires given { F.given front ≡ K.given }
-    requires taken { (begin.accounts.taken.name ≡ K.taken)
-        × (begin.accounts.taken.parts ≡ K.pieces) }
-    requires concluded { (begin.accounts.concluded.name ≡ K.concluded)
-        × (begin.accounts.concluded.parts ≡ K.pieces) }
-    requires pieces { K.pieces ≡ begin.root.sessions + 1 }
+    requires taken { (accounts.taken.name ≡ K.taken) × (accounts.taken.parts ≡ K.pieces) }
+    requires concluded { (accounts.concluded.name ≡ K.concluded)
+        × (accounts.concluded.parts ≡ K.pieces) }
+    requires pieces { K.pieces ≡ service.sessions + 1 }
     ensures sessions { RunsDone None None
         (meanings W.World F.D.I.Source F.D.O.Sink F.D.T.Sources F.D.L.Sources F.D.B.BenchMaker
-        F.D.B.B.Bench F.D.R.Sources F.D.C.Caller) F.D.parts begin.entry.root.path.now
+        F.D.B.B.Bench F.D.R.Sources F.D.C.Caller) F.D.parts service.entry.root.now
         JOURNAL_LIMIT result.journal.items (P.faults result.place)
         result.desks.items result.transcripts.items }
     ensures core { (files : List FileOut) → IsCoreRun (rules_of
@@ -170,24 +173,22 @@ fn serve_front<
         (F.faults front) (F.faults result.front)
         result.status result.transcripts.items }
 {
-    let Begin { root, accounts } = begin;
     let (taken, concluded, account) = open::<K>(accounts);
     let gate = Mutex::new(Gate::<W, F, K>::new(front, taken));
-    let closing = Mutex::new(Closing::Open);
+    let closed = Mutex::new(false);
     let kept = Mutex::new(Kept::<W, F::D, P, K>::new(alloc, place, concluded));
     let mut account = match DigestCache::<W>::new(alloc, DIGEST_CACHE_LIMIT) {
         Ok(cache) => {
             let presence = Presence::new(alloc, PRESENCE_LIMIT);
+            let blank = blank_for(service.slots);
             let common = Common {
-                root,
+                service,
                 cache: &cache,
                 presence: &presence,
-                closing: &closing,
                 gate: &gate,
+                closed: &closed,
                 kept: &kept,
-                log,
             };
-            let blank = blank_for(root.slots);
             share_slots::<W, F, P, K, Brand, L, R>(rt, alloc, &common, blank, account)
         }
         Err(_) => account,
@@ -196,34 +197,13 @@ fn serve_front<
     let kept = kept.into_inner();
     let given_up = kept.has_given_up();
     let (place, journal, transcripts, desks) = kept.into_parts(&mut account);
-    let stop = told_stop(left, given_up, any_asked(&transcripts));
     Ran {
-        status: serving_status(stop),
+        status: serving_status(left, given_up, any_asked(&transcripts)),
         front,
         place,
         journal,
         transcripts,
         desks,
-    }
-}
-
-/// Whether a session was asked to end the run.
-fn any_asked(transcripts: &[Transcript]) -> bool
-    ensures { result ≡ is_asked_to_end transcripts.now }
-{
-    transcripts.iter().any(|t| asks_to_end(t.read.as_slice()))
-}
-
-/// What is told of why a run ended.
-fn told_stop(left: Option<Stop>, given_up: bool, asked: bool) -> Stop
-    ensures { IsTold left given_up asked result }
-{
-    match left {
-        Some(Stop::FrontLost) => Stop::FrontLost,
-        _ if given_up => Stop::NoMemory,
-        _ if asked => Stop::ShutDown,
-        Some(Stop::Ended) => Stop::Ended,
-        _ => Stop::NoMemory,
     }
 }
 
@@ -243,17 +223,17 @@ fn share_slots<
     blank: Blank,
     account: Account<K>,
 ) -> Account<K>
-    requires root { common.now.root.path.now ≡ K.root }
+    requires root { common.now.service.root.now ≡ K.root }
     requires name { blank.name ≡ N.name }
     requires parts { (blank.parts ≡ N.parts) × (N.parts ≡ N.most + 1) }
-    requires slots { common.now.root.slots ≡ N.most }
-    requires account { common.now.root.sessions < account.parts }
+    requires slots { common.now.service.slots ≡ N.most }
+    requires account { common.now.service.sessions < account.parts }
     requires even { IsEven account }
     ensures parts { result.parts ≡ account.parts }
     ensures even { IsEven result }
 {
-    let slots = Slots::<N>::new(common.root.slots, blank);
-    work_all::<W, F, P, K, N, L, R>(rt, alloc, common, &slots, common.root.sessions, account)
+    let slots = Slots::<N>::new(common.service.slots, blank);
+    work_all::<W, F, P, K, N, L, R>(rt, alloc, common, &slots, common.service.sessions, account)
 }
 
 /// Has so many threads work until there are no more desks. They are halved at each step, and one half
@@ -275,7 +255,7 @@ fn work_all<
     threads: u16,
     account: Account<K>,
 ) -> Account<K>
-    requires root { common.now.root.path.now ≡ K.root }
+    requires root { common.now.service.root.now ≡ K.root }
     requires threads { threads ≤ account.parts }
     requires account { 0 < account.parts }
     requires even { IsEven account }
@@ -290,12 +270,12 @@ fn work_all<
     let mut rest = account;
     let given = rest.split(u64::from(low));
     let front = move || -> Account<K>
-        requires root { common.now.root.path.now ≡ K.root }
+        requires root { common.now.service.root.now ≡ K.root }
         requires account { (low ≤ given.parts) × (0 < low) × IsEven given }
         ensures { (result.parts ≡ given.parts) × IsEven result }
     { work_all::<W, F, P, K, N, L, R>(rt, alloc, common, slots, low, given) };
     let back = move || -> Account<K>
-        requires root { common.now.root.path.now ≡ K.root }
+        requires root { common.now.service.root.now ≡ K.root }
         requires account { (high ≤ rest.parts) × (0 < high) × IsEven rest }
         ensures { (result.parts ≡ rest.parts) × IsEven result }
     { work_all::<W, F, P, K, N, L, R>(rt, alloc, common, slots, high, rest) };
@@ -307,7 +287,7 @@ fn work_all<
 fn next_desk<W: World, F: Front<W> + Drop, K: Run, R: Wait>(
     rt: &R,
     gate: &Mutex<Gate<W, F, K>>,
-    closing: &Mutex<Closing>,
+    closed: &Mutex<bool>,
     account: &mut Account<K>,
 ) -> Option<F::D>
     requires { 0 < account.old.parts }
@@ -315,8 +295,8 @@ fn next_desk<W: World, F: Front<W> + Drop, K: Run, R: Wait>(
         (λ desk. account.new ≡ one_taken account.old) }
 {
     let mut gate = gate.lock(rt);
-    let now = *closing.lock(rt);
-    gate.next(now, account)
+    let closed = *closed.lock(rt);
+    gate.next(closed, account)
 }
 
 /// Serves one desk after the other, until there are no more. Who asks for the end of the run is told
@@ -336,7 +316,7 @@ fn work<
     slots: &Slots<N>,
     account: Account<K>,
 ) -> Account<K>
-    requires root { common.now.root.path.now ≡ K.root }
+    requires root { common.now.service.root.now ≡ K.root }
     requires account { 0 < account.parts }
     requires even { IsEven account }
     ensures parts { result.parts ≡ account.parts }
@@ -344,7 +324,12 @@ fn work<
 {
     let mut account = account;
     for _ in 0..u32::MAX {
-        let Some(desk) = next_desk(rt, common.gate, common.closing, &mut account) else {
+        // (before a client is waited for, so that none is served whose session can't be kept)
+        if !common.kept.lock(rt).make_room(common.service.sessions) {
+            *common.closed.lock(rt) = true;
+            break;
+        }
+        let Some(desk) = next_desk(rt, common.gate, common.closed, &mut account) else {
             break;
         };
         let halter = desk.halter();
@@ -354,17 +339,14 @@ fn work<
             halter: &halter,
             slots,
         };
-        let root = common.root.path;
+        let root = common.service.root;
         let (pending, parts) = undertake::<W, F::D, N, R>(rt, alloc, root, &means, desk.split());
         if asks_to_end(pending.read.as_slice()) {
-            common.closing.lock(rt).shut_down();
+            *common.closed.lock(rt) = true;
         }
-        let (kept, log) = (common.kept, common.log);
-        if !kept
-            .lock(rt)
-            .conclude(alloc, log, pending, parts, &mut account)
-        {
-            common.closing.lock(rt).give_up();
+        let mut kept = common.kept.lock(rt);
+        if !kept.conclude(alloc, common.service.log, pending, parts, &mut account) {
+            *common.closed.lock(rt) = true;
         }
     }
     account

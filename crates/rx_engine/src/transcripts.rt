@@ -32,7 +32,8 @@ pub enum Ending {
 /// What a session read, did and wrote.
 #[derive(Debug, Drop)]
 pub struct Transcript {
-    /// The session's number, from 1 on in the order in which desks leave the front.
+    /// The session's number, from 1 on: in the order in which desks leave the front or, in threads, in
+    /// the order in which sessions publish.
     pub number: u32,
     pub ending: Ending,
     /// The bytes that were read from the input.
