@@ -22,8 +22,9 @@ pub record ServesDesk {D P W B : Type 0} (m : Meanings P W B) (parts : D → P) 
   pub legal : IsLegal 1 journal transcripts
   pub status_is : HasStatus (Some (desk ∷ [])) (Some (option_to_list left)) 0 0 status transcripts
 
--- What was served of the clients that connected, by steps of the core: the entries are the journal. Each client that the listener took has its
--- transcript, but where the listener failed or memory ran out. The status has its cause, which for 0 is that a client asked for the end.
+-- What was served of the clients that connected, by steps of the core: the entries are the journal. There are as many transcripts as clients
+-- that the listener took, but where the listener failed or memory ran out. The status has its cause, which for 0 is that a client asked for the
+-- end.
 pub record ServesClients {D P W B : Type 0} (m : Meanings P W B) (parts : D → P) (root : List ℕ) (limit faults : ℕ) (before after : Accepts)
     (status : ℕ) (journal : List Entry) (handed : List D) (transcripts : List Transcript) : Type 0 where
   pub sessions : RunsDone None None m parts root limit journal faults handed transcripts

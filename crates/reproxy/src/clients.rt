@@ -6,8 +6,8 @@ use crate::desk::{Host, HostParts, parts_over};
 use crate::halts::HostHalt;
 use rx_engine::{Desk, Front, Options, Parts};
 use rx_host::{
-    Halting, Hands, HostBenches, HostFarm, HostListener, HostSources, HostWorld, PatientSink,
-    SocketSink, SocketSource, draw_seed,
+    Client, Halting, Hands, HostBenches, HostFarm, HostListener, HostSources, HostWorld,
+    PatientSink, SocketSource, draw_seed,
 };
 use rx_world::Failed;
 use std::io;
@@ -98,8 +98,8 @@ impl<'a, H: Hands + Send + Sync> Front<HostWorld> for ClientFront<'a, H> {
     ghost faults = { λ f. f.listener.faults };
 
     fn next(&mut self) -> Result<Option<ClientDesk<H>>, Failed> {
-        let (input, output) = self.listener.accept(&self.host.rt)?;
-        match desk_over(self.host, &self.options, input, output) {
+        let client = self.listener.accept(&self.host.rt)?;
+        match desk_over(self.host, &self.options, client) {
             Ok(desk) => Ok(Some(desk)),
             Err(error) => {
                 let _ = eprintln!(self.host.rt; "reproxy: no more clients: {error}");
@@ -109,16 +109,16 @@ impl<'a, H: Hands + Send + Sync> Front<HostWorld> for ClientFront<'a, H> {
     }
 }
 
-/// The desk of a client with these ends.
+/// The desk of a client.
 fn desk_over<H: Hands>(
     host: &Host<H>,
     options: &Options<'_>,
-    input: SocketSource,
-    output: SocketSink,
+    client: Client,
 ) -> io::Result<ClientDesk<H>> {
+    let Client { input, output, end } = client;
     let seed = draw_seed(&host.rt)?;
     let halting = Halting::new(host.rt.alloc())?;
-    halting.keep_client(&host.hands, input.share_end()?);
+    halting.keep_client(&host.hands, end);
     let output = PatientSink::new(host.rt, host.hands, output, host.children.share()?);
     let parts = parts_over(host, options, seed, &halting, input, output)?;
     let halt = HostHalt::new(host.hands, halting);

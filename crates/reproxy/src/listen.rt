@@ -1,13 +1,14 @@
 //! A run of the proxy over the machine that serves the clients of a socket.
 
-ghost use Rattle.std.specs.Prelude.{◌≡◌, ◌↔◌, [], IfOk, IfSome, None};
+ghost use Rattle.std.specs.Prelude.{◌≡◌, ◌≤◌, ◌↔◌, [], IfOk, IfSome, None};
+ghost use Rattle.rx_board.specs.Journal.{count_short};
 ghost use Rattle.rx_engine.specs.Meanings.{meanings};
 ghost use Rattle.rx_engine.specs.Words.{root_in};
 ghost use Rattle.reproxy.specs.Serves.{ServesClients};
 
 use crate::clients::ClientFront;
 use crate::desk::Host;
-use crate::remote_words::HostLog;
+use crate::session_words::HostLog;
 use rx_board::JOURNAL_LIMIT;
 use rx_engine::{Options, Ran, run_in_threads};
 use rx_exec_messages::Caller;
@@ -43,6 +44,9 @@ pub(crate) fn listen<'a, H: Hands + Send + Sync>(
         (⟦<HostPlace<HostRuntime> as Place>⟧.faults ran.place)
         listener ran.front.listener
         ran.status ran.journal.items ran.desks.items ran.transcripts.items)) }
+    // There are at most as many short entries as the output tree had faults.
+    ensures short { IfOk result (λ ran. count_short ran.journal.items ≤
+        ⟦<HostPlace<HostRuntime> as Place>⟧.faults ran.place) }
 {
     let (rt, alloc) = (host.rt, host.rt.alloc());
     let root = String::from_str(alloc, options.root)?;

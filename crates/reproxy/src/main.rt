@@ -6,17 +6,19 @@ mod desk;
 mod farm;
 mod halts;
 mod listen;
+mod local_words;
 mod remote_words;
 mod serve;
+mod session_words;
 mod words;
 
 use crate::desk::Host;
 use crate::listen::listen;
-use crate::remote_words::tell_failures;
 use crate::serve::serve;
+use crate::session_words::tell_sessions;
 use crate::words::{USAGE, is_help};
 use rx_engine::{Options, options_in};
-use rx_host::{Children, Hands, HostListener, draw_seed};
+use rx_host::{Children, Hands, HostListener, draw_seed, open_files_limit, open_files_of};
 use std::io::ErrorKind;
 use std::process::ExitCode;
 use std::{env, io, process};
@@ -69,7 +71,7 @@ fn run_all<H: Hands + Send + Sync>(host: &Host<H>, words: &[String]) -> u8 {
     }
 }
 
-/// Serves one request, and tells why a remote attempt failed.
+/// Serves one request, and tells why its attempts failed.
 fn run_one<H: Hands + Send + Sync>(host: &Host<H>, words: &[String]) -> u8 {
     let rt = host.rt;
     let seed = match draw_seed(&rt) {
@@ -81,7 +83,7 @@ fn run_one<H: Hands + Send + Sync>(host: &Host<H>, words: &[String]) -> u8 {
     };
     match serve(host, words, seed, rt.stdin(), rt.stdout()) {
         Ok(ran) => {
-            tell_failures(&rt, &ran.transcripts);
+            tell_sessions(&rt, &ran.transcripts);
             ran.status
         }
         Err(_) => NO_MEMORY,
@@ -96,6 +98,9 @@ fn run_clients<H: Hands + Send + Sync>(
     address: &str,
 ) -> u8 {
     let rt = host.rt;
+    if !has_room(&rt, options.sessions) {
+        return FRONT_LOST;
+    }
     let listener = match HostListener::bind(&rt, address, process::id(rt.process())) {
         Ok(listener) => listener,
         Err(error) => {
@@ -108,6 +113,20 @@ fn run_clients<H: Hands + Send + Sync>(
     match listen(host, words, options, listener) {
         Ok(ran) => ran.status,
         Err(_) => NO_MEMORY,
+    }
+}
+
+/// Whether so many sessions at once may have the files open that they can need. Where not, it tells so.
+fn has_room(rt: &HostRuntime, sessions: u16) -> bool {
+    let needed = open_files_of(sessions);
+    match open_files_limit(rt) {
+        Some(limit) if limit < needed => {
+            let _ = eprintln!(rt;
+                "reproxy: {sessions} sessions at once need {needed} open files, and the limit is {limit}: raise it (ulimit -n), or lower --sessions"
+            );
+            false
+        }
+        _ => true,
     }
 }
 

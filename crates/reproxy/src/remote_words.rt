@@ -1,57 +1,10 @@
-//! What standard error tells of remote attempts that failed.
+//! Why a remote attempt failed, in words for standard error.
 
-use rx_engine::{Log, Transcript};
-use rx_world::{CallFault, End, Ended, RemoteCause, ResultFault};
+use rx_world::{CallFault, RemoteCause, ResultFault};
 use std::alloc::{AllocError, Global};
 
-/// Tells of each session as it ends.
-#[derive(Drop)]
-pub(crate) struct HostLog {
-    pub(crate) rt: HostRuntime,
-}
-
-impl Log for HostLog {
-    fn hear(&self, transcript: &Transcript) {
-        tell_session(&self.rt, transcript);
-    }
-}
-
-/// Tells why each remote attempt of these sessions failed, a line for each.
-pub(crate) fn tell_failures(rt: &HostRuntime, transcripts: &[Transcript]) {
-    for transcript in transcripts {
-        tell_session(rt, transcript);
-    }
-}
-
-/// Tells why the remote attempt of this session failed, if it did.
-pub(crate) fn tell_session(rt: &HostRuntime, transcript: &Transcript) {
-    let number = transcript.number;
-    for ended in transcript.ends.as_slice() {
-        if let Some(cause) = failure_there(ended) {
-            if let Ok(words) = cause_in_words(rt.alloc(), cause) {
-                let _ = eprintln!(rt; "reproxy: session {number}: remote: {words}");
-            }
-        }
-    }
-}
-
-/// Why a remote attempt failed. One that was stopped, since the local one won, didn't fail.
-fn failure_there(ended: &Ended) -> Option<&RemoteCause> {
-    match ended {
-        Ended::Remote {
-            end: End::Failed {
-                cause: RemoteCause::Stopped { decision: _ },
-            },
-        } => None,
-        Ended::Remote {
-            end: End::Failed { cause },
-        } => Some(cause),
-        _ => None,
-    }
-}
-
 /// Why a remote attempt has no outcome.
-fn cause_in_words(alloc: Global, cause: &RemoteCause) -> Result<String, AllocError> {
+pub(crate) fn remote_in_words(alloc: Global, cause: &RemoteCause) -> Result<String, AllocError> {
     match cause {
         RemoteCause::CallFailed { faults } => faults_in_words(alloc, faults.as_slice()),
         RemoteCause::BadBlob {

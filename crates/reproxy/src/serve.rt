@@ -1,7 +1,9 @@
 //! A run of the proxy over the machine that serves one request.
 
-ghost use Rattle.std.specs.Prelude.{◌≡◌, ◌↔◌, [], IfOk, IfSome, MatchOption, None};
+ghost use Rattle.std.specs.Prelude.{◌≡◌, ◌≤◌, ◌↔◌, [], IfOk, IfSome, MatchOption, None};
+ghost use Rattle.rx_board.specs.Journal.{count_short};
 ghost use Rattle.rx_engine.specs.Meanings.{meanings};
+ghost use Rattle.rx_engine.specs.Proxy.{EndsWhereAsked};
 ghost use Rattle.rx_engine.specs.Words.{root_in};
 ghost use Rattle.reproxy.specs.Serves.{ServesDesk};
 
@@ -80,6 +82,11 @@ pub(crate) fn serve<H: Hands + Send + Sync, I: Read + Send + Drop, O: Print + Se
         (λ desk. desk.parts) (λ desk. desk.parts.input.input ≡ input) root JOURNAL_LIMIT
         (⟦<HostPlace<HostRuntime> as Place>⟧.faults ran.place)
         ran.front.desk ran.status ran.journal.items ran.desks.items ran.transcripts.items)) }
+    // There are at most as many short entries as the output tree had faults.
+    ensures short { IfOk result (λ ran. count_short ran.journal.items ≤
+        ⟦<HostPlace<HostRuntime> as Place>⟧.faults ran.place) }
+    // Where the session was asked to end the run, the status tells of nothing else.
+    ensures ended { IfOk result (λ ran. EndsWhereAsked ran.status ran.transcripts.items) }
 {
     let (rt, alloc) = (host.rt, host.rt.alloc());
     let options = options_in(words);

@@ -1,0 +1,84 @@
+//! What standard error tells of a session: why its attempts failed, and that its client wasn't heard or
+//! got no reply.
+
+use crate::local_words::local_in_words;
+use crate::remote_words::remote_in_words;
+use rx_engine::{Ending, Log, Transcript};
+use rx_world::{Cause, End, Ended, RemoteCause};
+use std::alloc::{AllocError, Global};
+
+/// Tells of each session as it ends.
+#[derive(Drop)]
+pub(crate) struct HostLog {
+    pub(crate) rt: HostRuntime,
+}
+
+impl Log for HostLog {
+    fn hear(&self, transcript: &Transcript) {
+        tell_session(&self.rt, transcript);
+    }
+}
+
+/// Tells of sessions, with lines for each.
+pub(crate) fn tell_sessions(rt: &HostRuntime, transcripts: &[Transcript]) {
+    for transcript in transcripts {
+        tell_session(rt, transcript);
+    }
+}
+
+/// Tells why attempts of a session failed, and how it ended where its client got no reply.
+fn tell_session(rt: &HostRuntime, transcript: &Transcript) {
+    let number = transcript.number;
+    for ended in transcript.ends.as_slice() {
+        if let Ok(Some(words)) = end_in_words(rt.alloc(), ended) {
+            let _ = eprintln!(rt; "reproxy: session {number}: {words}");
+        }
+    }
+    if let Some(words) = ending_in_words(transcript.ending) {
+        let _ = eprintln!(rt; "reproxy: session {number}: {words}");
+    }
+}
+
+/// Why an attempt failed. One that was stopped, since the other one won or nobody wants it any more,
+/// didn't fail.
+fn end_in_words(alloc: Global, ended: &Ended) -> Result<Option<String>, AllocError> {
+    match ended {
+        Ended::Local {
+            end: End::Failed {
+                cause: Cause::Stopped { decision: _ },
+            },
+        } => Ok(None),
+        Ended::Local {
+            end: End::Failed { cause },
+        } => told(alloc, "local", local_in_words(alloc, cause)),
+        Ended::Remote {
+            end: End::Failed {
+                cause: RemoteCause::Stopped { decision: _ },
+            },
+        } => Ok(None),
+        Ended::Remote {
+            end: End::Failed { cause },
+        } => told(alloc, "remote", remote_in_words(alloc, cause)),
+        _ => Ok(None),
+    }
+}
+
+/// Where an attempt was made, and why it failed.
+fn told(
+    alloc: Global,
+    place: &str,
+    words: Result<String, AllocError>,
+) -> Result<Option<String>, AllocError> {
+    let words = words?;
+    Ok(Some(format!(in alloc; "{place}: {words}")?))
+}
+
+/// How a session ended whose client got no reply, or not all of it.
+fn ending_in_words(ending: Ending) -> Option<&'static str> {
+    match ending {
+        Ending::Replied | Ending::ShutDown => None,
+        Ending::SourceLost => Some("its request couldn't be read"),
+        Ending::SinkLost => Some("its reply couldn't be written"),
+        Ending::NoMemory => Some("memory ran out for its reply"),
+    }
+}
