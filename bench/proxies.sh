@@ -30,9 +30,9 @@ wait_for() {
     return 1
 }
 
-# serve_at NAME DIRECTORY SLOTS: a proxy that listens at the socket NAME, has its sandboxes in DIRECTORY, and SLOTS runs at once
+# serve_at NAME DIRECTORY SLOTS OPTION..: a proxy that listens at the socket NAME, has its sandboxes in DIRECTORY, and SLOTS runs at once
 serve_at() {
-    "$reproxy" serve --root "$root" --listen "unix://$work/$1" --scratch "$2" --slots "$3" 2> "$work/log-$1" &
+    "$reproxy" serve --root "$root" --listen "unix://$work/$1" --scratch "$2" --slots "${@:3}" 2> "$work/log-$1" &
     started+=($!)
     wait_for "$1"
 }

@@ -2,7 +2,8 @@
 # What the client and a proxy that serves add to a compile step: the time of `g++ -c` on an empty source through `rewrapper` and
 # `reproxy serve`, strategy local, beside that of g++ alone, of g++ behind a client and a daemon in C that do the same file work
 # (bench/pair.c), and, where it is installed, of g++ behind ccache that keeps nothing; what the client's own start costs; and how long the proxy has the processor while 16 sessions wait for a command that sleeps. There is no farm:
-# the remote side of each race has failed by then, so what waits is the local one. Few calls, or a busy machine, tell nothing of a difference.
+# the remote side of each race has failed by then, so what waits is the local one. Then, with a farm that says nothing: while eight
+# racing sessions wait for both sides, and eight remote ones for the farm. Few calls, or a busy machine, tell nothing of a difference.
 #
 #   bash bench/serve.sh [ROUNDS] [CALLS]
 #
@@ -104,24 +105,60 @@ echo "the same, sandboxes in /tmp: $(microseconds '$6'), which adds $(microsecon
 [ -z "$ccache" ] || echo "behind ccache: $(microseconds '$3'), which adds $(microseconds '$3 - $1')"
 echo "rewrapper --help: $(microseconds '$4'), and $alone: $(microseconds '$5')"
 
-# hundredths of a second that the proxy has had a processor
-ticks_of_proxy() {
-    awk '{ print $14 + $15 }' "/proc/${started[0]}/stat"
+# ticks_of PROCESS: hundredths of a second that it has had a processor
+ticks_of() {
+    awk '{ print $14 + $15 }' "/proc/$1/stat"
 }
 
-run_sleeper() {
-    "$rewrapper" -server_address="unix://$work/in-memory" -exec_root="$root" -exec_strategy=racing -env_var_allowlist=PATH -- sleep "$sleep_seconds"
+# begin_sleeper NAME STRATEGY: a session of the proxy at this socket, whose command sleeps
+begin_sleeper() {
+    "$rewrapper" -server_address="unix://$work/$1" -exec_root="$root" -exec_strategy="$2" -env_var_allowlist=PATH \
+        -- sleep "$sleep_seconds" 2>> "$work/log-$1" &
+    clients+=($!)
 }
 
+# ticks_of_wait PROCESS: those of a proxy while all of its sessions wait
+ticks_of_wait() {
+    # (all have begun)
+    sleep 2
+    local before
+    before=$(ticks_of "$1")
+    sleep $((sleep_seconds - 3))
+    echo $(($(ticks_of "$1") - before))
+}
+
+waiting="waited for $((sleep_seconds - 3)) seconds"
 clients=()
 for ((one = 0; one < sleepers; one++)); do
-    run_sleeper 2>> "$work/log-in-memory" &
-    clients+=($!)
+    begin_sleeper in-memory racing
 done
-# (all have begun)
-sleep 2
-before=$(ticks_of_proxy)
-sleep $((sleep_seconds - 3))
-after=$(ticks_of_proxy)
+ticks=$(ticks_of_wait "${started[0]}")
 wait "${clients[@]}"
-echo "the proxy, while $sleepers racing sessions waited for $((sleep_seconds - 3)) seconds: $((after - before)) hundredths of a second"
+echo "the proxy, while $sleepers racing sessions $waiting: $ticks hundredths of a second"
+
+# A farm that takes connections and says nothing. A racing session waits for it and for its command, a remote one for the farm alone.
+python3 -c '
+import socket
+farm = socket.create_server(("127.0.0.1", 0))
+print(farm.getsockname()[1], flush=True)
+taken = []
+while True:
+    taken.append(farm.accept())
+' > "$work/port" &
+started+=($!)
+until [ -s "$work/port" ]; do sleep 0.1; done
+serve_at silent "$scratch" "$sleepers" --remote "127.0.0.1:$(cat "$work/port")"
+clients=()
+for ((one = 0; one < sleepers / 2; one++)); do
+    begin_sleeper silent remote
+done
+remote_clients=("${clients[@]}")
+clients=()
+for ((one = 0; one < sleepers / 2; one++)); do
+    begin_sleeper silent racing
+done
+ticks=$(ticks_of_wait "${started[-1]}")
+wait "${clients[@]}"
+# (these would wait for long)
+kill "${remote_clients[@]}"
+echo "the same, while $((sleepers / 2)) racing and $((sleepers / 2)) remote ones $waiting for a silent farm: $ticks hundredths of a second"
