@@ -1,5 +1,7 @@
 //! How many files this process may have open at once, which limits how many sessions it can serve at once.
 
+ghost use Rattle.std.specs.Prelude.{◌≡◌, ◌+◌, ◌*◌};
+
 use std::fs;
 use std::fs::Files;
 
@@ -12,7 +14,9 @@ const FILES_OF_SESSION: u64 = 9;
 const FILES_BESIDE: u64 = 16;
 
 /// How many files so many sessions may have open at once.
-pub fn open_files_of(sessions: u16) -> u64 {
+pub fn open_files_of(sessions: u16) -> u64
+    ensures { result ≡ 16 + 9 * sessions }
+{
     FILES_BESIDE + FILES_OF_SESSION * u64::from(sessions)
 }
 
