@@ -100,9 +100,11 @@ impl<C: Caller<RowWorld> + Send + Drop, H: Hands + Send + Sync> Desk<RowWorld>
         self.parts
     }
 
+    // (this comes as the session has ended, when its reply is written)
     fn unite(of: MeetingParts<C, H>) -> MeetingDesk<C, H>
         ensures { result.parts ≡ of }
     {
+        of.input.seat.leave();
         MeetingDesk { parts: of }
     }
 }

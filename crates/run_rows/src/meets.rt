@@ -75,19 +75,35 @@ fn add_meet(row: &mut Row<'_>, plan: &mut MeetingPlan) -> Result<(), RowFault> {
     Ok(())
 }
 
-/// What calls of a part wait for: `PART M`, the `stop` of their own part, or `PART stop`, that of another one.
+/// `of DESK`: a desk, by its number among the rows' desks from 1 on.
+fn desk_in(row: &mut Row<'_>) -> Result<u64, RowFault> {
+    expect(row, "of")?;
+    row.number()
+}
+
+/// That one of these calls has begun: of the own desk, or `of DESK`.
+fn begun_in(calls: PartCalls, row: &mut Row<'_>) -> Result<Event, RowFault> {
+    if row.is_done() {
+        return Ok(Event::Begun(calls));
+    }
+    Ok(Event::BegunAt(desk_in(row)?, calls))
+}
+
+/// What calls of a part wait for: `PART M`, the `stop` of their own part, `PART stop`, that of another one,
+/// `PART M of DESK` or `end of DESK`.
 fn event_in(part: Part, row: &mut Row<'_>) -> Result<Event, RowFault> {
     let other = match row.word()? {
         "stop" => return stop_of(part),
+        "end" => return Ok(Event::EndedAt(desk_in(row)?)),
         word => part_of(word)?,
     };
     match row.word()? {
         "stop" => stop_of(other),
-        word => Ok(Event::Begun(calls_of(other, word)?)),
+        word => begun_in(calls_of(other, word)?, row),
     }
 }
 
-/// `waits PART N for PART M`, `waits PART N for stop` or `waits PART N for PART stop`.
+/// `waits PART N for` what `event_in` reads.
 fn add_waits(row: &mut Row<'_>, plan: &mut MeetingPlan) -> Result<(), RowFault> {
     let part = part_in(row)?;
     let calls = calls_in(part, row)?;

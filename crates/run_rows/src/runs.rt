@@ -3,6 +3,7 @@
 ghost use Rattle.std.specs.Prelude.{◌≡◌, IfOk};
 
 use crate::desks::{ListFront, MeetingDesk, MemoryDesk, ScriptedDesk, Unheard};
+use crate::meetings::Hall;
 use crate::plans::{DeskPlan, FailingCall, Part, script_for};
 use crate::seats::Hands;
 use crate::trees::{crowd_of, desk_of};
@@ -15,6 +16,7 @@ use rx_engine::{Ran, Shared, Transcript, run_in_threads, run_proxy, serve_sessio
 use rx_exec_messages::Caller;
 use rx_fakes::MemoryPlace;
 use std::alloc::Global;
+use std::sync::Arc;
 use std::thread::Threads;
 
 /// The root of all requests in rows.
@@ -34,20 +36,31 @@ pub(crate) struct Finished {
     pub desks: Vec<MemoryDesk>,
 }
 
-/// The desks of plans, in their order.
+/// The desks of plans, in their order. Their meetings are in one hall.
 fn desks_of<H: Hands>(
     rt: &H,
     alloc: Global,
     plans: Vec<DeskPlan>,
 ) -> Result<Vec<ScriptedDesk<H>>, NoMemory> {
+    let hall = Arc::new(alloc, Hall::new(alloc))?;
     let mut desks = Vec::new(alloc);
     for plan in plans {
         match plan.meeting.crowd {
-            Some(crowd) => desks.append(&mut crowd_of(*rt, alloc, plan, crowd.missing)?)?,
-            None => desks.push(desk_of(*rt, alloc, plan)?)?,
+            Some(crowd) => desks.append(&mut crowd_of(*rt, alloc, &hall, plan, crowd.missing)?)?,
+            None => desks.push(desk_of(*rt, alloc, &hall, plan)?)?,
         }
     }
     Ok(desks)
+}
+
+/// The desk of a plan, alone in its hall.
+fn desk_alone<H: Hands>(
+    rt: &H,
+    alloc: Global,
+    plan: DeskPlan,
+) -> Result<ScriptedDesk<H>, NoMemory> {
+    let hall = Arc::new(alloc, Hall::new(alloc))?;
+    desk_of(*rt, alloc, &hall, plan)
 }
 
 /// The front that gives desks of these plans.
@@ -163,7 +176,7 @@ pub(crate) fn serve<H: Hands + Threads + Send + Sync>(
         cache: DigestCache::new(alloc, 1)?,
         presence: Presence::new(alloc, PRESENCE),
     };
-    let desk = desk_of(*rt, alloc, plan)?;
+    let desk = desk_alone(rt, alloc, plan)?;
     let (transcript, desk) = serve_desk(rt, alloc, desk, &mut shared);
     let (place, journal) = shared.board.into_parts();
     Ok(Finished {

@@ -118,4 +118,9 @@ impl<H: Hands> Seat<H> {
     pub(crate) fn halt_input(&self) {
         self.meeting.halt_input(&self.hands);
     }
+
+    /// The desk's session has ended.
+    pub(crate) fn leave(&self) {
+        self.meeting.end(&self.hands);
+    }
 }

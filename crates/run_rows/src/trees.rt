@@ -4,7 +4,7 @@ use crate::benches::MeetingBenches;
 use crate::clients::MeetingClient;
 use crate::desks::{MeetingDesk, MemoryDesk, ScriptedDesk};
 use crate::inputs::MeetingInput;
-use crate::meetings::Meeting;
+use crate::meetings::{Hall, Meeting};
 use crate::plans::{DeskPlan, Node, Part, PlannedPath, PlannedTree, failing_calls, script_for};
 use crate::seats::{Hands, Seat};
 use crate::sources::MeetingSources;
@@ -149,15 +149,16 @@ fn parts_of(alloc: Global, plan: &DeskPlan) -> Result<MemoryDesk, NoMemory> {
     })
 }
 
-/// The desk of a plan.
+/// The desk of a plan. Its meeting is the next one in the hall.
 pub(crate) fn desk_of<H: Hands>(
     hands: H,
     alloc: Global,
+    hall: &Arc<Hall, Global>,
     plan: DeskPlan,
 ) -> Result<ScriptedDesk<H>, NoMemory> {
     let mut parts = parts_of(alloc, &plan)?;
     parts.farm = FarmScript::new(alloc, plan.lines, Dialect::New);
-    let meeting = Arc::new(alloc, Meeting::new(plan.meeting))?;
+    let meeting = Meeting::open(&hands, alloc, hall, plan.meeting)?;
     seated(hands, parts, &meeting)
 }
 
@@ -165,6 +166,7 @@ pub(crate) fn desk_of<H: Hands>(
 pub(crate) fn crowd_of<H: Hands>(
     hands: H,
     alloc: Global,
+    hall: &Arc<Hall, Global>,
     plan: DeskPlan,
     count: u64,
 ) -> Result<Vec<ScriptedDesk<H>>, NoMemory> {
@@ -172,7 +174,7 @@ pub(crate) fn crowd_of<H: Hands>(
     for _ in 0..count {
         parts.push(parts_of(alloc, &plan)?)?;
     }
-    let meeting = Arc::new(alloc, Meeting::new(plan.meeting))?;
+    let meeting = Meeting::open(&hands, alloc, hall, plan.meeting)?;
     let mut desks = Vec::new(alloc);
     for own in parts {
         desks.push(seated(hands, own, &meeting)?)?;
