@@ -1,11 +1,18 @@
 #include <iostream>
+#include <sstream>
 
 #include "shapes/canvas.h"
 #include "shapes/samples.h"
 
 int main() {
-    shapes::Canvas canvas(60, 12, {{0, 0}, {15, 4}});
+    const shapes::Shapes shapes = shapes::samples();
+    shapes::Canvas canvas(60, 16, shapes::total_bounds(shapes));
+    std::ostringstream legend;
     char ink = 'a';
-    for (const auto& shape : shapes::samples()) canvas.draw(*shape, ink++);
-    std::cout << canvas.text();
+    for (const auto& shape : shapes) {
+        canvas.draw(*shape, ink);
+        legend << ink << ' ' << shape->name() << '\n';
+        ++ink;
+    }
+    std::cout << canvas.text() << legend.str();
 }

@@ -12,4 +12,6 @@ double dot(Point a, Point b) { return a.x * b.x + a.y * b.y; }
 double cross(Point a, Point b) { return a.x * b.y - a.y * b.x; }
 double length(Point a) { return std::sqrt(dot(a, a)); }
 
+Point direction(double turn) { return {std::cos(turn), std::sin(turn)}; }
+
 }  // namespace shapes

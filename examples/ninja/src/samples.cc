@@ -1,17 +1,13 @@
 #include "shapes/samples.h"
 
-#include "shapes/circle.h"
-#include "shapes/regular.h"
-#include "shapes/square.h"
+#include "sample_lines.h"
+#include "shapes/reader.h"
 
 namespace shapes {
 
 Shapes samples() {
     Shapes shapes;
-    shapes.push_back(std::make_unique<Circle>(Point{2, 2}, 1.5));
-    shapes.push_back(std::make_unique<Polygon>(square({4, 1}, 2)));
-    shapes.push_back(std::make_unique<Polygon>(rectangle({7, 1}, 3, 1)));
-    shapes.push_back(std::make_unique<Polygon>(regular(6, {12, 2}, 1.5)));
+    for (const char* line : sample_lines) shapes.push_back(read_shape(line));
     return shapes;
 }
 

@@ -8,4 +8,13 @@ double total_area(const Shapes& shapes) {
     return sum;
 }
 
+Bounds total_bounds(const Shapes& shapes) {
+    Bounds total = shapes.front()->bounds();
+    for (const auto& shape : shapes) {
+        const Bounds bounds = shape->bounds();
+        total = total.with(bounds.low).with(bounds.high);
+    }
+    return total;
+}
+
 }  // namespace shapes

@@ -16,4 +16,7 @@ double dot(Point a, Point b);
 double cross(Point a, Point b);
 double length(Point a);
 
+// The point at distance 1 from the origin, turned to the left from the x axis by this angle.
+Point direction(double turn);
+
 }  // namespace shapes

@@ -4,7 +4,7 @@
 
 namespace shapes {
 
-// The shapes that both programs show.
+// The shapes of samples.txt, which both programs show.
 Shapes samples();
 
 }  // namespace shapes

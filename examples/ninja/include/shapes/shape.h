@@ -23,4 +23,7 @@ using Shapes = std::vector<std::unique_ptr<Shape>>;
 
 double total_area(const Shapes& shapes);
 
+// What holds all of them; there has to be one.
+Bounds total_bounds(const Shapes& shapes);
+
 }  // namespace shapes
