@@ -15,6 +15,7 @@ use rx_digest_cache::DigestCache;
 use rx_engine::{Ran, Shared, Transcript, run_in_threads, run_proxy, serve_session};
 use rx_exec_messages::Caller;
 use rx_fakes::MemoryPlace;
+use rx_inputs::HashedContents;
 use std::alloc::Global;
 use std::sync::Arc;
 use std::thread::Threads;
@@ -174,6 +175,7 @@ pub(crate) fn serve<H: Hands + Threads + Send + Sync>(
         root: Text::copy_of(alloc, ROOT)?,
         board: Board::new(alloc, place_of(alloc, failing)?, limit),
         cache: DigestCache::new(alloc, 1)?,
+        hashed: HashedContents::new(alloc),
         presence: Presence::new(alloc, PRESENCE),
     };
     let desk = desk_alone(rt, alloc, plan)?;

@@ -127,7 +127,7 @@ fn bytes_of<W: World, S: Sources<W>>(
             Ok(bytes) => Ok(bytes),
             Err(_) => Err(BlobFault::NoMemory),
         },
-        Blob::File(file) => match read_again::<W, S>(alloc, file, sources) {
+        Blob::File(file) => match read_again::<W, S>(alloc, None, file, sources) {
             Ok(bytes) => Ok(bytes),
             Err(fault) => Err(of_read(fault)),
         },

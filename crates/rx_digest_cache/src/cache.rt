@@ -1,18 +1,23 @@
-//! The cache that sessions share: the kept digests behind a lock, and the sources that they stand for.
+//! The cache that sessions share: the kept digests behind a lock, the sources that they stand for, and the texts whose
+//! directives are known.
 
 ghost use Rattle.std.specs.Prelude.{◌≡◌, [], ◌∷◌, IfOk, IfSome, IsOk, List, MatchResult, false, true};
 ghost use Rattle.rx_base.specs.Digests.{digest_of};
+ghost use Rattle.std.specs.Arc.{arc_value};
+ghost use Rattle.rx_lex.specs.Directives.{directives_of};
+ghost use Rattle.rx_lex.specs.Found.{found_view};
 ghost use Rattle.rx_world.specs.Causes.{HasCauseOf};
 ghost use Rattle.rx_world.specs.Sources.{given_bytes, given_look, is_file};
 ghost use Rattle.rx_digest_cache.specs.declared.cache_fault.CacheFault.TheVariants.{SourceFault as source_fault};
 ghost use Rattle.rx_digest_cache.specs.Cache.{Asks, HasDigest, IsFound, IsRead, Refuses, RefusesRead};
 ghost use Rattle.rx_digest_cache.specs.Kept.{IsTied};
 
-use crate::{CacheFault, KeptDigests, StampedDigest};
+use crate::lexed::LexedTexts;
+use crate::{CacheFault, KeptDigests, Lexed, StampedDigest};
 use rx_base::{Digest, NoMemory, RelPath, digest_of};
 use rx_world::{Look, Sources, Stamp, World};
 use std::alloc::Global;
-use std::sync::{Mutex, Wait};
+use std::sync::{Arc, Mutex, Wait};
 
 /// The most paths of which the proxy's cache keeps a digest.
 pub const DIGEST_CACHE_LIMIT: usize = 1_000_000;
@@ -22,6 +27,7 @@ pub const DIGEST_CACHE_LIMIT: usize = 1_000_000;
 #[derive(Drop)]
 pub struct DigestCache<W: World> {
     kept: Mutex<KeptDigests<W>>,
+    texts: LexedTexts,
 }
 
 impl<W: World> DigestCache<W> {
@@ -31,6 +37,7 @@ impl<W: World> DigestCache<W> {
     {
         Ok(DigestCache {
             kept: Mutex::new(KeptDigests::new(alloc, limit)),
+            texts: LexedTexts::new(alloc),
         })
     }
 
@@ -75,6 +82,20 @@ impl<W: World> DigestCache<W> {
             digest ≡ digest_of (W.content path.now stamp)) }
     {
         self.kept.lock(rt).find(path, stamp)
+    }
+
+    /// What a text includes, which was read at a path. Where the text is kept as that of the path, nothing is
+    /// sought in it; else it is kept, where there is memory for it.
+    pub fn lexed(
+        &self,
+        alloc: Global,
+        path: &RelPath,
+        text: &[u8],
+    ) -> Result<Arc<Lexed, Global>, NoMemory>
+        ensures { IfOk result (λ lexed.
+            found_view (arc_value lexed).found ≡ directives_of text.now) }
+    {
+        self.texts.lexed(alloc, path, text)
     }
 
     /// The digest of a file's bytes, which are read. It is kept where it can be.

@@ -177,6 +177,7 @@ fn run<W: World + Send, D: Desk<W>, N: Places + Send + Sync, R: Threads + Wait +
         gathered: &gathered,
         accept_cached,
         watch,
+        hashed: means.hashed,
         presence: means.presence,
         halter: means.halter,
         slots: means.slots,

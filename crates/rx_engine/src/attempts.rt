@@ -14,6 +14,7 @@ use crate::winners::kept_and_won;
 use rx_base::{Items, NoMemory};
 use rx_blobs::Presence;
 use rx_digest_cache::DigestCache;
+use rx_inputs::HashedContents;
 use rx_local::{Places, Slots};
 use rx_race::{Blanks, Race};
 use rx_scan::Gathered;
@@ -32,6 +33,8 @@ pub(crate) const MOST_ATTEMPTS: usize = 2;
 pub(crate) struct Means<'a, W: World, H, N: Places> {
     /// Digests of the source trees' files.
     pub cache: &'a DigestCache<W>,
+    /// Contents of these files that needn't be hashed again.
+    pub hashed: &'a HashedContents,
     /// Which blobs the farm is known to have.
     pub presence: &'a Presence,
     /// Ends an attempt that lost its race, and the wait for the client.
@@ -50,6 +53,8 @@ pub(crate) struct Job<'a, H, N: Places> {
     pub accept_cached: bool,
     /// Whether the client may cancel.
     pub watch: bool,
+    /// Contents that needn't be hashed again.
+    pub hashed: &'a HashedContents,
     /// Which blobs the farm is known to have.
     pub presence: &'a Presence,
     /// Ends an attempt that lost its race, and the wait for the client.

@@ -62,9 +62,8 @@ pub(crate) fn race_here<
     let (ticket, end) = match start {
         Ok(live) => {
             let mut looking = Looking::new(rt, race, live);
-            let end = run_here::<W, B, S, Looking<'_, K, R>>(
-                job.alloc,
-                job.gathered,
+            let end = run_here::<W, H, N, B, S, Looking<'_, K, R>>(
+                job,
                 &mut runner,
                 &mut tree,
                 &mut looking,

@@ -18,6 +18,7 @@ use rx_base::Text;
 use rx_blobs::{PRESENCE_LIMIT, Presence};
 use rx_board::{Board, Entry, JOURNAL_LIMIT};
 use rx_digest_cache::{DIGEST_CACHE_LIMIT, DigestCache};
+use rx_inputs::HashedContents;
 use rx_world::{Place, World};
 use std::alloc::Global;
 use std::sync::Wait;
@@ -188,6 +189,7 @@ fn serve_words<W: World + Send, F: Front<W>, P: Place, R: Threads + Wait + Sync>
         root,
         board,
         cache,
+        hashed: HashedContents::new(alloc),
         presence: Presence::new(alloc, PRESENCE_LIMIT),
     };
     let stop = serve_all::<W, F, P, R>(rt, alloc, front, &mut shared, transcripts, desks);
@@ -196,6 +198,7 @@ fn serve_words<W: World + Send, F: Front<W>, P: Place, R: Threads + Wait + Sync>
         root: _,
         board,
         cache: _,
+        hashed: _,
         presence: _,
     } = shared;
     (status, board)

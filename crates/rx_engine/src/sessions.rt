@@ -21,6 +21,7 @@ use rx_base::Text;
 use rx_blobs::Presence;
 use rx_board::Board;
 use rx_digest_cache::DigestCache;
+use rx_inputs::HashedContents;
 use rx_local::{Places, Slots, blank_for};
 use rx_world::{Place, World};
 use std::alloc::Global;
@@ -37,6 +38,8 @@ pub struct Shared<W: World, P: Place> {
     pub board: Board<P>,
     /// Digests of the source trees' files.
     pub cache: DigestCache<W>,
+    /// Contents of these files that needn't be hashed again.
+    pub hashed: HashedContents,
     /// Which blobs the farm is known to have.
     pub presence: Presence,
 }
@@ -115,6 +118,7 @@ fn undertake_alone<
     let slots = Slots::<N>::new(1, blank);
     let means = Means {
         cache: &shared.cache,
+        hashed: &shared.hashed,
         presence: &shared.presence,
         halter: &halter,
         slots: &slots,

@@ -25,6 +25,7 @@ use crate::words::{at_once, root_in};
 use rx_blobs::{PRESENCE_LIMIT, Presence};
 use rx_board::JOURNAL_LIMIT;
 use rx_digest_cache::{DIGEST_CACHE_LIMIT, DigestCache};
+use rx_inputs::HashedContents;
 use rx_local::{Places, Slots, blank_for};
 use rx_world::{Place, World};
 use std::alloc::Global;
@@ -52,6 +53,8 @@ struct Common<'a, W: World, F: Front<W> + Drop, P: Place, K: Run, L> {
     service: Service<'a, L>,
     /// Digests of the source trees' files.
     cache: &'a DigestCache<W>,
+    /// Contents of these files that needn't be hashed again.
+    hashed: &'a HashedContents,
     /// Which blobs the farm is known to have.
     presence: &'a Presence,
     gate: &'a Mutex<Gate<W, F, K>>,
@@ -179,11 +182,13 @@ fn serve_front<
     let kept = Mutex::new(Kept::<W, F::D, P, K>::new(alloc, place, concluded));
     let mut account = match DigestCache::<W>::new(alloc, DIGEST_CACHE_LIMIT) {
         Ok(cache) => {
+            let hashed = HashedContents::new(alloc);
             let presence = Presence::new(alloc, PRESENCE_LIMIT);
             let blank = blank_for(service.slots);
             let common = Common {
                 service,
                 cache: &cache,
+                hashed: &hashed,
                 presence: &presence,
                 gate: &gate,
                 closed: &closed,
@@ -335,6 +340,7 @@ fn work<
         let halter = desk.halter();
         let means = Means {
             cache: common.cache,
+            hashed: common.hashed,
             presence: common.presence,
             halter: &halter,
             slots,

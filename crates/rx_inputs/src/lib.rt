@@ -2,8 +2,10 @@
 //! or knows what the attempt does with it.
 #![tactic(auto)]
 
+mod hashed;
 mod read_fault;
 mod reads;
 
+pub use hashed::HashedContents;
 pub use read_fault::ReadFault;
 pub use reads::read_again;

@@ -15,6 +15,7 @@ use crate::limits::{Passed, passed_limit};
 use crate::stage::prepare;
 use crate::take::{cause_of, take_outputs};
 use rx_base::{Items, RelPath};
+use rx_inputs::HashedContents;
 use rx_world::{
     Bench, BenchMaker, BenchStep, Cause, Command, InputFile, Outcome, Sources, Stop, World,
 };
@@ -26,6 +27,8 @@ pub struct LocalJob<'a> {
     pub command: &'a Command,
     pub files: &'a [InputFile],
     pub directories: &'a [RelPath],
+    /// Contents that needn't be hashed again.
+    pub hashed: &'a HashedContents,
 }
 
 /// Runs a command once on a fresh bench that holds these files and directories, and takes its
@@ -104,14 +107,7 @@ fn run_on<W: World, B: Bench<W>, S: Sources<W>, T: Stop>(
     ensures told { HasTold (T.told stop.old) (T.told stop.new) result }
     ensures attempt { T.attempt stop.new ≡ T.attempt stop.old }
 {
-    prepare::<W, B, S>(
-        alloc,
-        job.command,
-        job.files,
-        job.directories,
-        bench,
-        sources,
-    )?;
+    prepare::<W, B, S>(alloc, job, bench, sources)?;
     if let Some(decision) = stop.seen() {
         return Err(Cause::Stopped { decision });
     }

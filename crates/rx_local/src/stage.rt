@@ -7,31 +7,30 @@ ghost use Rattle.rx_world.specs.declared.failures.Refused.TheVariants.{Failed as
 ghost use Rattle.rx_world.specs.Benches.{FailsAt, IsRefusedAt};
 ghost use Rattle.rx_world.specs.Causes.{HasCause, HasCauseOf};
 ghost use Rattle.rx_world.specs.Trees.{parents_of, tree_with_directories, tree_with_files, with_parents};
-ghost use Rattle.rx_local.specs.Local.{HasFailedAt, IsCauseOf, IsCounted, IsPrepareCause, job};
+ghost use Rattle.rx_local.specs.Local.{HasFailedAt, IsCauseOf, IsCounted, IsPrepareCause, local_job};
 ghost use Rattle.rx_local.specs.Stage.{HasFailedStaging, HasStaged, IsStepCause, IsStageCause, MakesAll, PutsAll, cause_of_read};
 
+use crate::LocalJob;
 use crate::take::cause_of;
 use rx_base::RelPath;
-use rx_inputs::{ReadFault, read_again};
-use rx_world::{Bench, BenchStep, Cause, Command, Failed, InputFile, Refused, Sources, World};
+use rx_inputs::{HashedContents, ReadFault, read_again};
+use rx_world::{Bench, BenchStep, Cause, Failed, InputFile, Refused, Sources, World};
 use std::alloc::Global;
 
-/// Makes a bench ready for a command.
+/// Makes a bench ready for the command of a job.
 pub fn prepare<W: World, B: Bench<W>, S: Sources<W>>(
     alloc: Global,
-    command: &Command,
-    files: &[InputFile],
-    directories: &[RelPath],
+    job: &LocalJob,
     bench: &mut B,
     sources: &mut S,
 ) -> Result<(), Cause>
-    ensures ok { OnOk result (HasStaged W.World S.Sources sources.old sources.new files.now
+    ensures ok { OnOk result (HasStaged W.World S.Sources sources.old sources.new job.now.files.now
         (λ staged. Told (B.tree bench.old) (B.tree bench.new) (λ x y.
-        y ≡ with_parents command.now.outputs
-        (tree_with_directories directories.now (tree_with_files staged x))))) }
+        y ≡ with_parents job.now.command.now.outputs
+        (tree_with_directories job.now.directories.now (tree_with_files staged x))))) }
     ensures failed { B.failed_at bench.old ≡ None → HasFailedAt B.Bench bench.new result }
     ensures err { IfErr result (HasFailedStaging W.World S.Sources sources.old sources.new
-        (IsCauseOf W.World (job command.now files.now directories.now))) }
+        (IsCauseOf W.World (local_job job.now))) }
     ensures before { IfErr result IsPrepareCause }
     ensures runs { B.runs bench.new ≡ B.runs bench.old }
     ensures later { (B.faults bench.old ≤ B.faults bench.new)
@@ -39,13 +38,19 @@ pub fn prepare<W: World, B: Bench<W>, S: Sources<W>>(
     ensures cause { IfErr result (IsCounted (B.faults bench.old) (B.faults bench.new)
         (S.faults sources.old) (S.faults sources.new)) }
 {
-    stage_files::<W, B, S>(alloc, files, bench, sources)?;
-    make_all::<W, B>(alloc, command.outputs.as_slice(), directories, bench)
+    stage_files::<W, B, S>(alloc, job.hashed, job.files, bench, sources)?;
+    make_all::<W, B>(
+        alloc,
+        job.command.outputs.as_slice(),
+        job.directories,
+        bench,
+    )
 }
 
 /// Reads the files in their order, and puts each before the next is read.
 fn stage_files<W: World, B: Bench<W>, S: Sources<W>>(
     alloc: Global,
+    hashed: &HashedContents,
     files: &[InputFile],
     bench: &mut B,
     sources: &mut S,
@@ -62,13 +67,14 @@ fn stage_files<W: World, B: Bench<W>, S: Sources<W>>(
         (S.faults sources.old) (S.faults sources.new)) }
 {
     for file in files {
-        stage_file::<W, B, S>(alloc, file, bench, sources)?;
+        stage_file::<W, B, S>(alloc, hashed, file, bench, sources)?;
     }
     Ok(())
 }
 
 fn stage_file<W: World, B: Bench<W>, S: Sources<W>>(
     alloc: Global,
+    hashed: &HashedContents,
     file: &InputFile,
     bench: &mut B,
     sources: &mut S,
@@ -84,7 +90,7 @@ fn stage_file<W: World, B: Bench<W>, S: Sources<W>>(
     ensures cause { IfErr result (IsCounted (B.faults bench.old) (B.faults bench.new)
         (S.faults sources.old) (S.faults sources.new)) }
 {
-    let bytes = match read_again::<W, S>(alloc, file, sources) {
+    let bytes = match read_again::<W, S>(alloc, Some(hashed), file, sources) {
         Ok(bytes) => bytes,
         Err(fault) => return Err(cause_of_read(fault)),
     };

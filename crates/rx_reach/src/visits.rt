@@ -1,6 +1,7 @@
 //! A file that was found: it is read, and what it includes is sought.
 
 ghost use Rattle.std.specs.Prelude.{◌≡◌, ◌≤◌, ◌+◌, ◌&&◌, ◌||◌, Contains, IfErr, IfOk, IfSome, MatchOption, OnOk, Some, false, length, true};
+ghost use Rattle.std.specs.Arc.{arc_value};
 ghost use Rattle.rx_base.specs.Digests.{digest_of};
 ghost use Rattle.rx_lex.specs.Found.{found_view};
 ghost use Rattle.rx_world.specs.declared.looks.Look.TheVariants.{File as a_file};
@@ -21,11 +22,11 @@ use crate::searches::Search;
 use crate::seeks::seek_includes;
 use crate::sights::Sights;
 use rx_base::{Bytes, Digest, NoMemory, RelPath, TryClone, digest_of};
-use rx_digest_cache::{DigestCache, StampedDigest};
-use rx_lex::{Directives, directives};
+use rx_digest_cache::{DigestCache, Lexed, StampedDigest};
+use rx_lex::Directives;
 use rx_world::{Look, Refused, Sources, Stamp, World};
 use std::alloc::Global;
-use std::sync::Wait;
+use std::sync::{Arc, Wait};
 
 /// The most bytes of one input file.
 pub const MAX_FILE_BYTES: u64 = 67_108_864;
@@ -57,18 +58,20 @@ pub fn read_file<W: World, S: Sources<W>>(
     }
 }
 
-/// What a text includes; a text that is too large counts as one without directives.
-fn includes_in(alloc: Global, text: &[u8]) -> Result<Directives, NoMemory>
-    ensures { IfOk result (λ found. found_view found ≡ includes_in text.now) }
+/// What a text at a path includes; a text that is too large counts as one without directives, as the empty one is.
+fn includes_in<W: World>(
+    alloc: Global,
+    cache: &DigestCache<W>,
+    path: &RelPath,
+    text: &[u8],
+) -> Result<Arc<Lexed, Global>, NoMemory>
+    ensures { IfOk result (λ lexed.
+        found_view (arc_value lexed).found ≡ includes_in text.now) }
 {
     if text.len() as u64 > MAX_FILE_BYTES {
-        return Ok(Directives {
-            list: Vec::new(alloc),
-            hard: false,
-            raw: false,
-        });
+        return cache.lexed(alloc, path, b"");
     }
-    directives(alloc, text)
+    cache.lexed(alloc, path, text)
 }
 
 /// Whether a file may include what isn't listed, or has a raw literal that C doesn't know.
@@ -100,6 +103,7 @@ fn explore<W: World, S: Sources<W>>(
     alloc: Global,
     sources: &mut S,
     sights: &mut Sights,
+    cache: &DigestCache<W>,
     progress: &mut Progress,
     search: &Search,
     path: &RelPath,
@@ -114,8 +118,9 @@ fn explore<W: World, S: Sources<W>>(
         progress.old progress.new) }
     ensures err { IfErr result (Ends W.World S.Sources sources.old sources.new sights.old) }
 {
-    let found = includes_in(alloc, text)?;
-    mark_hidden(alloc, progress, path, is_hidden(&found, search))?;
+    let lexed = includes_in(alloc, cache, path, text)?;
+    let found = &lexed.found;
+    mark_hidden(alloc, progress, path, is_hidden(found, search))?;
     let above = path.parent(alloc)?;
     let list = found.list.as_slice();
     seek_includes::<W, S>(
@@ -212,7 +217,7 @@ pub(crate) fn visit<W: World, S: Sources<W>>(
     match file_from(rt, alloc, cache, path, found.0, text) {
         Some(file) => {
             progress.read.insert(path.try_clone(alloc)?, file)?;
-            explore::<W, S>(alloc, sources, sights, progress, search, path, text)?;
+            explore::<W, S>(alloc, sources, sights, cache, progress, search, path, text)?;
             Ok(())
         }
         None => Ok(()),

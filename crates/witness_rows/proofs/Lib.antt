@@ -1,4 +1,5 @@
 mod Both
+mod Crossing
 mod Decoded
 mod NoFile
 mod OneFile

@@ -12,6 +12,7 @@ use rx_digest_cache::DigestCache;
 use rx_engine::{Parts, Shared};
 use rx_exec_messages::Script;
 use rx_fakes::{QuietSink, QuietSource, QuietSources, SourceEntries};
+use rx_inputs::HashedContents;
 use rx_world::{Contents, Dialect, Toy};
 use std::alloc::Global;
 
@@ -69,6 +70,7 @@ pub(crate) fn shared_alone<K: Contents>(
         root: Text::copy_of(alloc, "/r")?,
         board: Board::new(alloc, QuietPlace::new(alloc), 1),
         cache: DigestCache::new(alloc, 1)?,
+        hashed: HashedContents::new(alloc),
         presence: Presence::new(alloc, 1),
     })
 }

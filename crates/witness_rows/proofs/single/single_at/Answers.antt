@@ -1,3 +1,4 @@
+use denote.Param.Send.{sendable}
 use Rattle.std.proofs.Common.{◌≡◌, List, ap, refl, subst, sym, ◌∙◌}
 use Rattle.std.specs.Prelude.{Ok, Some}
 use Rattle.rx_board.specs.declared.journal.Entry.{Entry}
@@ -7,11 +8,15 @@ use Rattle.rx_engine.specs.Honest.{IsCleanIfDone}
 use Rattle.rx_session.specs.Frames.{IsRequest}
 use Rattle.rx_world.specs.Toy.{toy_tool}
 use Rattle.witness_rows.specs.Single.{single_frame, single_outcome, single_request, single_tree}
+use Rattle.witness_rows.proofs.Crossing.{script_send}
 use Rattle.witness_rows.proofs.Both.{one_left, uncounted}
 use Rattle.witness_rows.proofs.Decoded.{single_decoded}
 use Rattle.witness_rows.proofs.OutcomeLemmas.{outcome-if-done}
 use Rattle.witness_rows.proofs.SinglePremises.{honest, quiet, single-only}
 use Rattle.witness_rows.proofs.single.single_at.Goals as goal
+
+pub serve_session-transcript-requires-send-D-C : goal.serve_session-transcript-requires-send-D-C
+serve_session-transcript-requires-send-D-C g c κs within = search (script_send, sendable)
 
 pub returns-clause-done : goal.returns-clause-done
 returns-clause-done g c stamps =
