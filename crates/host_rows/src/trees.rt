@@ -1,13 +1,19 @@
 //! The files below a directory of this process.
 
 use crate::answers::{write_done, write_refused};
-use rx_host::{HostPlace, HostSources};
+use rx_host::{Contents, HostPlace, HostSources};
 use rx_row_values::{read_path, read_string};
 use rx_rows::{Answer, Row, RowFault};
 use rx_world::{Look, Place, Sources};
 use std::alloc::AllocError;
-use std::fs;
+use std::fs::OpenOptions;
+use std::io::Write;
 use std::os::unix::fs::symlink;
+use std::time::Duration;
+use std::{fs, io, thread};
+
+/// Once it has passed, the content of a file that is read is kept: a file has to be as it is for two seconds, by whole ones.
+const REST_MILLIS: u64 = 3100;
 
 /// The number in the names of new files, whichever process this is.
 pub(crate) const NAMES_NUMBER: u32 = 1;
@@ -17,6 +23,7 @@ pub(crate) const NAMES_NUMBER: u32 = 1;
 pub(crate) struct Tree {
     rt: HostRuntime,
     root: String,
+    contents: Contents,
     sources: HostSources<HostRuntime>,
     place: HostPlace<HostRuntime>,
 }
@@ -31,14 +38,24 @@ fn word_of(look: Look) -> &'static str {
     }
 }
 
+/// Writes to the beginning of a file, and leaves the time of its modification as it was.
+fn write_over(rt: &HostRuntime, file: &str, text: &[u8]) -> io::Result<()> {
+    let mut file = OpenOptions::new().write(true).open(rt, file)?;
+    let modified = file.metadata()?.modified()?;
+    file.write_all(text)?;
+    file.set_modified(modified)
+}
+
 impl Tree {
     /// The files below this directory, which needn't be there yet.
     pub(crate) fn new(rt: HostRuntime, root: &str) -> Result<Tree, AllocError> {
         let alloc = rt.alloc();
+        let contents = Contents::new(alloc)?;
         Ok(Tree {
             rt,
             root: String::from_str(alloc, root)?,
-            sources: HostSources::new(rt, String::from_str(alloc, root)?),
+            sources: HostSources::new(rt, String::from_str(alloc, root)?, contents.share()?),
+            contents,
             place: HostPlace::new(rt, String::from_str(alloc, root)?, NAMES_NUMBER),
         })
     }
@@ -77,6 +94,29 @@ impl Tree {
         let from = format!(in alloc; "{}/{from}", self.root)?;
         let to = format!(in alloc; "{}/{to}", self.root)?;
         write_done(fs::rename(&self.rt, from, to), answer)
+    }
+
+    /// `overwrite PATH TEXT`: writes to the beginning of a file, by no adapter, and leaves the time of its modification as it was.
+    pub(crate) fn overwrite(&self, row: &mut Row<'_>, answer: &mut Answer) -> Result<(), RowFault> {
+        let alloc = self.rt.alloc();
+        let (path, text) = (read_path(alloc, row)?, row.text(alloc)?);
+        let file = format!(in alloc; "{}/{}", self.root, path.as_str())?;
+        write_done(write_over(&self.rt, file.as_str(), &text), answer)
+    }
+
+    /// `rest`: waits until the files are quiet.
+    pub(crate) fn rest(&self, answer: &mut Answer) -> Result<(), RowFault> {
+        thread::sleep(&self.rt, Duration::from_millis(REST_MILLIS));
+        answer.word("ok")?;
+        Ok(())
+    }
+
+    /// `session`: the source tree is that of another session.
+    pub(crate) fn begin_session(&mut self, answer: &mut Answer) -> Result<(), RowFault> {
+        let root = String::from_str(self.rt.alloc(), self.root.as_str())?;
+        self.sources = HostSources::new(self.rt, root, self.contents.share()?);
+        answer.word("ok")?;
+        Ok(())
     }
 
     /// `look PATH`: what stands there.

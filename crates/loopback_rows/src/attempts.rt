@@ -8,7 +8,7 @@ use rx_base::{Items, RelPath, Text, digest_of};
 use rx_blobs::Presence;
 use rx_farm_values::write_remote_cause;
 use rx_grpc::GrpcCaller;
-use rx_host::{Halting, Hands, HostDial, HostFarm, HostSources, HostWorld};
+use rx_host::{Contents, Halting, Hands, HostDial, HostFarm, HostSources, HostWorld};
 use rx_remote::{RemoteJob, run_remote};
 use rx_row_values::path_of;
 use rx_rows::{Answer, RowFault};
@@ -61,7 +61,7 @@ fn run_over<H: Hands>(
         return Err(RowFault::BadCall);
     }
     let root = String::from_str(alloc, job.root.as_str())?;
-    let mut sources = HostSources::new(rt, root);
+    let mut sources = HostSources::new(rt, root, Contents::new(alloc)?);
     let mut files = Items::new(alloc);
     files.push(input(&mut sources, path_of(alloc, "a")?, &job.text)?)?;
     attempt(

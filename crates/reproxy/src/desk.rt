@@ -7,7 +7,8 @@ use crate::farm::farm_for;
 use crate::halts::HostHalt;
 use rx_engine::{Desk, Front, Options, Parts};
 use rx_host::{
-    Children, Halting, Hands, HostBenches, HostFarm, HostSink, HostSource, HostSources, HostWorld,
+    Children, Contents, Halting, Hands, HostBenches, HostFarm, HostSink, HostSource, HostSources,
+    HostWorld,
 };
 use rx_world::{Failed, Sink, Source};
 use std::alloc::AllocError;
@@ -22,6 +23,8 @@ pub(crate) struct Host<H> {
     pub(crate) hands: H,
     /// The programs that run, and the replies that are written, over all sessions.
     pub(crate) children: Children,
+    /// Contents of files that sessions read, for those after them.
+    pub(crate) contents: Contents,
 }
 
 /// The parts of a session over the machine, with these ends of its conversation.
@@ -34,6 +37,15 @@ pub(crate) type HostParts<H, I, O> = Parts<
     HostSources<HostRuntime>,
     HostFarm<H>,
 >;
+
+/// The files of the served root.
+fn sources_over<H>(
+    host: &Host<H>,
+    options: &Options<'_>,
+) -> Result<HostSources<HostRuntime>, AllocError> {
+    let root = String::from_str(host.rt.alloc(), options.root)?;
+    Ok(HostSources::new(host.rt, root, host.contents.share()?))
+}
 
 /// The parts of a session with these ends, whose waits are ended by `halting`.
 pub(crate) fn parts_over<H: Hands, I: Source + Drop, O: Sink + Drop>(
@@ -54,10 +66,10 @@ pub(crate) fn parts_over<H: Hands, I: Source + Drop, O: Sink + Drop>(
     Ok(Parts {
         input,
         output,
-        tree: HostSources::new(rt, String::from_str(alloc, options.root)?),
-        tree_local: HostSources::new(rt, String::from_str(alloc, options.root)?),
+        tree: sources_over(host, options)?,
+        tree_local: sources_over(host, options)?,
         benches: HostBenches::new(rt, hands, scratch, process, halting.share()?, children),
-        tree_remote: HostSources::new(rt, String::from_str(alloc, options.root)?),
+        tree_remote: sources_over(host, options)?,
         farm: farm_for(host, options, seed, halting.share()?)?,
     })
 }

@@ -18,7 +18,10 @@ use crate::serve::serve;
 use crate::session_words::tell_sessions;
 use crate::words::{USAGE, is_help};
 use rx_engine::{Options, options_in};
-use rx_host::{Children, Hands, HostListener, draw_seed, open_files_limit, open_files_of};
+use rx_host::{
+    Children, Contents, Hands, HostListener, draw_seed, open_files_limit, open_files_of,
+};
+use std::alloc::AllocError;
 use std::io::ErrorKind;
 use std::process::ExitCode;
 use std::{env, io, process};
@@ -47,17 +50,22 @@ fn main(rt: HostRuntime) -> ExitCode {
 
 /// Serves what the words ask for, and waits for the programs that still run. The answer is the program's status.
 fn run_words<H: Hands + Send + Sync>(rt: HostRuntime, hands: H, words: &[String]) -> u8 {
-    let Ok(children) = Children::new(rt.alloc()) else {
+    let Ok(host) = host_of(rt, hands) else {
         return NO_MEMORY;
-    };
-    let host = Host {
-        rt,
-        hands,
-        children,
     };
     let status = run_all(&host, words);
     host.children.wait_for_all(&hands);
     status
+}
+
+/// What the desks of the run share.
+fn host_of<H: Hands>(rt: HostRuntime, hands: H) -> Result<Host<H>, AllocError> {
+    Ok(Host {
+        rt,
+        hands,
+        children: Children::new(rt.alloc())?,
+        contents: Contents::new(rt.alloc())?,
+    })
 }
 
 /// Serves one request, or the clients of a socket.

@@ -25,8 +25,9 @@ pub(crate) struct Standing {
 }
 
 impl Standing {
-    pub(crate) fn is_file(&self) -> bool {
-        self.metadata.as_ref().is_some_and(|m| m.is_file())
+    /// What the system tells of a regular file.
+    pub(crate) fn file(&self) -> Option<&Metadata> {
+        self.metadata.as_ref().filter(|m| m.is_file())
     }
 
     /// Whether this is the file that the system told this of.
@@ -63,24 +64,29 @@ impl<R: Files + AllocGlobal> Below<R> {
 
     /// What stands at a path: nothing, where something above it is no directory, or the root has no text.
     pub(crate) fn find(&self, path: &RelPath) -> io::Result<Standing> {
+        let standing = self.ask(path)?;
+        self.confirm(path, standing)
+    }
+
+    /// What the system tells of a path at once, though something above it may be a link.
+    pub(crate) fn ask(&self, path: &RelPath) -> io::Result<Standing> {
         if path.is_root() || self.root.is_empty() {
             let text = String::from_str(self.rt.alloc(), self.root.as_str())?;
             let metadata = told(fs::metadata(&self.rt, text.as_str()))?;
             return Ok(Standing { text, metadata });
         }
         let text = self.text_of(path.as_str())?;
-        let metadata = self.told_at(path.as_str(), text.as_str())?;
+        let metadata = self.told_at(path, text.as_str())?;
         Ok(Standing { text, metadata })
     }
 
-    /// What the system tells of a path with this text.
-    fn told_at(&self, path: &str, text: &str) -> io::Result<Option<Metadata>> {
+    /// What the system tells of a path with this text. That a call fails behind a link is nothing that is told of the path.
+    fn told_at(&self, path: &RelPath, text: &str) -> io::Result<Option<Metadata>> {
         match told(fs::symlink_metadata(&self.rt, text)) {
-            // (what can be reached name by name is found at once too)
-            Ok(None) => Ok(None),
-            answer => {
+            Ok(metadata) => Ok(metadata),
+            Err(error) => {
                 if self.is_below_directories(path, text)? {
-                    answer
+                    Err(error)
                 } else {
                     Ok(None)
                 }
@@ -88,8 +94,24 @@ impl<R: Files + AllocGlobal> Below<R> {
         }
     }
 
+    /// The same, or nothing, where something above the path is no directory. What can be reached name by name is found at once too.
+    pub(crate) fn confirm(&self, path: &RelPath, standing: Standing) -> io::Result<Standing> {
+        if standing.metadata.is_none() || self.is_below_directories(path, standing.text.as_str())? {
+            return Ok(standing);
+        }
+        let text = standing.text;
+        Ok(Standing {
+            text,
+            metadata: None,
+        })
+    }
+
     /// Whether each name above a path is a directory's, from the root down. The root is one where anything is found below it.
-    fn is_below_directories(&self, path: &str, text: &str) -> io::Result<bool> {
+    pub(crate) fn is_below_directories(&self, path: &RelPath, text: &str) -> io::Result<bool> {
+        if path.is_root() {
+            return Ok(true);
+        }
+        let path = path.as_str();
         let root_len = text.len().saturating_sub(path.len());
         for (name_end, _) in path.match_indices('/') {
             let Some(above) = text.get(..root_len.saturating_add(name_end)) else {

@@ -1,10 +1,13 @@
 //! The source tree of the host: the files below a root directory.
 
-ghost use Rattle.std.specs.Prelude.{◌≡◌, [], None, IfOk};
+ghost use Rattle.std.specs.Prelude.{◌≡◌, [], None};
 ghost use Rattle.rx_world.specs.Sources.{HasBytes};
 
 use crate::below::Below;
+use crate::contents::Contents;
+use crate::known::Known;
 use crate::looks::{content_mark, look_with, time_mark};
+use crate::reading::ReadFile;
 use crate::tells::tell;
 use crate::world::HostWorld;
 use rx_base::{Bytes, Items, RelPath};
@@ -13,32 +16,28 @@ use rx_world::{Failed, Found, Look, Refused, Sources};
 use std::fs::{File, Files, Metadata};
 use std::io;
 use std::io::Eprint;
+use std::time::Clock;
 
 /// The files below a root directory. A link is Other and is never followed. Nothing stands below
-/// what is no directory.
+/// what is no directory. The content of a file that an earlier session read is taken from `contents`, where the system tells
+/// just the same of the file.
 #[derive(Drop)]
 pub struct HostSources<R> {
-    tree: Below<R>,
+    tree: Known<R>,
     faults: Faults,
 }
 
-impl<R: Files<File = File> + AllocGlobal + Clone + Drop> HostSources<R> {
+impl<R: Files<File = File> + AllocGlobal + Clock> HostSources<R> {
     /// The files below this directory.
-    pub fn new(rt: R, root: String) -> HostSources<R> {
+    pub fn new(rt: R, root: String, contents: Contents) -> HostSources<R> {
         HostSources {
-            tree: Below::new(rt, root),
+            tree: Known::new(rt, root, contents),
             faults: Faults::new(),
         }
     }
 }
 
 impl<R: Files<File = File> + AllocGlobal> Below<R> {
-    /// What stands at a path.
-    fn look_at(&mut self, path: &RelPath) -> io::Result<Look> {
-        let standing = self.find(path)?;
-        self.look_of(path, standing.metadata.as_ref())
-    }
-
     /// The look of a path that the system tells this of. The content is read only for its mark.
     pub(crate) fn look_of(
         &mut self,
@@ -47,28 +46,30 @@ impl<R: Files<File = File> + AllocGlobal> Below<R> {
     ) -> io::Result<Look> {
         match time_mark_of(metadata) {
             Some(mark) => Ok(look_with(metadata, mark)),
-            None => Ok(self.read_at(path)?.0),
+            None => {
+                let read = self.read(path)?;
+                Ok(self.seen_as(read).0)
+            }
         }
     }
 
-    /// What stands at a path, with the bytes of a file.
-    fn read_at(&mut self, path: &RelPath) -> io::Result<(Look, Bytes)>
-        ensures { IfOk result (λ read. HasBytes read.0 read.1) }
+    /// What a path that was read was seen as, with the bytes of a file.
+    pub(crate) fn seen_as(&self, read: ReadFile) -> (Look, Bytes)
+        ensures { HasBytes result.0 result.1 }
     {
-        let read = self.read(path)?;
         let metadata = read.metadata.as_ref();
         let mark = match time_mark_of(metadata) {
             Some(mark) => mark,
             None => content_mark(read.bytes.as_slice()),
         };
         match look_with(metadata, mark) {
-            Look::File { stamp, executable } => Ok((
+            Look::File { stamp, executable } => (
                 Look::File { stamp, executable },
                 Bytes::from_vec(read.bytes),
-            )),
-            Look::Absent => Ok((Look::Absent, self.no_bytes())),
-            Look::Dir => Ok((Look::Dir, self.no_bytes())),
-            Look::Other => Ok((Look::Other, self.no_bytes())),
+            ),
+            Look::Absent => (Look::Absent, self.no_bytes()),
+            Look::Dir => (Look::Dir, self.no_bytes()),
+            Look::Other => (Look::Other, self.no_bytes()),
         }
     }
 
@@ -87,7 +88,7 @@ fn time_mark_of(metadata: Option<&Metadata>) -> Option<u128> {
     }
 }
 
-impl<R: Files<File = File> + AllocGlobal + Eprint + Clone + Drop> Sources<HostWorld>
+impl<R: Files<File = File> + AllocGlobal + Clock + Eprint + Clone + Drop> Sources<HostWorld>
     for HostSources<R> {
     ghost listed = { λ s. None };
 

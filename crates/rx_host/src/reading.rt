@@ -1,7 +1,7 @@
 //! The bytes of files below a directory. A file is opened by its whole path, and read only where the
 //! system says of what was opened that it stands at this path, with no link on the way.
 
-use crate::below::{Below, told};
+use crate::below::{Below, Standing, told};
 use rx_base::RelPath;
 use std::fs::{File, Files, Metadata};
 use std::io::{Error, ErrorKind, Read};
@@ -22,11 +22,18 @@ pub(crate) struct ReadFile {
     pub(crate) bytes: Vec<u8>,
 }
 
+/// A regular file that was opened, and its size a moment ago.
+#[derive(Drop)]
+struct OpenedFile {
+    file: File,
+    size: u64,
+}
+
 /// What came of opening a path.
 #[derive(Drop)]
 enum Opened {
-    /// The regular file there, and its size a moment ago.
-    File { file: File, size: u64 },
+    /// The regular file there.
+    File(OpenedFile),
     /// No regular file stands there.
     Other(Option<Metadata>),
     /// Something else came there meanwhile.
@@ -37,9 +44,22 @@ impl<R: Files<File = File> + AllocGlobal> Below<R> {
     /// What stands at a path, with the bytes of a regular file. They are those of the file that stood
     /// there once it was opened; what is told of it is told once they are read.
     pub(crate) fn read(&mut self, path: &RelPath) -> io::Result<ReadFile> {
+        let standing = self.ask(path)?;
+        self.read_standing(path, &standing)
+    }
+
+    /// The same of a path of which the system has just told this.
+    pub(crate) fn read_standing(
+        &mut self,
+        path: &RelPath,
+        standing: &Standing,
+    ) -> io::Result<ReadFile> {
+        if let Some(opened) = self.open_at_once(path, standing)? {
+            return self.read_all(opened);
+        }
         for _ in 0..OPEN_TRIES {
             match self.open(path)? {
-                Opened::File { file, size } => return self.read_all(file, size),
+                Opened::File(opened) => return self.read_all(opened),
                 Opened::Other(metadata) => {
                     let bytes = Vec::new(self.rt.alloc());
                     return Ok(ReadFile { metadata, bytes });
@@ -50,9 +70,10 @@ impl<R: Files<File = File> + AllocGlobal> Below<R> {
         Err(Error::other("the file was replaced each time it was opened"))
     }
 
-    /// The bytes of a file that had this size a moment ago. Where the first read gives just these, and the system tells
-    /// the same size after it, that was the end.
-    fn read_all(&self, file: File, size: u64) -> io::Result<ReadFile> {
+    /// The bytes of a file. Where the first read gives as many as its size a moment ago, and the system tells the same size
+    /// after it, that was the end.
+    fn read_all(&self, opened: OpenedFile) -> io::Result<ReadFile> {
+        let OpenedFile { file, size } = opened;
         let mut file = file;
         let mut bytes = self.read_once(&mut file, size)?;
         if bytes.len() as u64 == size {
@@ -81,13 +102,10 @@ impl<R: Files<File = File> + AllocGlobal> Below<R> {
         Ok(bytes)
     }
 
-    /// Opens the file at a path: at once, or where that doesn't do, name by name before and after.
+    /// Opens the file at a path, which is asked for name by name before and after.
     fn open(&mut self, path: &RelPath) -> io::Result<Opened> {
-        if let Some(opened) = self.open_at_once(path)? {
-            return Ok(opened);
-        }
         let before = self.find(path)?;
-        if !before.is_file() {
+        if before.file().is_none() {
             return Ok(Opened::Other(before.metadata));
         }
         let Some(file) = told(fs::open(&self.rt, before.text.as_str()))? else {
@@ -96,22 +114,25 @@ impl<R: Files<File = File> + AllocGlobal> Below<R> {
         let metadata = file.metadata()?;
         if self.find(path)?.is_same(&metadata) {
             let size = metadata.len();
-            Ok(Opened::File { file, size })
+            Ok(Opened::File(OpenedFile { file, size }))
         } else {
             Ok(Opened::Replaced)
         }
     }
 
-    /// The regular file at a path, where the system says that what was opened stands there.
-    fn open_at_once(&mut self, path: &RelPath) -> io::Result<Option<Opened>> {
-        let text = self.text_of(path.as_str())?;
-        let size = match fs::symlink_metadata(&self.rt, text.as_str()) {
-            Ok(metadata) if metadata.is_file() => metadata.len(),
-            _ => return Ok(None),
+    /// The regular file at a path of which the system has just told this, where it says that what was opened stands there.
+    fn open_at_once(
+        &mut self,
+        path: &RelPath,
+        standing: &Standing,
+    ) -> io::Result<Option<OpenedFile>> {
+        let Some(metadata) = standing.file() else {
+            return Ok(None);
         };
-        match fs::open(&self.rt, text.as_str()) {
-            Ok(file) if self.is_in_place(path, text.as_str(), &file)? => {
-                Ok(Some(Opened::File { file, size }))
+        let size = metadata.len();
+        match fs::open(&self.rt, standing.text.as_str()) {
+            Ok(file) if self.is_in_place(path, standing.text.as_str(), &file)? => {
+                Ok(Some(OpenedFile { file, size }))
             }
             _ => Ok(None),
         }

@@ -1,0 +1,118 @@
+//! The files below a directory, with the contents that the sessions of a process share. A kept file isn't opened.
+
+ghost use Rattle.std.specs.Prelude.{IfOk};
+ghost use Rattle.rx_world.specs.Sources.{HasBytes};
+
+use crate::below::{Below, Standing, parent_of};
+use crate::contents::{Content, Contents};
+use crate::reading::ReadFile;
+use rx_base::{Bytes, Items, RelPath};
+use rx_world::{Found, Look};
+use std::alloc::Global;
+use std::collections::BTreeSet;
+use std::fs::{File, Files};
+use std::io;
+use std::sync::Arc;
+use std::time::{Clock, Duration, SystemTime, UNIX_EPOCH};
+
+/// The files below a directory. Where a content is kept of what stands at a path, each directory above it is asked for but once by
+/// this object.
+#[derive(Drop)]
+pub(crate) struct Known<R> {
+    tree: Below<R>,
+    contents: Contents,
+    /// Texts of directories that were seen to be such, with no link on the way.
+    seen: BTreeSet<String>,
+}
+
+impl<R: Files<File = File> + AllocGlobal + Clock> Known<R> {
+    /// The files below this directory.
+    pub(crate) fn new(rt: R, root: String, contents: Contents) -> Known<R> {
+        Known {
+            seen: BTreeSet::new(rt.alloc()),
+            tree: Below::new(rt, root),
+            contents,
+        }
+    }
+
+    pub(crate) fn runtime(&self) -> &R {
+        self.tree.runtime()
+    }
+
+    /// What stands at a path.
+    pub(crate) fn look_at(&mut self, path: &RelPath) -> io::Result<Look> {
+        let mut standing = self.tree.ask(path)?;
+        if self.kept_at(path, &standing)?.is_none() {
+            standing = self.tree.confirm(path, standing)?;
+        }
+        self.tree.look_of(path, standing.metadata.as_ref())
+    }
+
+    /// What stands at a path, with the bytes of a file.
+    pub(crate) fn read_at(&mut self, path: &RelPath) -> io::Result<(Look, Bytes)>
+        ensures { IfOk result (λ read. HasBytes read.0 read.1) }
+    {
+        let standing = self.tree.ask(path)?;
+        let read = match self.kept_at(path, &standing)? {
+            Some(kept) => ReadFile {
+                metadata: standing.metadata,
+                bytes: Vec::from_slice(self.tree.runtime().alloc(), kept.bytes.as_slice())?,
+            },
+            None => self.read_anew(path, &standing)?,
+        };
+        Ok(self.tree.seen_as(read))
+    }
+
+    /// What stands at a path, which is opened. Where it is a file its content is kept.
+    fn read_anew(&mut self, path: &RelPath, standing: &Standing) -> io::Result<ReadFile> {
+        let began = now(self.tree.runtime());
+        let read = self.tree.read_standing(path, standing)?;
+        if let Some(began) = began {
+            let alloc = self.tree.runtime().alloc();
+            self.contents
+                .keep(alloc, standing.text.as_str(), &read, began);
+        }
+        Ok(read)
+    }
+
+    /// The kept content of a path of which the system tells this.
+    fn kept_at(
+        &mut self,
+        path: &RelPath,
+        standing: &Standing,
+    ) -> io::Result<Option<Arc<Content, Global>>> {
+        let Some(metadata) = standing.file() else {
+            return Ok(None);
+        };
+        match self.contents.find(standing.text.as_str(), metadata) {
+            Some(kept) if self.is_way_seen(path, standing.text.as_str())? => Ok(Some(kept)),
+            _ => Ok(None),
+        }
+    }
+
+    /// Whether all above a path was seen to be directories, now or before.
+    fn is_way_seen(&mut self, path: &RelPath, text: &str) -> io::Result<bool> {
+        let above = parent_of(text);
+        if self.seen.contains(above) {
+            return Ok(true);
+        }
+        if !self.tree.is_below_directories(path, text)? {
+            return Ok(false);
+        }
+        self.seen
+            .insert(String::from_str(self.tree.runtime().alloc(), above)?)?;
+        Ok(true)
+    }
+}
+
+impl<R: Files<File = File> + AllocGlobal + Clone + Drop> Known<R> {
+    /// The files at or below a path: at most one more than `most`.
+    pub(crate) fn list_at(&mut self, under: &RelPath, most: usize) -> io::Result<Items<Found>> {
+        self.tree.list_at(under, most)
+    }
+}
+
+/// The time since 1970, where the system tells it.
+fn now(rt: &impl Clock) -> Option<Duration> {
+    SystemTime::now(rt).ok()?.duration_since(UNIX_EPOCH).ok()
+}
