@@ -120,7 +120,7 @@ pub record HasStatus {D : Type 0} (old new : Option (List D)) (before now status
 -- ---- in threads
 
 -- The status is 0 only where the front said that it has no more desks or a session was asked to end the run, and 3 only where the front's count
--- rose. Else it is 4: memory ran out.
+-- rose. Else it is 4, which stands for want of memory or of numbers: that one of these was wanting isn't said here.
 pub record HasServingStatus (over : Bool) (before now status : ℕ) (ts : List Transcript) : Type 0 where
   pub ended : status ≡ 0 → (over ≡ true) ⊎ (is_asked_to_end ts ≡ true)
   pub lost : status ≡ 3 → Rose before now

@@ -1,6 +1,6 @@
 //! The front of a run of sessions in threads, which stands behind a lock, and how it was left.
 
-ghost use Rattle.std.specs.Prelude.{◌≡◌, ◌<◌, MatchOption};
+ghost use Rattle.std.specs.Prelude.{◌≡◌, ◌≢◌, ◌<◌, MatchOption, None, false, true};
 ghost use Rattle.rx_engine.specs.Accounts.{one_taken};
 ghost use Rattle.rx_engine.specs.Gates.{IsGate};
 
@@ -58,8 +58,11 @@ impl<W: World, F: Front<W> + Drop, K: Run> Gate<W, F, K> {
     /// The next desk, unless the run was closed. It counts as taken by the account.
     pub(crate) fn next(&mut self, is_closed: bool, account: &mut Account<K>) -> Option<F::D>
         requires { 0 < account.old.parts }
-        ensures { MatchOption result (account.new ≡ account.old)
+        ensures account { MatchOption result (account.new ≡ account.old)
             (λ desk. account.new ≡ one_taken account.old) }
+        // The front of a closed run isn't asked.
+        ensures closed { is_closed ≡ true → (result ≡ None) × (self.new ≡ self.old) }
+        ensures none { result ≡ None → is_closed ≡ false → self.new.left ≢ None }
     {
         if is_closed || self.left.is_some() {
             return None;
