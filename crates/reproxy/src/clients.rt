@@ -7,13 +7,13 @@ use crate::halts::HostHalt;
 use rx_engine::{Desk, Front, Options, Parts};
 use rx_host::{
     Client, Halting, Hands, HostBenches, HostFarm, HostListener, HostSources, HostWorld,
-    PatientSink, SocketSource, draw_seed,
+    PatientSink, PromptSource, draw_seed,
 };
 use rx_world::Failed;
 use std::io;
 
 /// The parts of a client's session.
-pub(crate) type ClientParts<H> = HostParts<H, SocketSource, PatientSink<H>>;
+pub(crate) type ClientParts<H> = HostParts<H, PromptSource<HostRuntime>, PatientSink<H>>;
 
 /// The desk of a client. Where it is put together again, at the end of its session, its connections
 /// are closed: to the client, and to the farm.
@@ -24,7 +24,7 @@ pub(crate) struct ClientDesk<H: Hands> {
 }
 
 impl<H: Hands + Send + Sync> Desk<HostWorld> for ClientDesk<H> {
-    type I = SocketSource;
+    type I = PromptSource<HostRuntime>;
 
     type O = PatientSink<H>;
 
@@ -119,6 +119,7 @@ fn desk_over<H: Hands>(
     let seed = draw_seed(&host.rt)?;
     let halting = Halting::new(host.rt.alloc())?;
     halting.keep_client(&host.hands, end);
+    let input = PromptSource::new(host.rt, input, halting.share()?);
     let output = PatientSink::new(host.rt, host.hands, output, host.children.share()?);
     let parts = parts_over(host, options, seed, &halting, input, output)?;
     let halt = HostHalt::new(host.hands, halting);

@@ -14,7 +14,7 @@ use rx_engine::{Options, Ran, run_in_threads};
 use rx_exec_messages::Caller;
 use rx_host::{
     Hands, HostBench, HostBenches, HostFarm, HostListener, HostPlace, HostSources, HostWorld,
-    PatientSink, SocketSource,
+    PatientSink, PromptSource,
 };
 use rx_world::{Bench, BenchMaker, Place, Sink, Source, Sources, World};
 use std::alloc::AllocError;
@@ -33,7 +33,8 @@ pub(crate) fn listen<'a, H: Hands + Send + Sync>(
         root_in words.now ≡ None → ran.transcripts.items ≡ []) }
     // What was served of the clients is as a run of the proxy says.
     ensures served { IfOk result (λ ran. IfSome (root_in words.now) (λ root. ServesClients
-        (meanings ⟦<HostWorld as World>⟧ ⟦<SocketSource as Source>⟧ ⟦<PatientSink<H> as Sink>⟧
+        (meanings ⟦<HostWorld as World>⟧ ⟦<PromptSource<HostRuntime> as Source>⟧
+        ⟦<PatientSink<H> as Sink>⟧
         ⟦<HostSources<HostRuntime> as Sources<HostWorld>>⟧
         ⟦<HostSources<HostRuntime> as Sources<HostWorld>>⟧
         ⟦<HostBenches<H> as BenchMaker<HostWorld>>⟧

@@ -28,12 +28,14 @@ struct Waits {
     client: Option<SocketEnd>,
 }
 
-/// What is halted, and the waits that this ends. A mark is set before the lock is taken, and read under it, so that no wait
-/// begins unseen.
+/// What is halted, and the waits that this ends. A mark of what is halted is set before the lock is taken, and read under it, so
+/// that no wait begins unseen.
 #[derive(Drop)]
 struct Marks {
     is_farm_halted: AtomicBool,
     are_runs_halted: AtomicBool,
+    /// Whether the client may send nothing, or anything at any time.
+    is_silence_allowed: AtomicBool,
     waits: Mutex<Waits>,
 }
 
@@ -49,6 +51,7 @@ impl Halting {
         let marks = Marks {
             is_farm_halted: AtomicBool::new(false),
             are_runs_halted: AtomicBool::new(false),
+            is_silence_allowed: AtomicBool::new(false),
             waits: Mutex::new(Waits {
                 connecting: None,
                 connection: None,
@@ -94,8 +97,9 @@ impl Halting {
         self.marks.waits.lock(hands).client = Some(client);
     }
 
-    /// Lets the client send nothing for as long as it takes.
+    /// Lets the client send nothing, or anything at any time, for as long as it takes.
     pub fn allow_silence(&self, hands: &impl Wait) {
+        self.marks.is_silence_allowed.store(true, Ordering::SeqCst);
         if let Some(client) = &self.marks.waits.lock(hands).client {
             client.allow_silence();
         }
@@ -123,6 +127,11 @@ impl Halting {
     /// Whether the runs were halted.
     pub(crate) fn are_runs_halted(&self) -> bool {
         self.marks.are_runs_halted.load(Ordering::SeqCst)
+    }
+
+    /// Whether the client may send nothing, or anything at any time, for as long as it takes.
+    pub(crate) fn is_silence_allowed(&self) -> bool {
+        self.marks.is_silence_allowed.load(Ordering::SeqCst)
     }
 
     /// A connection is going to be made.
