@@ -1,9 +1,9 @@
 #!/usr/bin/env bash
-# What the client and a proxy that serves add to steps that read many files, and to whole builds, strategy local: the time of a step that
-# includes 299 headers, whose digests are kept, beside that of g++ alone, and of g++ behind a client and a daemon in C that do the same
-# file work (bench/pair.c); and that of two builds with ninja, 16 steps at once, beside those of the same builds without a proxy. One has
-# 160 short steps, whose sources include 20 small headers each; the other one 48 steps whose sources include as many, and four headers of
-# the C++ library, as most sources do.
+# What the client and a proxy that serves add to steps that read many files, and to whole builds, strategy local: the times of two steps that
+# include 299 headers each, whose digests are kept, of about 1 kB and of about 6 kB, beside those of g++ alone, and of g++ behind a client
+# and a daemon in C that do the same file work (bench/pair.c); and those of two builds with ninja, 16 steps at once, beside those of the
+# same builds without a proxy. One has 160 short steps, whose sources include 20 small headers each; the other one 48 steps whose sources
+# include as many, and four headers of the C++ library, as most sources do.
 #
 #   bash bench/builds.sh [ROUNDS]
 #
@@ -31,19 +31,26 @@ at_once=16
 mkdir "$root/include"
 cd "$root"
 
-# A header is about 1 kB; the source of the single step includes all, and the ones of the build twenty each.
-for ((header = 0; header < header_count; header++)); do
-    library=include/library$((header % 8))
-    mkdir -p "$library"
-    {
-        echo '#pragma once'
-        for ((part = 0; part < 8; part++)); do
-            echo "// What part $part of the header $header has: a type with two members, and the sum of these."
-            echo "struct Type${header}_$part { int a, b; int sum() const { return a + b; } };"
-        done
-    } > "$library/header$header.h"
-    echo "#include \"library$((header % 8))/header$header.h\"" >> step.cc
-done
+# headers FOLDER PARTS SOURCE: headers below a folder, in eight libraries, of so many parts each, and a source that includes all
+headers() {
+    local library
+    for ((header = 0; header < header_count; header++)); do
+        library=$1$((header % 8))
+        mkdir -p "include/$library"
+        {
+            echo '#pragma once'
+            for ((part = 0; part < $2; part++)); do
+                echo "// What part $part of the header $header has: a type with two members, and the sum of these."
+                echo "struct Type${header}_$part { int a, b; int sum() const { return a + b; } };"
+            done
+        } > "include/$library/header$header.h"
+        echo "#include \"$library/header$header.h\"" >> "$3"
+    done
+}
+
+# A header of eight parts, or of forty, has about 1 kB, or 6 kB. The sources of the builds include twenty of the short ones each.
+headers library 8 step.cc
+headers large 40 large.cc
 
 # sources KIND COUNT INCLUDE..: so many sources, which begin with these headers of the C++ library
 sources() {
@@ -67,11 +74,11 @@ sources full "$full_count" iostream map string vector
 
 serve_at in-memory "$scratch" "$at_once"
 serve_at in-tmp /tmp "$at_once"
-start_pair step.cc include/*/*.h
+start_pair step.cc include/library*/*.h
 
-# step WORDS: the single step, behind these words
+# step NAME WORDS: the step of a source, behind these words
 step() {
-    $1 g++ -Iinclude -c step.cc -o "step-$call.o"
+    $2 g++ -Iinclude -c "$1.cc" -o "step-$call.o"
 }
 
 step_in_c() {
@@ -118,12 +125,13 @@ if [ -n "$ninja" ]; then
 fi
 
 for ((round = 0; round <= rounds; round++)); do
-    of_alone=$(time_of step "$plain")
-    rm step-*.o
-    of_memory=$(time_of step "$in_memory")
-    rm step-*.o
-    of_tmp=$(time_of step "$in_tmp")
-    rm step-*.o
+    steps=
+    for name in step large; do
+        for words in "$plain" "$in_memory" "$in_tmp"; do
+            steps="$steps $(time_of step "$name" "$words")"
+            rm step-*.o
+        done
+    done
     of_pair=$(time_of step_in_c)
     rm -f step-*.o
     builds="0 0 0 0 0 0"
@@ -131,7 +139,7 @@ for ((round = 0; round <= rounds; round++)); do
         builds="$(build short-alone) $(build short-memory) $(build short-tmp) $(build full-alone) $(build full-memory) $(build full-tmp)"
     fi
     if ((round > 0)); then
-        echo "$of_alone $of_memory $of_tmp $builds $of_pair"
+        echo "$steps $builds $of_pair"
     fi
 done > "$work/times"
 
@@ -146,12 +154,14 @@ ratio() {
 }
 
 echo "$rounds rounds, by turns; milliseconds"
-echo "a step of $((header_count + 1)) files, g++ alone: $(milliseconds '$1' "$calls")"
+echo "a step of $((header_count + 1)) files of about 1 kB, g++ alone: $(milliseconds '$1' "$calls")"
 echo "through the proxy, sandboxes in $scratch: it adds $(milliseconds '$2 - $1' "$calls"); in /tmp: $(milliseconds '$3 - $1' "$calls")"
-[ -z "$pair" ] || echo "through the client and daemon in C: it adds $(milliseconds '$10 - $1' "$calls")"
+[ -z "$pair" ] || echo "through the client and daemon in C: it adds $(milliseconds '$13 - $1' "$calls")"
+echo "a step of $((header_count + 1)) files of about 6 kB, g++ alone: $(milliseconds '$4' "$calls")"
+echo "through the proxy, sandboxes in $scratch: it adds $(milliseconds '$5 - $4' "$calls"); in /tmp: $(milliseconds '$6 - $4' "$calls")"
 if [ -n "$ninja" ]; then
-    echo "a build of $short_count short steps, $at_once at once, g++ alone: $(milliseconds '$4' 1)"
-    echo "through the proxy, sandboxes in $scratch: $(ratio '$5 / $4') times as long; in /tmp: $(ratio '$6 / $4') times"
-    echo "a build of $full_count steps with headers of the C++ library, $at_once at once, g++ alone: $(milliseconds '$7' 1)"
+    echo "a build of $short_count short steps, $at_once at once, g++ alone: $(milliseconds '$7' 1)"
     echo "through the proxy, sandboxes in $scratch: $(ratio '$8 / $7') times as long; in /tmp: $(ratio '$9 / $7') times"
+    echo "a build of $full_count steps with headers of the C++ library, $at_once at once, g++ alone: $(milliseconds '$10' 1)"
+    echo "through the proxy, sandboxes in $scratch: $(ratio '$11 / $10') times as long; in /tmp: $(ratio '$12 / $10') times"
 fi
