@@ -8,10 +8,17 @@ use std::sync::{Arc, Mutex};
 /// What an entry takes beside the bytes of its value, about.
 const BYTES_BESIDE: usize = 256;
 
+/// A value, and how many bytes its entry takes, about.
+#[derive(Drop)]
+struct Entry<V> {
+    value: Arc<V, Global>,
+    bytes: usize,
+}
+
 #[derive(Drop)]
 struct Kept<K: Ord, V> {
-    by_key: BTreeMap<K, Arc<V, Global>>,
-    /// How many bytes all take, about. A value that was replaced still counts.
+    by_key: BTreeMap<K, Entry<V>>,
+    /// How many bytes all entries take, about.
     bytes: usize,
 }
 
@@ -38,25 +45,26 @@ impl<K: Ord + Drop, V: Drop> Memo<K, V> {
     /// The value of a key.
     pub fn find<Q: Comparable<K>>(&self, key: Q) -> Option<Arc<V, Global>> {
         let kept = self.kept.try_lock()?;
-        Arc::try_clone(kept.by_key.get(key)?).ok()
+        Arc::try_clone(&kept.by_key.get(key)?.value).ok()
     }
 
     /// Keeps a value that takes so many bytes, in place of an older one of its key. Where all would take more than they may, all
     /// others are let go. Where memory is wanting it isn't kept.
     pub fn keep(&self, alloc: Global, key: K, value: Arc<V, Global>, bytes: usize) {
-        let taken = bytes.saturating_add(BYTES_BESIDE);
-        if taken > self.most_bytes {
+        let bytes = bytes.saturating_add(BYTES_BESIDE);
+        if bytes > self.most_bytes {
             return;
         }
         let Some(mut kept) = self.kept.try_lock() else {
             return;
         };
-        if kept.bytes > self.most_bytes - taken {
+        if kept.bytes > self.most_bytes - bytes {
             kept.by_key = BTreeMap::new(alloc);
             kept.bytes = 0;
         }
-        if kept.by_key.insert(key, value).is_ok() {
-            kept.bytes = kept.bytes.saturating_add(taken);
+        if let Ok(before) = kept.by_key.insert(key, Entry { value, bytes }) {
+            let freed = before.map_or(0, |before| before.bytes);
+            kept.bytes = kept.bytes.saturating_sub(freed).saturating_add(bytes);
         }
     }
 }
