@@ -19,6 +19,7 @@ const MOST_BYTES: usize = 64 << 20;
 #[derive(Drop)]
 pub struct Lexed {
     text: Vec<u8>,
+    /// What the text includes.
     pub found: Directives,
     pub ghost found_in: { found_view found ≡ directives_of text.items },
 }
