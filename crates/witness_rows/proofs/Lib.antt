@@ -1,5 +1,4 @@
 mod Both
-mod Crossing
 mod Decoded
 mod NoFile
 mod OneFile

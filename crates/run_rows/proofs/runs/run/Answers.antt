@@ -1,5 +1,5 @@
 use denote.Param.Send.{sendable}
-use Rattle.run_rows.proofs.Crossing.{script_send}
+use Rattle.rx_exec_messages.proofs.Crossing.{script_send}
 use Rattle.run_rows.proofs.runs.run.Goals as goal
 
 pub run_front-ran-requires-send-C : goal.run_front-ran-requires-send-C

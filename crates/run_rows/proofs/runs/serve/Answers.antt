@@ -1,5 +1,5 @@
 use denote.Param.Send.{sendable}
-use Rattle.run_rows.proofs.Crossing.{script_send}
+use Rattle.rx_exec_messages.proofs.Crossing.{script_send}
 use Rattle.run_rows.proofs.runs.serve.Goals as goal
 
 pub serve_desk-transcript-requires-send-C : goal.serve_desk-transcript-requires-send-C

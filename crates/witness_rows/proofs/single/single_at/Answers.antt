@@ -8,7 +8,7 @@ use Rattle.rx_engine.specs.Honest.{IsCleanIfDone}
 use Rattle.rx_session.specs.Frames.{IsRequest}
 use Rattle.rx_world.specs.Toy.{toy_tool}
 use Rattle.witness_rows.specs.Single.{single_frame, single_outcome, single_request, single_tree}
-use Rattle.witness_rows.proofs.Crossing.{script_send}
+use Rattle.rx_exec_messages.proofs.Crossing.{script_send}
 use Rattle.witness_rows.proofs.Both.{one_left, uncounted}
 use Rattle.witness_rows.proofs.Decoded.{single_decoded}
 use Rattle.witness_rows.proofs.OutcomeLemmas.{outcome-if-done}

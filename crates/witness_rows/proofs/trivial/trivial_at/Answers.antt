@@ -8,7 +8,7 @@ use Rattle.rx_engine.specs.Honest.{IsCleanIfDone}
 use Rattle.rx_session.specs.Frames.{IsRequest}
 use Rattle.rx_world.specs.Toy.{toy_tool}
 use Rattle.witness_rows.specs.Trivial.{trivial_frame, trivial_outcome, trivial_request}
-use Rattle.witness_rows.proofs.Crossing.{script_send}
+use Rattle.rx_exec_messages.proofs.Crossing.{script_send}
 use Rattle.witness_rows.proofs.Both.{one_left, uncounted}
 use Rattle.witness_rows.proofs.Decoded.{trivial_decoded}
 use Rattle.witness_rows.proofs.OutcomeLemmas.{outcome-if-done}
