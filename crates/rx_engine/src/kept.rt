@@ -1,7 +1,7 @@
 //! What a run of sessions in threads keeps of them, which stands behind a lock: the board, and of each
 //! session that ended its transcript and its desk, in the order in which they published.
 
-ghost use Rattle.std.specs.Prelude.{◌≡◌, ◌+◌, ◌<◌, ◌≤◌, IsTrue, List, false, length, vec_capacity};
+ghost use Rattle.std.specs.Prelude.{◌≡◌, ◌+◌, ◌<◌, ◌≤◌, IsTrue, List, false, length, true, vec_capacity};
 ghost use Rattle.rx_board.specs.Journal.{HoldsLast, IsKeptBy, count_short};
 ghost use Rattle.rx_world.specs.declared.outcomes.FileOut.{FileOut};
 ghost use Rattle.rx_engine.specs.Accounts.{one_concluded};
@@ -96,7 +96,10 @@ impl<W: World, D: Desk<W> + Drop, P: Place, K: Run> Kept<W, D, P, K> {
 
     /// Makes room for what so many sessions more leave, so that none of them is given up. False where
     /// there is no memory for it.
-    pub(crate) fn make_room(&mut self, sessions: u16) -> bool {
+    pub(crate) fn make_room(&mut self, sessions: u16) -> bool
+        ensures same { result ≡ true → self.new ≡ self.old }
+        ensures told { result ≡ false → self.new.given_up ≡ true }
+    {
         if has_room(&mut self.transcripts, &mut self.desks, sessions) {
             return true;
         }
@@ -120,7 +123,9 @@ impl<W: World, D: Desk<W> + Drop, P: Place, K: Run> Kept<W, D, P, K> {
             D.B.B.Bench D.R.Sources D.C.Caller)
             D.parts K.root parts pending }
         requires account { 0 < account.old.parts }
-        ensures { account.new ≡ one_concluded account.old }
+        ensures account { account.new ≡ one_concluded account.old }
+        ensures same { result ≡ true → self.new.given_up ≡ self.old.given_up }
+        ensures told { result ≡ false → self.new.given_up ≡ true }
     {
         account.conclude(&mut self.concluded);
         let served = self.transcripts.len();
