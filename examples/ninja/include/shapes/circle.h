@@ -1,20 +1,17 @@
 #pragma once
 
-#include "shapes/shape.h"
+#include "shapes/ellipse.h"
 
 namespace shapes {
 
-class Circle : public Shape {
+// An ellipse that reaches as far across as up.
+class Circle : public Ellipse {
 public:
     Circle(Point center, double radius);
     std::string name() const override;
-    double area() const override;
     double perimeter() const override;
-    Bounds bounds() const override;
-    bool contains(Point point) const override;
 
 private:
-    Point center_;
     double radius_;
 };
 

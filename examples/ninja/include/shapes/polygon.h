@@ -6,6 +6,9 @@ namespace shapes {
 
 // Corners in one direction, without crossings.
 class Polygon : public Shape {
+    std::string name_;
+    std::vector<Point> corners_;
+
 public:
     Polygon(std::string name, std::vector<Point> corners);
     std::string name() const override;
@@ -13,10 +16,6 @@ public:
     double perimeter() const override;
     Bounds bounds() const override;
     bool contains(Point point) const override;
-
-private:
-    std::string name_;
-    std::vector<Point> corners_;
 };
 
 }  // namespace shapes
