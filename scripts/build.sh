@@ -88,25 +88,27 @@ build_program() {
     [ -x "$program" ] || { echo "rt left no program at $program" >&2; return 1; }
 }
 
+# build_named CRATE VARIABLE GIVEN TOP LOG: sets `built` to the path of a crate's program: to GIVEN, the value of VARIABLE, where it isn't
+# empty, and else to that of one that it builds
+build_named() {
+    if [ -z "$3" ]; then
+        build_program "$4" "$1" "$5" --help || return 1
+        built=$program
+        return 0
+    fi
+    built=$3
+    [ -x "$built" ] || { echo "$2 names no program: $built" >&2; return 1; }
+}
+
 # build_reproxy TOP LOG: builds reproxy, and sets `reproxy` to the program's path. Where REPROXY names a program, that one is
 # taken as it is.
 build_reproxy() {
-    if [ -n "${REPROXY:-}" ]; then
-        reproxy=$REPROXY
-        [ -x "$reproxy" ] || { echo "REPROXY names no program: $reproxy" >&2; return 1; }
-        return 0
-    fi
-    build_program "$1" reproxy "$2" --help || return 1
-    reproxy=$program
+    build_named reproxy REPROXY "${REPROXY:-}" "$@" || return 1
+    reproxy=$built
 }
 
 # build_rewrapper TOP LOG: the same of rewrapper, and REWRAPPER.
 build_rewrapper() {
-    if [ -n "${REWRAPPER:-}" ]; then
-        rewrapper=$REWRAPPER
-        [ -x "$rewrapper" ] || { echo "REWRAPPER names no program: $rewrapper" >&2; return 1; }
-        return 0
-    fi
-    build_program "$1" rewrapper "$2" --help || return 1
-    rewrapper=$program
+    build_named rewrapper REWRAPPER "${REWRAPPER:-}" "$@" || return 1
+    rewrapper=$built
 }
