@@ -1,22 +1,26 @@
 #!/usr/bin/env bash
-# What the client and a proxy that serves add to steps that read many files, and to whole builds, strategy local: the times of two steps that
-# include 299 headers each, whose digests are kept, of about 1 kB and of about 6 kB, beside those of g++ alone, and of g++ behind a client
-# and a daemon in C that do the same file work (bench/pair.c); and those of two builds with ninja, 16 steps at once, beside those of the
-# same builds without a proxy. One has 160 short steps, whose sources include 20 small headers each; the other one 48 steps whose sources
-# include as many, and four headers of the C++ library, as most sources do.
+# What the client and a proxy that serves add to steps that read many files, and to whole builds, strategy local.
+#
+# The steps have no header, or 299 of about 1 kB or about 6 kB each, whose digests are kept. They are called alone, through the proxy, and
+# through a client and a daemon in C that do the same file work (bench/pair.c). A program that only writes an object stands in for the
+# compiler, since what g++ takes differs more from call to call than what is measured. The builds, with ninja, 16 steps at once, are by g++
+# itself: one of 160 short steps, whose sources include 20 small headers each, and one of 48 steps whose sources include as many, and four
+# headers of the C++ library, as most sources do. They are run without a proxy, through it, through that client and daemon, and behind a
+# client that only starts the command, which tells what one process more costs.
 #
 #   bash bench/builds.sh [ROUNDS]
 #
-# Run by hand, on a machine that does nothing else. All are measured in one run and by turns: each of ROUNDS rounds (10) times four steps
-# of each kind, and each build once. The script prints the medians over the rounds, and those of the rounds' differences and ratios. The
-# first round warms up and doesn't count. Objects are removed between the rounds. bench/proxies.sh says where the files are. There are two
-# proxies, one with its sandboxes in memory, as the daemon in C has, and one with them in /tmp. Where there is no ninja the build is left out.
+# Run by hand, on a machine that does nothing else, with ninja and a C compiler. All are measured in one run and by turns: each of ROUNDS
+# rounds (10) times 20 calls of each step, and each build once. The script prints the medians over the rounds, and those of the rounds'
+# differences from, or ratios to, what is called alone. The first round warms up and doesn't count. Objects are removed between the rounds.
+# Sandboxes are in memory, as those of the daemon in C are; at the end come rounds with sandboxes in /tmp, apart, since a disk that removes
+# files is slow for all. bench/proxies.sh says where the files are.
 set -eu
 export LC_ALL=C
 
 top=$(cd "$(dirname "$0")/.." && pwd)
 rounds=${1:-10}
-calls=4
+calls=20
 . "$top/scripts/build.sh"
 . "$top/bench/times.sh"
 build_reproxy "$top" "${TMPDIR:-/tmp}/reproxy-build.log"
@@ -49,8 +53,19 @@ headers() {
 }
 
 # A header of eight parts, or of forty, has about 1 kB, or 6 kB. The sources of the builds include twenty of the short ones each.
-headers library 8 step.cc
+: > empty.cc
+headers library 8 small.cc
 headers large 40 large.cc
+declare -A headers_in=([empty]="" [small]=$(echo include/library*/*.h) [large]=$(echo include/large*/*.h))
+
+# headers_of SOURCE: those of our own that the source with this number includes
+headers_of() {
+    local one header
+    for ((one = 0; one < 20; one++)); do
+        header=$((($1 * 7 + one) % header_count))
+        echo "library$((header % 8))/header$header.h"
+    done
+}
 
 # sources KIND COUNT INCLUDE..: so many sources, which begin with these headers of the C++ library
 sources() {
@@ -61,10 +76,7 @@ sources() {
             for name in "$@"; do
                 echo "#include <$name>"
             done
-            for ((one = 0; one < 20; one++)); do
-                header=$(((source * 7 + one) % header_count))
-                echo "#include \"library$((header % 8))/header$header.h\""
-            done
+            headers_of "$source" | sed 's/.*/#include "&"/'
             echo "int value$source() { return $source; }"
         } > "$kind$source.cc"
     done
@@ -74,94 +86,103 @@ sources full "$full_count" iostream map string vector
 
 serve_at in-memory "$scratch" "$at_once"
 serve_at in-tmp /tmp "$at_once"
-start_pair step.cc include/library*/*.h
+start_pair "$at_once"
+[ -n "$pair" ] || { echo "builds.sh: there is no C compiler" >&2; exit 1; }
+type -P ninja > /dev/null || { echo "builds.sh: there is no ninja" >&2; exit 1; }
 
-# step NAME WORDS: the step of a source, behind these words
+# What stands before the command in each way to call it; the client in C is told the object and the inputs too.
+declare -A words=([alone]="" [memory]=$(client in-memory) [tmp]=$(client in-tmp) [start]="$pair start")
+
+# What stands in for the compiler.
+mkdir "$work/bin"
+stand_in=$work/bin/g++
+ln -s "$pair" "$stand_in"
+
+# step NAME WAY: the step of a source, in one of these ways or in C
 step() {
-    $2 g++ -Iinclude -c "$1.cc" -o "step-$call.o"
-}
-
-step_in_c() {
-    if [ -n "$pair" ]; then
-        "$pair" client "$in_c" "step-$call.o" g++ -Iinclude -c step.cc -o "step-$call.o"
+    local before=${words[$2]-}
+    if [ "$2" = pair ]; then
+        before="$pair client $in_c step-$call.o $1.cc ${headers_in[$1]} --"
     fi
+    $before "$stand_in" -Iinclude -c "$1.cc" -o "step-$call.o"
 }
 
-# ninja_file NAME WORDS KIND COUNT: the build file of a build of these sources, whose steps go behind these words
+# ninja_file KIND COUNT WAY: the build file of a build of these sources
 ninja_file() {
+    local before=${words[$3]-}
+    if [ "$3" = pair ]; then
+        before="$pair client $in_c \$out \$in \$headers --"
+    fi
     {
         echo "rule compile"
-        echo "  command = $2 g++ -Iinclude -c \$in -o \$out"
-        for ((source = 0; source < $4; source++)); do
-            echo "build $1/$3$source.o: compile $3$source.cc"
+        echo "  command = $before g++ -Iinclude -c \$in -o \$out"
+        for ((source = 0; source < $2; source++)); do
+            echo "build $1-$3/$1$source.o: compile $1$source.cc"
+            echo "  headers = $(headers_of "$source" | sed 's|^|include/|' | tr '\n' ' ')"
         done
-    } > "$1.ninja"
-    mkdir "$1"
+    } > "$1-$3.ninja"
+    mkdir "$1-$3"
 }
+for way in alone memory pair start tmp; do
+    ninja_file short "$short_count" "$way"
+    ninja_file full "$full_count" "$way"
+done
 
-# ninja_files KIND COUNT: those of the three builds of these sources
-ninja_files() {
-    ninja_file "$1-alone" "" "$1" "$2"
-    ninja_file "$1-memory" "$in_memory" "$1" "$2"
-    ninja_file "$1-tmp" "$in_tmp" "$1" "$2"
-}
-
-# build NAME: its time, in microseconds; its objects are removed first
+# build KIND WAY: its time, in microseconds; its objects are removed first
 build() {
     local begin
-    rm -f "$1"/*.o
+    rm -f "$1-$2"/*.o
     begin=$(now)
-    ninja -f "$1.ninja" -j "$at_once" > /dev/null
+    ninja -f "$1-$2.ninja" -j "$at_once" > /dev/null
     echo $(($(now) - begin))
 }
 
-ninja=$(type -P ninja || true)
-plain=
-in_memory=$(client in-memory)
-in_tmp=$(client in-tmp)
-if [ -n "$ninja" ]; then
-    ninja_files short "$short_count"
-    ninja_files full "$full_count"
-fi
-
-for ((round = 0; round <= rounds; round++)); do
-    steps=
-    for name in step large; do
-        for words in "$plain" "$in_memory" "$in_tmp"; do
-            steps="$steps $(time_of step "$name" "$words")"
-            rm step-*.o
+# measure WAY..: a line for each step and build in these ways, and each round: the round, the name, the way, and microseconds
+measure() {
+    for ((round = 0; round <= rounds; round++)); do
+        for name in empty small large; do
+            for way in "$@"; do
+                if [ "$way" != start ]; then
+                    echo "$round $name $way $(time_of step "$name" "$way")"
+                    rm step-*.o
+                fi
+            done
+        done
+        for name in short full; do
+            for way in "$@"; do
+                echo "$round $name $way $(build "$name" "$way")"
+            done
         done
     done
-    of_pair=$(time_of step_in_c)
-    rm -f step-*.o
-    builds="0 0 0 0 0 0"
-    if [ -n "$ninja" ]; then
-        builds="$(build short-alone) $(build short-memory) $(build short-tmp) $(build full-alone) $(build full-memory) $(build full-tmp)"
-    fi
-    if ((round > 0)); then
-        echo "$steps $builds $of_pair"
-    fi
-done > "$work/times"
-
-# milliseconds EXPRESSION DIVISOR: the median of what awk makes of a round's times
-milliseconds() {
-    awk -v n="$2" "{ print ($1) / n / 1000 }" "$work/times" | median
 }
 
-# ratio EXPRESSION: the median of the rounds' ratios
-ratio() {
-    awk "{ print ($1) }" "$work/times" | median
+# of_rounds NAME WAY EXPRESSION: the median over the rounds of what awk makes of the time in this way, t, and of that alone, a
+of_rounds() {
+    awk -v name="$1" -v way="$2" -v calls="$calls" '
+    $1 == 0 || $2 != name { next }
+    $3 == "alone" { alone[$1] = $4 }
+    $3 == way { taken[$1] = $4 }
+    END { for (round in taken) { t = taken[round]; a = alone[round]; print '"$3"' } }' "$work/times" | median
 }
 
-echo "$rounds rounds, by turns; milliseconds"
-echo "a step of $((header_count + 1)) files of about 1 kB, g++ alone: $(milliseconds '$1' "$calls")"
-echo "through the proxy, sandboxes in $scratch: it adds $(milliseconds '$2 - $1' "$calls"); in /tmp: $(milliseconds '$3 - $1' "$calls")"
-[ -z "$pair" ] || echo "through the client and daemon in C: it adds $(milliseconds '$13 - $1' "$calls")"
-echo "a step of $((header_count + 1)) files of about 6 kB, g++ alone: $(milliseconds '$4' "$calls")"
-echo "through the proxy, sandboxes in $scratch: it adds $(milliseconds '$5 - $4' "$calls"); in /tmp: $(milliseconds '$6 - $4' "$calls")"
-if [ -n "$ninja" ]; then
-    echo "a build of $short_count short steps, $at_once at once, g++ alone: $(milliseconds '$7' 1)"
-    echo "through the proxy, sandboxes in $scratch: $(ratio '$8 / $7') times as long; in /tmp: $(ratio '$9 / $7') times"
-    echo "a build of $full_count steps with headers of the C++ library, $at_once at once, g++ alone: $(milliseconds '$10' 1)"
-    echo "through the proxy, sandboxes in $scratch: $(ratio '$11 / $10') times as long; in /tmp: $(ratio '$12 / $10') times"
-fi
+# tell WAY WORDS: what is measured in this way
+tell() {
+    echo "$2: a step of one file takes $(of_rounds empty "$1" '(t - a) / calls / 1000') ms more, one of $((header_count + 1)) files of" \
+        "about 1 kB $(of_rounds small "$1" '(t - a) / calls / 1000'), of about 6 kB $(of_rounds large "$1" '(t - a) / calls / 1000')"
+    tell_builds "$1" "$2"
+}
+
+# tell_builds WAY WORDS: of the builds alone
+tell_builds() {
+    echo "$2: a build of $short_count short steps takes $(of_rounds short "$1" 't / a') times as long, one of $full_count steps with headers of" \
+        "the C++ library $(of_rounds full "$1" 't / a')"
+}
+
+measure alone memory pair start > "$work/times"
+echo "$rounds rounds, by turns; alone the steps take $(of_rounds small alone 't / calls / 1000') ms, the builds $(of_rounds short alone 't / 1000')" \
+    "and $(of_rounds full alone 't / 1000')"
+tell memory "through the proxy, sandboxes in $scratch"
+tell pair "through the client and daemon in C"
+tell_builds start "behind a client that only starts the command"
+measure alone tmp > "$work/times"
+tell tmp "through the proxy, sandboxes in /tmp"

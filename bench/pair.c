@@ -1,27 +1,32 @@
 /* A client and a daemon in C, to compare the time of a step through rewrapper and reproxy with. They do the work of a local step on files
    and programs, and no more: the daemon puts the inputs into a sandbox of the request's own, runs the command there, takes the object,
-   renames it into its place, replies, and then removes the sandbox. They scan nothing (the daemon is told the inputs of all steps as it starts), hash
-   nothing, serve one client after the other, and end at the first fault.
+   renames it into its place, replies, and then removes the sandbox. They scan nothing (the client names the inputs), hash nothing, and end
+   at the first fault. The daemon has so many processes as it is told, each of which serves one client after the other.
 
-     pair daemon SOCKET SCRATCH ROOT INPUT..
-     pair client SOCKET OBJECT COMMAND..
+     pair daemon SOCKET SCRATCH ROOT PROCESSES
+     pair client SOCKET OBJECT INPUT.. -- COMMAND..
+     pair start COMMAND..
+     g++ WORD..
 
-   A request and a reply are each a number of 4 bytes in the machine's order, then as many bytes: of a request the object's name and the
-   command's words, each ended by a zero; of a reply the status, and what the command wrote. */
+   `start` runs the command where it is, and waits: no client can cost less. Called as g++ the program stands in for the compiler, and only
+   writes an object: what goes through a proxy then takes as long as the proxy, and no more. A request and a reply are each a number of 4 bytes in the machine's order, then as many bytes: of a request the client's words from the
+   object on, each ended by a zero; of a reply the status, and what the command wrote. */
 #define _GNU_SOURCE
 #include <errno.h>
 #include <fcntl.h>
 #include <ftw.h>
+#include <signal.h>
 #include <stdio.h>
 #include <stdlib.h>
 #include <string.h>
+#include <sys/prctl.h>
 #include <sys/socket.h>
 #include <sys/stat.h>
 #include <sys/un.h>
 #include <sys/wait.h>
 #include <unistd.h>
 
-enum { MOST_BYTES = 1 << 24, MOST_WORDS = 4096 };
+enum { MOST_BYTES = 1 << 24, MOST_WORDS = 4096, OBJECT_BYTES = 4096 };
 
 static char bytes[MOST_BYTES], texts[MOST_BYTES];
 
@@ -106,6 +111,12 @@ static int remove_one(const char *path, const struct stat *found, int kind, stru
     return remove(path);
 }
 
+static int status_of(pid_t child) {
+    int status;
+    need(waitpid(child, &status, 0) == child, "waitpid");
+    return status;
+}
+
 /* Runs a command in a directory, and answers the size of the reply in `texts`: its status and what it wrote. */
 static unsigned run(char **words, const char *directory) {
     int ends[2];
@@ -122,13 +133,12 @@ static unsigned run(char **words, const char *directory) {
     close(ends[1]);
     unsigned size = (unsigned)read_to_end(ends[0], texts + sizeof(int));
     close(ends[0]);
-    int status;
-    need(waitpid(child, &status, 0) == child, "waitpid");
+    int status = status_of(child);
     memcpy(texts, &status, sizeof status);
     return size + sizeof status;
 }
 
-static void serve_one(int client, const char *scratch, const char *root, char **inputs) {
+static void serve_one(int client, const char *scratch, const char *root) {
     static char request[MOST_BYTES];
     unsigned size = take_message(client, request);
     char *words[MOST_WORDS + 1];
@@ -140,13 +150,17 @@ static void serve_one(int client, const char *scratch, const char *root, char **
     char sandbox[4096], from[8192], into[8192], made[8192] = "";
     snprintf(sandbox, sizeof sandbox, "%s/pair.XXXXXX", scratch);
     need(mkdtemp(sandbox) != NULL, sandbox);
-    for (; *inputs != NULL; inputs++) {
-        snprintf(from, sizeof from, "%s/%s", root, *inputs);
-        snprintf(into, sizeof into, "%s/%s", sandbox, *inputs);
+    char **input = words + 1;
+    for (; *input != NULL && strcmp(*input, "--") != 0; input++) {
+        snprintf(from, sizeof from, "%s/%s", root, *input);
+        snprintf(into, sizeof into, "%s/%s", sandbox, *input);
         make_above(into, strlen(sandbox), made);
         copy(from, into);
     }
-    unsigned replied = run(words + 1, sandbox);
+    need(*input != NULL, "words");
+    snprintf(into, sizeof into, "%s/%s", sandbox, words[0]);
+    make_above(into, strlen(sandbox), made);
+    unsigned replied = run(input + 1, sandbox);
     snprintf(from, sizeof from, "%s/%s", sandbox, words[0]);
     snprintf(into, sizeof into, "%s/%s.new", root, words[0]);
     copy(from, into);
@@ -156,16 +170,40 @@ static void serve_one(int client, const char *scratch, const char *root, char **
     nftw(sandbox, remove_one, 16, FTW_DEPTH | FTW_PHYS);
 }
 
-static void serve(const char *path, const char *scratch, const char *root, char **inputs) {
+/* Serves clients in so many processes, which end with the first one. */
+static void serve(const char *path, const char *scratch, const char *root, int processes) {
     struct sockaddr_un address;
     int listener = socket_at(path, &address);
     need(bind(listener, (struct sockaddr *)&address, sizeof address) == 0 && listen(listener, 16) == 0, path);
+    for (pid_t child = 1; processes > 1 && child > 0; processes--) {
+        child = fork();
+        need(child >= 0, "fork");
+        if (child == 0) {
+            need(prctl(PR_SET_PDEATHSIG, SIGTERM) == 0, "prctl");
+            break;
+        }
+    }
     for (;;) {
         int client = accept4(listener, NULL, NULL, SOCK_CLOEXEC);
         need(client >= 0, "accept");
-        serve_one(client, scratch, root, inputs);
+        serve_one(client, scratch, root);
         close(client);
     }
+}
+
+/* What a program exits with that tells of this status. */
+static int exit_of(int status) {
+    return WIFEXITED(status) ? WEXITSTATUS(status) : 1;
+}
+
+static int start(char **words) {
+    pid_t child = vfork();
+    need(child >= 0, "vfork");
+    if (child == 0) {
+        execvp(words[0], words);
+        _exit(127);
+    }
+    return exit_of(status_of(child));
 }
 
 static int ask(const char *path, char **words) {
@@ -184,14 +222,34 @@ static int ask(const char *path, char **words) {
     write_all(2, texts + sizeof(int), size - sizeof(int));
     int status;
     memcpy(&status, texts, sizeof status);
-    return WIFEXITED(status) ? WEXITSTATUS(status) : 1;
+    return exit_of(status);
+}
+
+/* Writes zeros to the file that -o names. */
+static int compile(char **words) {
+    for (; *words != NULL; words++) {
+        if (strcmp(*words, "-o") == 0 && words[1] != NULL) {
+            int object = open(words[1], O_WRONLY | O_CREAT | O_TRUNC | O_CLOEXEC, 0644);
+            need(object >= 0, words[1]);
+            write_all(object, bytes, OBJECT_BYTES);
+            return 0;
+        }
+    }
+    return 1;
 }
 
 int main(int count, char **words) {
-    if (count > 5 && strcmp(words[1], "daemon") == 0)
-        serve(words[2], words[3], words[4], words + 5);
+    const char *slash = strrchr(words[0], '/');
+    if (strcmp(slash == NULL ? words[0] : slash + 1, "g++") == 0)
+        return compile(words);
+    if (count == 6 && strcmp(words[1], "daemon") == 0)
+        serve(words[2], words[3], words[4], atoi(words[5]));
     if (count > 4 && strcmp(words[1], "client") == 0)
         return ask(words[2], words + 3);
-    fputs("usage: pair daemon SOCKET SCRATCH ROOT INPUT..\n       pair client SOCKET OBJECT COMMAND..\n", stderr);
+    if (count > 2 && strcmp(words[1], "start") == 0)
+        return start(words + 2);
+    fputs("usage: pair daemon SOCKET SCRATCH ROOT PROCESSES\n       pair client SOCKET OBJECT INPUT.. -- COMMAND..\n"
+          "       pair start COMMAND..\n",
+          stderr);
     return 2;
 }

@@ -42,15 +42,15 @@ client() {
     echo "$rewrapper -server_address=unix://$work/$1 -exec_root=$root -exec_strategy=local -labels=type=compile -env_var_allowlist=PATH --"
 }
 
-# start_pair INPUT..: the daemon of bench/pair.c at the socket `in_c`, which stages these files for each step. Where there is no C
-# compiler there is none, and `pair` is empty.
+# start_pair PROCESSES: the daemon of bench/pair.c at the socket `in_c`, with so many processes. Where there is no C compiler there is
+# none, and `pair` is empty.
 start_pair() {
     pair=
     type -P cc > /dev/null || return 0
     cc -O2 -o "$work/pair" "$top/bench/pair.c" || return 0
     pair=$work/pair
     in_c=$work/in-c
-    "$pair" daemon "$in_c" "$scratch" "$root" "$@" &
+    "$pair" daemon "$in_c" "$scratch" "$root" "$1" &
     started+=($!)
     wait_for in-c
 }

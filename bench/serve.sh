@@ -32,7 +32,7 @@ cd "$root"
 : > empty.cc
 serve_at in-memory "$scratch" "$sleepers"
 serve_at in-tmp /tmp "$sleepers"
-start_pair empty.cc
+start_pair 1
 in_memory=$(client in-memory)
 in_tmp=$(client in-tmp)
 
@@ -48,7 +48,7 @@ run_proxy() {
 
 run_pair() {
     if [ -n "$pair" ]; then
-        "$pair" client "$in_c" "in-c-$call.o" g++ -c empty.cc -o "in-c-$call.o"
+        "$pair" client "$in_c" "in-c-$call.o" empty.cc -- g++ -c empty.cc -o "in-c-$call.o"
     fi
 }
 
