@@ -10,6 +10,7 @@ pub mod Orders
 pub mod PathAbove
 pub mod PathAgain
 pub mod PathLemmas
+pub mod PathNames
 pub mod PathBelow
 pub mod PathParts
 pub mod PathShape

@@ -18,6 +18,10 @@ parts text = slice_split (λ b. b == 47) text
 abbrev pub joined : List (List ℕ) → List ℕ
 joined names = join_with_byte 47 names
 
+-- a path's text with another one behind it
+abbrev pub text_behind : List ℕ → List ℕ → List ℕ
+text_behind path text = if length path == 0 then text else path ++ 47 ∷ text
+
 -- ---- what a text names
 
 -- the names without the last of them

@@ -1,8 +1,9 @@
 //! From a text to the names of a path, and back to text. Only `paths` uses it.
 
-ghost use Rattle.std.specs.Prelude.{◌≡◌, ◌==◌, IfOk, position, string_bytes};
+ghost use Rattle.std.specs.Prelude.{◌≡◌, ◌==◌, IfOk, IsTrue, position, string_bytes};
+ghost use Rattle.std.specs.List.{AllByRecursion};
 ghost use Rattle.rx_base.specs.declared.path_fault.PathFault.TheVariants as fault;
-ghost use Rattle.rx_base.specs.Paths.{checked, joined, parts, with_part, with_text};
+ghost use Rattle.rx_base.specs.Paths.{checked, joined, parts, text_behind, with_part, with_text, IsName, Lacks};
 ghost use Rattle.rx_base.specs.Results.{Equals, Gives};
 ghost use Rattle.rx_base.specs.Texts.{texts};
 
@@ -29,6 +30,28 @@ fn zero_at(text: &str) -> Option<usize>
     ensures { result ≡ position (λ b. b == 0) text.now }
 {
     text.bytes().position(|b| b == 0)
+}
+
+/// Whether each part of a text is a name.
+pub(crate) fn are_names(text: &str) -> bool
+    requires { Lacks 0 text.now }
+    ensures { IsTrue result → AllByRecursion IsName (parts text.now) }
+{
+    for part in text.split('/') {
+        if !is_name(part) {
+            return false;
+        }
+    }
+    true
+}
+
+/// Whether a part of a text, which has neither a slash nor a zero byte, is a name.
+fn is_name(part: &str) -> bool
+    requires no_slash { Lacks 47 part.now }
+    requires no_zero { Lacks 0 part.now }
+    ensures { IsTrue result → IsName part.now }
+{
+    !matches!(part, "" | "." | "..")
 }
 
 /// The names after the parts of a text.
@@ -71,6 +94,21 @@ pub(crate) fn parts_of(alloc: Global, text: &str) -> Result<Vec<&str>, NoMemory>
         found.push(part)?;
     }
     Ok(found)
+}
+
+/// The text of a path with another text behind it.
+pub(crate) fn text_behind(alloc: Global, path: &str, text: &str) -> Result<String, NoMemory>
+    ensures { IfOk result (λ all. string_bytes all ≡ text_behind path.now text.now) }
+{
+    if path.is_empty() {
+        return String::from_str(alloc, text);
+    }
+    let room = path.len().saturating_add(1).saturating_add(text.len());
+    let mut all = String::with_capacity(alloc, room)?;
+    all.push_str(path)?;
+    all.push('/')?;
+    all.push_str(text)?;
+    Ok(all)
 }
 
 /// The text of these names.

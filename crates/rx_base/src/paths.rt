@@ -1,20 +1,20 @@
 //! Relative paths: made by reading a text, compared by their bytes.
 
 ghost use Rattle.std.specs.Prelude.{◌≡◌, ◌≢◌, ◌==◌, ◌++◌, ◌∷◌, [], IfOk, Ok, Some, length, nat_eq, refl};
-ghost use Rattle.std.specs.List.{starts_with};
+ghost use Rattle.std.specs.List.{AllByRecursion, starts_with};
 ghost use Rattle.std.specs.Ordering.{nat_cmp};
 ghost use Rattle.std.specs.Str.{bytes_eq};
 ghost use Rattle.std.specs.Cmp.{partial_equiv_from_equiv};
 ghost use Rattle.std.specs.Cmp.Lexicographic.{slice_cmp, nat_list_eq_equiv, nat_list_cmp_total, texts_po, texts_ties};
 ghost use Rattle.rx_base.specs.declared.path_fault.PathFault.TheVariants as fault;
-ghost use Rattle.rx_base.specs.Paths.{is_below, join_of, joined, parent_of, prefixes_of, read_of, IsPath};
+ghost use Rattle.rx_base.specs.Paths.{checked, is_below, join_of, joined, parent_of, parts, prefixes_of, read_of, IsName, IsPath};
 ghost use Rattle.rx_base.specs.Results.{Gives};
 ghost use Rattle.rx_base.specs.Texts.{texts};
 
 use crate::item_list::Items;
 use crate::memory::{NoMemory, TryClone};
 use crate::path_fault::PathFault;
-use crate::path_text::{check, join_names, parts_of, walk};
+use crate::path_text::{are_names, check, join_names, parts_of, text_behind, walk};
 use std::alloc::Global;
 use std::cmp::Ordering;
 use std::marker::Model;
@@ -79,6 +79,9 @@ impl RelPath {
             return Err(PathFault::Empty);
         }
         check(text)?;
+        if are_names(text) {
+            return self.join_names(alloc, text);
+        }
         let names = walk(Vec::new(alloc), self.text.as_str())?;
         let names = walk(names, text)?;
         let text = join_names(alloc, &names)?;
@@ -86,6 +89,20 @@ impl RelPath {
             return Err(PathFault::TooLong);
         }
         Ok(RelPath { text })
+    }
+
+    /// The path that a text of names, with slashes between them, names on from this one.
+    fn join_names(&self, alloc: Global, text: &str) -> Result<RelPath, PathFault>
+        requires some { text.now ≢ [] }
+        requires names { AllByRecursion IsName (parts text.now) }
+        requires unrefused { checked text.now ≡ Ok tt }
+        ensures { Gives fault.NoMemory (λ path. path) result (join_of self.now text.now) }
+    {
+        let joined = text_behind(alloc, self.text.as_str(), text)?;
+        if joined.len() > MAX_PATH_LEN {
+            return Err(PathFault::TooLong);
+        }
+        Ok(RelPath { text: joined })
     }
 
     /// The path as text, with a slash between its names.

@@ -1,7 +1,11 @@
 use Rattle.std.proofs.Common.{◌≤◌, length, string_bytes, sym, arith}
 use Rattle.rx_base.specs.Texts.{texts}
+use Rattle.rx_base.proofs.PathParts.{Lacks-from_checked}
 use Rattle.rx_base.proofs.PathShape.{IsPath-same, IsPath-join}
 use Rattle.rx_base.proofs.paths.RelPath.join.Goals as goal
+
+pub are_names-requires : goal.are_names-requires
+are_names-requires c = Lacks-from_checked c.args.text.now c.in_ok-check.ensures
 
 pub invariant_of-result : goal.invariant_of-result
 invariant_of-result c =
