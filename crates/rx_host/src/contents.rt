@@ -19,12 +19,19 @@ const MOST_BYTES_OF_ONE: usize = 1 << 20;
 /// clocks of file systems go by smaller steps.
 const QUIET_SECONDS: i64 = 2;
 
+/// Which file of the machine it is, whatever path leads to it.
+#[derive(Clone, Copy, PartialEq, Eq, PartialOrd, Ord)]
+struct FileNumber {
+    device: u64,
+    number: u64,
+}
+
 /// The state of a file. Whatever is written to it, the system sets the time of its last change, and no call sets that one
 /// (POSIX, <sys/stat.h>, st_ctim).
 #[derive(Clone, Copy, PartialEq, Eq)]
 struct State {
-    device: u64,
-    number: u64,
+    file: FileNumber,
+    mode: u32,
     size: u64,
     modified: (i64, i64),
     changed: (i64, i64),
@@ -33,8 +40,11 @@ struct State {
 impl State {
     fn of(metadata: &Metadata) -> State {
         State {
-            device: metadata.dev(),
-            number: metadata.ino(),
+            file: FileNumber {
+                device: metadata.dev(),
+                number: metadata.ino(),
+            },
+            mode: metadata.mode(),
             size: metadata.len(),
             modified: (metadata.mtime(), metadata.mtime_nsec()),
             changed: (metadata.ctime(), metadata.ctime_nsec()),
@@ -48,67 +58,65 @@ impl State {
     }
 }
 
-/// The content of a file in a state.
+/// The content of a file, and what the system told of the file then.
 #[derive(Drop)]
 pub(crate) struct Content {
-    state: State,
+    pub(crate) metadata: Metadata,
     pub(crate) bytes: Vec<u8>,
 }
 
-/// The contents that the sessions of a process share, by the texts of paths for the system.
+/// The contents that the sessions of a process share.
 #[derive(Drop)]
 pub struct Contents {
-    by_text: Arc<Memo<String, Content>, Global>,
+    by_file: Arc<Memo<FileNumber, Content>, Global>,
 }
 
 impl Contents {
     /// None is kept yet.
     pub fn new(alloc: Global) -> Result<Contents, AllocError> {
         Ok(Contents {
-            by_text: Arc::new(alloc, Memo::new(alloc, MOST_BYTES))?,
+            by_file: Arc::new(alloc, Memo::new(alloc, MOST_BYTES))?,
         })
     }
 
     /// Another handle of the same.
     pub fn share(&self) -> Result<Contents, AllocError> {
         Ok(Contents {
-            by_text: Arc::try_clone(&self.by_text)?,
+            by_file: Arc::try_clone(&self.by_file)?,
         })
     }
 
-    /// The content of the file at a path, of which the system tells this now.
-    pub(crate) fn find(&self, text: &str, metadata: &Metadata) -> Option<Arc<Content, Global>> {
-        let content = self.by_text.find(text)?;
-        if content.state == State::of(metadata) {
+    /// The content of a file of which the system tells this now.
+    pub(crate) fn find(&self, metadata: &Metadata) -> Option<Arc<Content, Global>> {
+        let state = State::of(metadata);
+        let content = self.by_file.find(&state.file)?;
+        if State::of(&content.metadata) == state {
             Some(content)
         } else {
             None
         }
     }
 
-    /// Keeps what was read of a file at a path, unless it is long, or changed but a moment before this time, at which its reading began.
-    pub(crate) fn keep(&self, alloc: Global, text: &str, read: &ReadFile, began: Duration) {
+    /// Keeps what was read of a file, unless it is long, or changed but a moment before this time, at which its reading began.
+    pub(crate) fn keep(&self, alloc: Global, read: &ReadFile, began: Duration) {
         let Some(metadata) = &read.metadata else {
             return;
         };
         let state = State::of(metadata);
         if metadata.is_file() && read.bytes.len() <= MOST_BYTES_OF_ONE && state.is_quiet(began) {
-            let _ = self.keep_in(alloc, text, state, read.bytes.as_slice());
+            let _ = self.keep_in(alloc, metadata, read.bytes.as_slice());
         }
     }
 
-    fn keep_in(
-        &self,
-        alloc: Global,
-        text: &str,
-        state: State,
-        bytes: &[u8],
-    ) -> Result<(), AllocError> {
-        let text = String::from_str(alloc, text)?;
+    fn keep_in(&self, alloc: Global, metadata: &Metadata, bytes: &[u8]) -> Result<(), AllocError> {
+        let file = State::of(metadata).file;
         let taken = bytes.len();
-        let bytes = Vec::from_slice(alloc, bytes)?;
-        let content = Arc::new(alloc, Content { state, bytes })?;
-        self.by_text.keep(alloc, text, content, taken);
+        let content = Content {
+            metadata: metadata.clone()?,
+            bytes: Vec::from_slice(alloc, bytes)?,
+        };
+        let content = Arc::new(alloc, content)?;
+        self.by_file.keep(alloc, file, content, taken);
         Ok(())
     }
 }
