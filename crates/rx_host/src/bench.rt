@@ -5,7 +5,7 @@ ghost use Rattle.rx_world.specs.declared.failures.Refused.TheVariants.{Failed as
 ghost use Rattle.rx_world.specs.Benches.{refused_at};
 ghost use Rattle.rx_world.specs.Causes.{Rose};
 
-use crate::below::{Below, parent_of};
+use crate::below::Below;
 use crate::hands::Hands;
 use crate::looks::is_executable;
 use crate::made::MadeDirs;
@@ -125,6 +125,25 @@ impl<H: Hands> HostBench<H> {
     }
 }
 
+/// Leaves the directory into which files were put, and forgets what was made: a command may move directories, and put links in
+/// their places.
+fn forget_made<R: Files + AllocGlobal>(tree: &Below<R>, made: &mut MadeDirs) -> io::Result<()> {
+    tree.leave(made)?;
+    *made = MadeDirs::new(tree.runtime().alloc());
+    Ok(())
+}
+
+/// Makes a directory below a tree, with those above it that are missing.
+fn make_in<R: Files + AllocGlobal>(
+    tree: &Below<R>,
+    made: &mut MadeDirs,
+    path: &RelPath,
+) -> io::Result<()> {
+    tree.leave(made)?;
+    tree.make_dirs(made, path.as_str())?;
+    Ok(())
+}
+
 /// Puts a file below a tree, with the directories above it that are missing.
 fn put_into<R: Files + AllocGlobal>(
     tree: &Below<R>,
@@ -134,19 +153,19 @@ fn put_into<R: Files + AllocGlobal>(
     executable: bool,
 ) -> io::Result<()> {
     let text = tree.text_of(path.as_str())?;
-    if !tree.is_there(made, parent_of(text.as_str())) {
-        tree.make_parent(made, path)?;
-    }
+    tree.enter_parent(made, path, text.as_str())?;
     tree.write_new(made.modes(), text.as_str(), bytes, executable)
 }
 
 /// The regular file at a path. A link isn't followed.
 fn take_from<R: Files<File = File> + AllocGlobal>(
     tree: &mut Below<R>,
+    made: &mut MadeDirs,
     path: &RelPath,
 ) -> io::Result<Option<FileOut>>
     ensures { IfOk result (λ file. IfSome file (λ f. f.path ≡ path.now)) }
 {
+    tree.leave(made)?;
     let read = tree.read(path)?;
     match read.metadata {
         Some(metadata) if metadata.is_file() => Ok(Some(FileOut {
@@ -168,8 +187,8 @@ impl<H: Hands> Bench<HostWorld> for HostBench<H> {
     ghost failed_at = { λ s. s.failed };
 
     fn make_dir(&mut self, path: &RelPath) -> Result<(), Failed> {
-        match self.tree.make_dirs(&mut self.made, path.as_str()) {
-            Ok(_) => Ok(()),
+        match make_in(&self.tree, &mut self.made, path) {
+            Ok(()) => Ok(()),
             Err(error) => {
                 tell(self.tree.runtime(), "make directory", path.as_str(), &error);
                 Err(self.fault_at(BenchStep::MakeDir, error))
@@ -189,9 +208,11 @@ impl<H: Hands> Bench<HostWorld> for HostBench<H> {
     }
 
     fn run(&mut self, command: &Command) -> Result<Exit, Refused> {
-        // (the command may move directories, and put links in their places)
-        self.made = MadeDirs::new(self.tree.runtime().alloc());
-        match self.run_at(command) {
+        let ran = match forget_made(&self.tree, &mut self.made) {
+            Ok(()) => self.run_at(command),
+            Err(error) => Err(error),
+        };
+        match ran {
             Ok(exit) => Ok(exit),
             Err(error) => {
                 self.tell_run(command, &error);
@@ -201,7 +222,7 @@ impl<H: Hands> Bench<HostWorld> for HostBench<H> {
     }
 
     fn take(&mut self, path: &RelPath) -> Result<Option<FileOut>, Refused> {
-        match take_from(&mut self.tree, path) {
+        match take_from(&mut self.tree, &mut self.made, path) {
             Ok(file) => Ok(file),
             Err(error) => {
                 tell(self.tree.runtime(), "take", path.as_str(), &error);

@@ -36,6 +36,8 @@ impl Identity {
 #[derive(Drop)]
 pub(crate) struct MadeDirs {
     by_text: BTreeMap<String, Identity>,
+    /// That into which files are being put, one after the other.
+    entered: Option<String>,
     modes: Modes,
 }
 
@@ -44,6 +46,7 @@ impl MadeDirs {
     pub(crate) fn new(alloc: Global) -> MadeDirs {
         MadeDirs {
             by_text: BTreeMap::new(alloc),
+            entered: None,
             modes: Modes::unknown(),
         }
     }
@@ -56,6 +59,26 @@ impl MadeDirs {
     /// A directory was there already, and may take other bits from a mode than those that were made.
     pub(crate) fn find_other(&mut self) {
         self.modes = Modes::cut();
+    }
+
+    /// Whether files are being put into this directory.
+    pub(crate) fn is_entered(&self, text: &str) -> bool {
+        match &self.entered {
+            Some(entered) => entered.as_str() == text,
+            None => false,
+        }
+    }
+
+    /// Files are put into this directory from here on. One that wasn't made here, or for which memory is wanting, isn't entered.
+    pub(crate) fn enter(&mut self, alloc: Global, text: &str) {
+        if self.by_text.contains_key(text) {
+            self.entered = String::from_str(alloc, text).ok();
+        }
+    }
+
+    /// No more files are put into this directory, which was entered.
+    pub(crate) fn leave(&mut self) -> Option<String> {
+        self.entered.take()
     }
 
     /// Which directory was made at this text. It takes no memory.

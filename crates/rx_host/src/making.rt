@@ -46,6 +46,37 @@ impl<R: Files + AllocGlobal> Below<R> {
         }
     }
 
+    /// Sees to the directory in which a file is to stand. The files that are put into one directory, one after the other, ask but once
+    /// for it, and once more as it is left.
+    pub(crate) fn enter_parent(
+        &self,
+        made: &mut MadeDirs,
+        path: &RelPath,
+        text: &str,
+    ) -> io::Result<()> {
+        let above = parent_of(text);
+        if made.is_entered(above) {
+            return Ok(());
+        }
+        self.leave(made)?;
+        if !self.is_there(made, above) {
+            self.make_parent(made, path)?;
+        }
+        made.enter(self.rt.alloc(), above);
+        Ok(())
+    }
+
+    /// Leaves the directory into which files were put. An error, where it isn't the one any more that was entered: then some of them may
+    /// stand elsewhere.
+    pub(crate) fn leave(&self, made: &mut MadeDirs) -> io::Result<()> {
+        match made.leave() {
+            Some(text) if !self.is_there(made, text.as_str()) => {
+                Err(Error::other("a directory was replaced while files were put into it"))
+            }
+            _ => Ok(()),
+        }
+    }
+
     /// The text of the lowest directory at or above this text that was made, and what follows it, where
     /// it still stands there.
     fn split_at_made<'a>(&self, made: &MadeDirs, text: &'a str) -> Option<(&'a str, &'a str)> {
