@@ -12,7 +12,9 @@
 #
 # Run by hand, on a machine that does nothing else, with ninja and a C compiler. All are measured in one run and by turns: each of ROUNDS
 # rounds (10) times 20 calls of each step, and each build once. The script prints the medians over the rounds, and those of the rounds'
-# differences from, or ratios to, what is called alone. The first round warms up and doesn't count. Objects are removed between the rounds.
+# differences from, or ratios to, what is called alone; and how many times what the client and daemon in C add the proxy adds, which
+# changes less than milliseconds do from hour to hour and from machine to machine. The first round warms up and doesn't count. Objects are
+# removed between the rounds.
 # Sandboxes are in memory, as those of the daemon in C are; at the end come rounds with sandboxes in /tmp, apart, since a disk that removes
 # files is slow for all. bench/proxies.sh says where the files are.
 set -eu
@@ -156,13 +158,15 @@ measure() {
     done
 }
 
-# of_rounds NAME WAY EXPRESSION: the median over the rounds of what awk makes of the time in this way, t, and of that alone, a
+# of_rounds NAME WAY EXPRESSION: the median over the rounds of what awk makes of the time in this way, t, of that alone, a, and of that
+# through the client and daemon in C, c
 of_rounds() {
     awk -v name="$1" -v way="$2" -v calls="$calls" '
     $1 == 0 || $2 != name { next }
     $3 == "alone" { alone[$1] = $4 }
+    $3 == "pair" { in_c[$1] = $4 }
     $3 == way { taken[$1] = $4 }
-    END { for (round in taken) { t = taken[round]; a = alone[round]; print '"$3"' } }' "$work/times" | median
+    END { for (round in taken) { t = taken[round]; a = alone[round]; c = in_c[round]; print '"$3"' } }' "$work/times" | median
 }
 
 # tell WAY WORDS: what is measured in this way
@@ -183,6 +187,9 @@ echo "$rounds rounds, by turns; alone the steps take $(of_rounds small alone 't 
     "and $(of_rounds full alone 't / 1000')"
 tell memory "through the proxy, sandboxes in $scratch"
 tell pair "through the client and daemon in C"
+echo "what the proxy adds is so many times what these in C add: to a step of one file $(of_rounds empty memory '(t - a) / (c - a)')," \
+    "of $((header_count + 1)) files of about 1 kB $(of_rounds small memory '(t - a) / (c - a)'), of about 6 kB" \
+    "$(of_rounds large memory '(t - a) / (c - a)')"
 tell_builds start "behind a client that only starts the command"
 measure alone tmp > "$work/times"
 tell tmp "through the proxy, sandboxes in /tmp"
