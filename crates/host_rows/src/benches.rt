@@ -9,6 +9,9 @@ use rx_rows::{Answer, Row, RowFault};
 use rx_world::{Bench, BenchMaker};
 use std::alloc::AllocError;
 
+/// The mark of the files that rows put: 9 September 2001, 01:46:40 UTC, and 123,456,789 nanoseconds.
+const PUT_MARK: u128 = 1_000_000_000_123_456_789;
+
 /// A maker of benches below a directory, and its bench, where it has made one that hasn't come back.
 #[derive(Drop)]
 pub(crate) struct Benches<H> {
@@ -94,11 +97,11 @@ impl<H: Hands> Benches<H> {
         write_done(self.bench()?.make_dir(&path), answer)
     }
 
-    /// `put PATH TEXT`: puts a file there.
+    /// `put PATH TEXT`: puts a file there, which was changed at a certain time.
     pub(crate) fn put(&mut self, row: &mut Row<'_>, answer: &mut Answer) -> Result<(), RowFault> {
         let alloc = self.rt.alloc();
         let (path, text) = (read_path(alloc, row)?, row.text(alloc)?);
-        write_done(self.bench()?.put(&path, &text, false), answer)
+        write_done(self.bench()?.put(&path, &text, false, PUT_MARK), answer)
     }
 
     /// `run WORD ..`: the code of a command, and what it wrote to both streams.

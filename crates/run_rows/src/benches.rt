@@ -72,9 +72,15 @@ impl<H: Hands> Bench<RowWorld> for MeetingBench<H> {
         }
     }
 
-    fn put(&mut self, path: &RelPath, bytes: &[u8], executable: bool) -> Result<(), Failed> {
+    fn put(
+        &mut self,
+        path: &RelPath,
+        bytes: &[u8],
+        executable: bool,
+        mark: u128,
+    ) -> Result<(), Failed> {
         self.enter_or_fail(BenchStep::Put)?;
-        match <ToyBench as Bench<ToyWorld>>::put(&mut self.bench, path, bytes, executable) {
+        match <ToyBench as Bench<ToyWorld>>::put(&mut self.bench, path, bytes, executable, mark) {
             Ok(()) => Ok(()),
             Err(_) => Err(self.fail(BenchStep::Put)),
         }

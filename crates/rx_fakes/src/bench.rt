@@ -71,7 +71,14 @@ impl<K: Contents> Bench<Toy<K>> for ToyBench {
         }
     }
 
-    fn put(&mut self, path: &RelPath, bytes: &[u8], executable: bool) -> Result<(), Failed> {
+    fn put(
+        &mut self,
+        path: &RelPath,
+        bytes: &[u8],
+        executable: bool,
+        mark: u128,
+    ) -> Result<(), Failed> {
+        let _ = mark;
         self.call(BenchStep::Put)?;
         match add_file(self.alloc, &mut self.tree, path, bytes, executable) {
             Ok(()) => Ok(()),

@@ -3,9 +3,10 @@
 
 use crate::modes::{Modes, mode_of};
 use rx_base::RelPath;
-use std::fs::{Files, Metadata, OpenFile, OpenOptions};
+use std::fs::{FileTimes, Files, Metadata, OpenFile, OpenOptions};
 use std::io::{ErrorKind, Write};
 use std::os::unix::fs::{MetadataExt, OpenOptionsExt};
+use std::time::SystemTime;
 use std::{fs, io};
 
 /// The files below a directory of the machine.
@@ -124,20 +125,22 @@ impl<R: Files + AllocGlobal> Below<R> {
         Ok(true)
     }
 
-    /// Writes a file that isn't there yet, with mode 0755 or 0644. Where it fails it leaves none.
+    /// Writes a file that isn't there yet, with mode 0755 or 0644, and with this time of modification where there is one. Where it
+    /// fails it leaves none.
     pub(crate) fn write_new(
         &self,
         modes: &mut Modes,
         text: &str,
         bytes: &[u8],
         executable: bool,
+        modified: Option<SystemTime>,
     ) -> io::Result<()> {
         let mut file = OpenOptions::new()
             .write(true)
             .create_new(true)
             .mode(mode_of(executable))
             .open(&self.rt, text)?;
-        let filled = fill(&mut file, modes, bytes, executable);
+        let filled = fill(&mut file, modes, bytes, executable, modified);
         if filled.is_err() {
             let _ = fs::remove_file(&self.rt, text);
         }
@@ -163,15 +166,20 @@ pub(crate) fn push_name(text: &mut String, name: &str) -> io::Result<()> {
     Ok(())
 }
 
-/// Writes all bytes, and sees to the mode.
+/// Writes all bytes, and sees to the mode and the time of modification.
 fn fill<F: Write + OpenFile>(
     file: &mut F,
     modes: &mut Modes,
     bytes: &[u8],
     executable: bool,
+    modified: Option<SystemTime>,
 ) -> io::Result<()> {
     file.write_all(bytes)?;
-    modes.settle(file, executable)
+    modes.settle(file, executable)?;
+    match modified {
+        Some(time) => file.set_times(FileTimes::new().set_modified(time)),
+        None => Ok(()),
+    }
 }
 
 /// Whether the system tells of a directory.

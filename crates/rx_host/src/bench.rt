@@ -7,7 +7,7 @@ ghost use Rattle.rx_world.specs.Causes.{Rose};
 
 use crate::below::Below;
 use crate::hands::Hands;
-use crate::looks::is_executable;
+use crate::looks::{is_executable, time_of_mark};
 use crate::made::MadeDirs;
 use crate::runs::Runner;
 use crate::staged::Staged;
@@ -144,17 +144,20 @@ fn make_in<R: Files + AllocGlobal>(
     Ok(())
 }
 
-/// Puts a file below a tree, with the directories above it that are missing.
+/// Puts a file below a tree, with the directories above it that are missing, and with the time of
+/// modification that a mark tells.
 fn put_into<R: Files + AllocGlobal>(
     tree: &Below<R>,
     made: &mut MadeDirs,
     path: &RelPath,
     bytes: &[u8],
     executable: bool,
+    mark: u128,
 ) -> io::Result<()> {
     let text = tree.text_of(path.as_str())?;
     tree.enter_parent(made, path, text.as_str())?;
-    tree.write_new(made.modes(), text.as_str(), bytes, executable)
+    let modified = time_of_mark(mark);
+    tree.write_new(made.modes(), text.as_str(), bytes, executable, modified)
 }
 
 /// The regular file at a path. A link isn't followed.
@@ -196,9 +199,15 @@ impl<H: Hands> Bench<HostWorld> for HostBench<H> {
         }
     }
 
-    fn put(&mut self, path: &RelPath, bytes: &[u8], executable: bool) -> Result<(), Failed> {
+    fn put(
+        &mut self,
+        path: &RelPath,
+        bytes: &[u8],
+        executable: bool,
+        mark: u128,
+    ) -> Result<(), Failed> {
         self.files = self.files.saturating_add(1);
-        match put_into(&self.tree, &mut self.made, path, bytes, executable) {
+        match put_into(&self.tree, &mut self.made, path, bytes, executable, mark) {
             Ok(()) => Ok(()),
             Err(error) => {
                 tell(self.tree.runtime(), "put", path.as_str(), &error);

@@ -10,7 +10,7 @@ use rx_base::digest_of;
 use rx_world::{Look, Stamp};
 use std::fs::Metadata;
 use std::os::unix::fs::PermissionsExt;
-use std::time::UNIX_EPOCH;
+use std::time::{Duration, SystemTime, UNIX_EPOCH};
 
 /// The execute bit of a file's owner.
 const OWNER_EXECUTES: u32 = 0o100;
@@ -20,6 +20,13 @@ pub(crate) fn time_mark(metadata: &Metadata) -> Option<u128> {
     let modified = metadata.modified().ok()?;
     let since = modified.duration_since(UNIX_EPOCH).ok()?;
     Some(since.as_nanos())
+}
+
+/// The time of modification that a mark tells. The mark of a content tells none: it is past all such times, unless 64 of
+/// its bits are zero.
+pub(crate) fn time_of_mark(mark: u128) -> Option<SystemTime> {
+    let nanoseconds = u64::try_from(mark).ok()?;
+    UNIX_EPOCH.checked_add(Duration::from_nanos(nanoseconds))
 }
 
 /// The mark of a file by its content.

@@ -75,7 +75,7 @@ fn write_beside<R: Files + AllocGlobal>(
     let before = format!(in alloc; "{directory}/.")?;
     for _ in 0..WRITE_TRIES {
         let text = names.next(alloc, before.as_str())?;
-        match tree.write_new(&mut Modes::cut(), text.as_str(), bytes, executable) {
+        match tree.write_new(&mut Modes::cut(), text.as_str(), bytes, executable, None) {
             Ok(()) => return Ok(text),
             Err(error) if error.kind() == ErrorKind::AlreadyExists => {}
             Err(error) => return Err(error),

@@ -94,7 +94,12 @@ fn stage_file<W: World, B: Bench<W>, S: Sources<W>>(
         Ok(bytes) => bytes,
         Err(fault) => return Err(cause_of_read(fault)),
     };
-    match bench.put(&file.path, bytes.as_slice(), file.executable) {
+    match bench.put(
+        &file.path,
+        bytes.as_slice(),
+        file.executable,
+        file.stamp.mark,
+    ) {
         Ok(()) => Ok(()),
         Err(_) => Err(Cause::BenchFault {
             step: BenchStep::Put,

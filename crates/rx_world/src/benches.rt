@@ -40,8 +40,15 @@ pub trait Bench<W: World> {
         ensures step { FailsAt BenchStep.MakeDir (failed_at self.old) (failed_at self.new) result }
         ensures cause { HasCause (faults self.old) (faults self.new) result };
 
-    /// Puts a file there, and makes the directories above it that are missing.
-    fn put(&mut self, path: &RelPath, bytes: &[u8], executable: bool) -> Result<(), Failed>
+    /// Puts a file there, and makes the directories above it that are missing. `mark` is that of its
+    /// stamp: where it is a time, the file gets it as its time of modification.
+    fn put(
+        &mut self,
+        path: &RelPath,
+        bytes: &[u8],
+        executable: bool,
+        mark: u128,
+    ) -> Result<(), Failed>
         ensures put { OnOk result
             (Puts (tree self.old) (tree self.new) path.now bytes.now executable) }
         ensures runs { runs self.new ≡ runs self.old }

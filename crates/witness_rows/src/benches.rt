@@ -40,11 +40,17 @@ impl<K: Contents> Bench<Toy<K>> for QuietBench {
         Ok(())
     }
 
-    fn put(&mut self, path: &RelPath, bytes: &[u8], executable: bool) -> Result<(), Failed> {
+    fn put(
+        &mut self,
+        path: &RelPath,
+        bytes: &[u8],
+        executable: bool,
+        mark: u128,
+    ) -> Result<(), Failed> {
         match self {
             QuietBench::Kept(bench) => {
                 let mut shown = Shown::of(&bench.tree);
-                if <ToyBench as Bench<Toy<K>>>::put(bench, path, bytes, executable).is_err() {
+                if <ToyBench as Bench<Toy<K>>>::put(bench, path, bytes, executable, mark).is_err() {
                     shown.put(path, bytes, executable);
                     *self = QuietBench::Lost(shown);
                 }
