@@ -8,6 +8,7 @@ use Rattle.rx_world.specs.declared.attempts.Failure.TheVariants as failures
 use Rattle.rx_world.specs.declared.refusals.LocalCause.TheVariants as locals
 use Rattle.rx_world.specs.declared.remote_causes.RemoteCause.{RemoteCause}
 use Rattle.rx_world.specs.declared.remote_causes.RemoteCause.TheVariants as remotes
+use Rattle.rx_session.specs.declared.in_place.InPlaceCause.TheVariants as places
 use Rattle.rx_session.specs.declared.replies.Reply.{Reply}
 use Rattle.rx_session.specs.declared.replies.Reply.TheVariants as replies
 use Rattle.rx_session.specs.Ends.{end_of, local_end, remote_end}
@@ -61,3 +62,6 @@ message_is_readable (replies.PlaceFault receipt placed) can = (tt, tt, tt)
 message_is_readable replies.JournalFull can = (tt, tt, tt)
 message_is_readable replies.NoMemory can = (tt, tt, tt)
 message_is_readable (replies.Blocked path) can = (tt, tt, tt)
+message_is_readable (replies.InPlace (places.Kept (locals.Word word))) can = (tt, tt, tt)
+message_is_readable (replies.InPlace (places.Kept (locals.Path path))) can = (tt, tt, tt)
+message_is_readable (replies.InPlace (places.TooLarge limit)) can = (tt, tt, tt)

@@ -15,13 +15,14 @@ use Rattle.rx_session.specs.declared.bad.BadReason.{BadReason}
 use Rattle.rx_session.specs.declared.bad.BadReason.TheVariants as reasons
 use Rattle.rx_session.specs.declared.cancels.CancelReason.{CancelReason}
 use Rattle.rx_session.specs.declared.cancels.CancelReason.TheVariants as cancels
+use Rattle.rx_session.specs.declared.in_place.InPlaceCause.TheVariants as places
 use Rattle.rx_session.specs.declared.replies.Reply.{Reply}
 use Rattle.rx_session.specs.declared.replies.Reply.TheVariants as replies
 use Rattle.rx_session.specs.declared.reply_message.ReplyMessage.{ReplyMessage}
 use Rattle.rx_session.specs.Bad.{reason_number}
 use Rattle.rx_session.specs.Ends.{end_of}
 use Rattle.rx_session.specs.Replies.{cancel_number, cancel_of, limit_number, limit_of, message_of, origin_number, origin_of, path_or_none, reason_of}
-use Rattle.rx_session.specs.ReplyReading.{HasFields, all_failed_of, bad_request_of, blocked_of, cancelled_of, done_of, failures_of, first_fields_are, input_missing_of, last_fields_are, limit_path_of, not_remotable_of, one_failure, path_cause_of, place_fault_of, receipt_of, reply_by, reply_by_kind, reply_has_only, reply_input_changed_of, reply_of, reply_source_fault_of, some_path_of, too_large_of, two_failures}
+use Rattle.rx_session.specs.ReplyReading.{HasFields, all_failed_of, bad_request_of, blocked_of, cancelled_of, done_of, failures_of, first_fields_are, in_place_of, input_missing_of, kept_of, last_fields_are, limit_in_place_of, limit_path_of, local_cause_of, not_remotable_of, one_failure, path_cause_of, place_fault_of, receipt_of, reply_by, reply_by_kind, reply_has_only, reply_input_changed_of, reply_of, reply_source_fault_of, some_path_of, too_large_of, two_failures}
 use Rattle.rx_session.specs.ReplyMessages.{reply_message_from, reply_message_is_readable, reply_message_parts}
 use Rattle.rx_session.specs.Told.{AreEnds, IsLocal, IsRemote, PathFits, reply_is_readable, told, told_failure}
 use Rattle.rx_session.specs.Typed.{IsOwn, failure_is_typed, reply_is_typed}
@@ -100,7 +101,7 @@ failures_again (end ∷ second ∷ third ∷ ends) typed can = absurd can
 -- ---- replies
 
 pub reply_again : (reply : Reply) → reply_is_typed reply → reply_is_readable reply → reply_by (message_of reply) ≡ Ok (told reply)
-unfolding reply_by reply_has_only first_fields_are last_fields_are reply_by_kind done_of bad_request_of not_remotable_of path_cause_of input_missing_of reply_input_changed_of reply_source_fault_of too_large_of all_failed_of cancelled_of place_fault_of blocked_of
+unfolding reply_by reply_has_only first_fields_are last_fields_are reply_by_kind done_of bad_request_of not_remotable_of path_cause_of input_missing_of reply_input_changed_of reply_source_fault_of too_large_of all_failed_of cancelled_of place_fault_of blocked_of local_cause_of in_place_of kept_of limit_in_place_of
 reply_again (replies.Done exit stdout stderr origin receipt placed) typed can = rw (origin_again origin, receipt_again receipt can) refl
 reply_again (replies.BadRequest bad) typed can = rw (reason_again bad.reason) refl
 reply_again (replies.NotRemotable (locals.Word word)) typed can = refl
@@ -115,6 +116,9 @@ reply_again (replies.PlaceFault receipt placed) typed can = rw (receipt_again re
 reply_again replies.JournalFull typed can = refl
 reply_again replies.NoMemory typed can = refl
 reply_again (replies.Blocked path) typed can = rw typed refl
+reply_again (replies.InPlace (places.Kept (locals.Word word))) typed can = refl
+reply_again (replies.InPlace (places.Kept (locals.Path path))) typed can = rw typed refl
+reply_again (replies.InPlace (places.TooLarge limit)) typed can = rw (limit_again limit) refl
 
 -- a payload that its message is read of again
 pub payload_again : (reply : Reply) (message : ReplyMessage) (payload : List ℕ) → message ≡ message_of reply → reply_is_typed reply

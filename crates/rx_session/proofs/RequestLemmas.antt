@@ -36,7 +36,7 @@ flag_again true = refl
 flag_again false = refl
 
 request_again : (request : Request) → request_from (request_message request) ≡ request
-request_again request = rw (strategy_again request.strategy, kind_again request.kind, flag_again request.accept_cached, flag_again request.watch) refl
+request_again request = rw (strategy_again request.strategy, kind_again request.kind, flag_again request.accept_cached, flag_again request.watch, flag_again request.in_place) refl
 
 message_again : (root : List ℕ) (request : Request) → IsServed root request → request_by root (request_message request) ≡ Ok request
 unfolding request_by

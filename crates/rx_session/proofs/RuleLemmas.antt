@@ -9,12 +9,12 @@ use Rattle.rx_session.specs.Rules.{bad_field, bad_last_field, directory_holds, e
 abbrev unless : Bool → ℕ → Option ℕ → Option ℕ
 unless test number rest = if not test then Some number else rest
 
-last_of_four : (a b c d : Bool) → unless a 11 (unless b 12 (unless c 13 (unless d 14 None))) ≡ None → d ≡ true
-last_of_four true true true true e = refl
-last_of_four true true true false e = absurd (cc e)
-last_of_four true true false d e = absurd (cc e)
-last_of_four true false c d e = absurd (cc e)
-last_of_four false b c d e = absurd (cc e)
+fourth_holds : (a b c d : Bool) (rest : Option ℕ) → unless a 11 (unless b 12 (unless c 13 (unless d 14 rest))) ≡ None → d ≡ true
+fourth_holds true true true true rest e = refl
+fourth_holds true true true false rest e = absurd (cc e)
+fourth_holds true true false d rest e = absurd (cc e)
+fourth_holds true false c d rest e = absurd (cc e)
+fourth_holds false b c d rest e = absurd (cc e)
 
 past_eight : (a b c d f g h i : Bool) (rest : Option ℕ)
     → unless a 3 (unless b 4 (unless c 5 (unless d 6 (unless f 7 (unless g 8 (unless h 9 (unless i 10 rest))))))) ≡ None → rest ≡ None
@@ -43,7 +43,8 @@ eighth_holds false b c d f g h i rest e = absurd (cc e)
 last_fits : (raw : RawRequest) → bad_last_field raw ≡ None → raw.timeout_seconds < 4294967296
 unfolding bad_last_field
 last_fits raw e =
-    let holds = last_of_four (platform_holds raw.platform) (is_within 0 1 raw.accept_cached) (is_within 0 1 raw.watch) (is_within 0 4294967295 raw.timeout_seconds) e in
+    let rest = unless (is_within 0 1 raw.in_place) 16 None in
+    let holds = fourth_holds (platform_holds raw.platform) (is_within 0 1 raw.accept_cached) (is_within 0 1 raw.watch) (is_within 0 4294967295 raw.timeout_seconds) rest e in
     let parts = and_parts (nat_le 0 raw.timeout_seconds) (nat_le raw.timeout_seconds 4294967295) holds in
     let le : raw.timeout_seconds ≤ 4294967295 = leb-true _ _ parts.1 in
     omega arith

@@ -32,7 +32,7 @@ abbrev pub pair_message_is_readable : PairMessage → Type 0
 pair_message_is_readable x = Unit {0}
 
 -- ---- Request: version 1, root 2, words 3, environment 4, working_directory 5, strategy 6, kind 7, inputs 8, toolchain_inputs 9, outputs 10,
--- platform 11, accept_cached 12, watch 13, timeout_seconds 14
+-- platform 11, accept_cached 12, watch 13, timeout_seconds 14, in_place 16
 
 abbrev pub raw_request_parts : ℕ → Part
 raw_request_parts number =
@@ -49,6 +49,14 @@ raw_request_parts number =
 abbrev pub pairs_put : List Pair → List Content
 pairs_put pairs = each_put pair_message_fields (map pair_message pairs)
 
+-- the fields from 12 on
+abbrev pub last_request_fields : RawRequest → List Field
+last_request_fields x =
+    numbered 12 (number_put x.accept_cached)
+    ++ numbered 13 (number_put x.watch)
+    ++ numbered 14 (number_put x.timeout_seconds)
+    ++ numbered 16 (number_put x.in_place)
+
 unfoldable pub raw_request_fields : RawRequest → List Field
 raw_request_fields x =
     numbered 1 (number_put x.version)
@@ -62,9 +70,7 @@ raw_request_fields x =
     ++ numbered 9 (texts_put x.toolchain_inputs)
     ++ numbered 10 (texts_put x.outputs)
     ++ numbered 11 (pairs_put x.platform)
-    ++ numbered 12 (number_put x.accept_cached)
-    ++ numbered 13 (number_put x.watch)
-    ++ numbered 14 (number_put x.timeout_seconds)
+    ++ last_request_fields x
 
 -- the message of fields, whose pairs are these messages
 abbrev pub raw_request_with : List Field → List PairMessage → List PairMessage → RawRequest
@@ -83,6 +89,7 @@ raw_request_with fields environment platform = record {
   accept_cached = number_in (contents 12 fields);
   watch = number_in (contents 13 fields);
   timeout_seconds = number_in (contents 14 fields);
+  in_place = number_in (contents 16 fields);
 }
 
 unfoldable pub raw_request_from : List Field → Result RawRequest MessageFault

@@ -14,6 +14,8 @@ use Rattle.rx_session.specs.declared.bad.BadReason.{BadReason}
 use Rattle.rx_session.specs.declared.bad.BadReason.TheVariants as reasons
 use Rattle.rx_session.specs.declared.cancels.CancelReason.{CancelReason}
 use Rattle.rx_session.specs.declared.cancels.CancelReason.TheVariants as cancels
+use Rattle.rx_session.specs.declared.in_place.InPlaceCause.{InPlaceCause}
+use Rattle.rx_session.specs.declared.in_place.InPlaceCause.TheVariants as places
 use Rattle.rx_session.specs.declared.replies.Reply.{Reply}
 use Rattle.rx_session.specs.declared.replies.Reply.TheVariants as replies
 use Rattle.rx_session.specs.declared.reply_fault.ReplyFault.{ReplyFault}
@@ -113,9 +115,14 @@ abbrev pub path_reply : ℕ → List ℕ → ReplyMessage
 path_reply kind path = record (bare_reply kind) { path = path }
 
 -- reason 1 and a word, or reason 2 and a path
-abbrev pub not_remotable_message : LocalCause → ReplyMessage
-not_remotable_message (locals.Word word) = record (bare_reply 2) { reason = 1; path = word }
-not_remotable_message (locals.Path path) = record (bare_reply 2) { reason = 2; path = path }
+abbrev pub local_cause_message : ℕ → LocalCause → ReplyMessage
+local_cause_message kind (locals.Word word) = record (bare_reply kind) { reason = 1; path = word }
+local_cause_message kind (locals.Path path) = record (bare_reply kind) { reason = 2; path = path }
+
+-- that, or reason 3 and the limit's number as the value
+abbrev pub in_place_message : InPlaceCause → ReplyMessage
+in_place_message (places.Kept cause) = local_cause_message 13 cause
+in_place_message (places.TooLarge limit) = record (bare_reply 13) { reason = 3; value = limit_number limit }
 
 abbrev pub path_or_none : Option (List ℕ) → List ℕ
 path_or_none None = []
@@ -139,7 +146,7 @@ abbrev pub message_of : Reply → ReplyMessage
 message_of (replies.Done exit stdout stderr origin receipt placed) =
     record (exit_message exit stdout stderr) { origin = origin_number origin; receipt = receipt; placed = placed }
 message_of (replies.BadRequest bad) = bad_request_message bad
-message_of (replies.NotRemotable cause) = not_remotable_message cause
+message_of (replies.NotRemotable cause) = local_cause_message 2 cause
 message_of (replies.InputMissing path) = path_reply 3 path
 message_of (replies.InputChanged input) = input_changed_message input
 message_of (replies.SourceFault path) = path_reply 5 path
@@ -150,6 +157,7 @@ message_of (replies.PlaceFault receipt placed) = record (bare_reply 9) { receipt
 message_of replies.JournalFull = bare_reply 10
 message_of replies.NoMemory = bare_reply 11
 message_of (replies.Blocked path) = path_reply 12 path
+message_of (replies.InPlace cause) = in_place_message cause
 
 -- the payload of a reply: the fields of its message in the order of their numbers, defaults left out
 unfoldable pub payload_of : Reply → List ℕ

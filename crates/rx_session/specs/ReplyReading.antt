@@ -6,8 +6,10 @@ use Rattle.rx_codec.specs.Decoding.{any_form, decoded}
 use Rattle.rx_world.specs.declared.attempts.Failure.{Failure}
 use Rattle.rx_world.specs.declared.refusals.Limit.{Limit}
 use Rattle.rx_world.specs.declared.refusals.Limit.TheVariants as limits
+use Rattle.rx_world.specs.declared.refusals.LocalCause.{LocalCause}
 use Rattle.rx_world.specs.declared.refusals.LocalCause.TheVariants as locals
 use Rattle.rx_session.specs.declared.end_message.EndMessage.{EndMessage}
+use Rattle.rx_session.specs.declared.in_place.InPlaceCause.TheVariants as places
 use Rattle.rx_session.specs.declared.replies.Reply.{Reply}
 use Rattle.rx_session.specs.declared.replies.Reply.TheVariants as replies
 use Rattle.rx_session.specs.declared.reply_fault.ReplyFault.{ReplyFault}
@@ -57,6 +59,7 @@ reply_fields kind =
     else if kind == 8 then 8 ∷ []
     else if kind == 9 then 6 ∷ 7 ∷ []
     else if kind == 12 then 10 ∷ []
+    else if kind == 13 then 8 ∷ 9 ∷ 10 ∷ []
     else []
 
 -- receipts count from 1
@@ -74,16 +77,22 @@ bad_request_of x = do
   reason ← reason_of x.reason
   Ok (replies.BadRequest (record { reason = reason; value = x.value }))
 
-unfoldable pub path_cause_of : ReplyMessage → Result Reply ReplyFault
+unfoldable pub path_cause_of : ReplyMessage → Result LocalCause ReplyFault
 path_cause_of x = do
   path ← own_path x.path
-  Ok (replies.NotRemotable (locals.Path path))
+  Ok (locals.Path path)
 
-unfoldable pub not_remotable_of : ReplyMessage → Result Reply ReplyFault
-not_remotable_of x =
-    if x.reason == 1 then Ok (replies.NotRemotable (locals.Word x.path))
+-- reason 1 and a word, or reason 2 and a path
+unfoldable pub local_cause_of : ReplyMessage → Result LocalCause ReplyFault
+local_cause_of x =
+    if x.reason == 1 then Ok (locals.Word x.path)
     else if x.reason == 2 then path_cause_of x
     else bad_reply
+
+unfoldable pub not_remotable_of : ReplyMessage → Result Reply ReplyFault
+not_remotable_of x = do
+  cause ← local_cause_of x
+  Ok (replies.NotRemotable cause)
 
 unfoldable pub input_missing_of : ReplyMessage → Result Reply ReplyFault
 input_missing_of x = do
@@ -160,6 +169,26 @@ blocked_of x = do
   path ← own_path x.path
   Ok (replies.Blocked path)
 
+-- what keeps a command has no value beside its text
+unfoldable pub kept_of : ReplyMessage → Result Reply ReplyFault
+kept_of x =
+    if not (x.value == 0) then bad_reply
+    else do
+      cause ← local_cause_of x
+      Ok (replies.InPlace (places.Kept cause))
+
+-- a limit has no text beside its number
+unfoldable pub limit_in_place_of : ReplyMessage → Result Reply ReplyFault
+limit_in_place_of x =
+    if not (length x.path == 0) then bad_reply
+    else do
+      limit ← limit_of x.value
+      Ok (replies.InPlace (places.TooLarge limit))
+
+-- reason 3 and a limit, or what keeps the command
+unfoldable pub in_place_of : ReplyMessage → Result Reply ReplyFault
+in_place_of x = if x.reason == 3 then limit_in_place_of x else kept_of x
+
 unfoldable pub reply_by_kind : ReplyMessage → Result Reply ReplyFault
 reply_by_kind x =
     if x.kind == 0 then done_of x
@@ -175,6 +204,7 @@ reply_by_kind x =
     else if x.kind == 10 then Ok replies.JournalFull
     else if x.kind == 11 then Ok replies.NoMemory
     else if x.kind == 12 then blocked_of x
+    else if x.kind == 13 then in_place_of x
     else bad_reply
 
 -- the reply that a message is

@@ -38,6 +38,7 @@ request_message request = record {
   accept_cached = number_of_truth request.accept_cached;
   watch = number_of_truth request.watch;
   timeout_seconds = request.timeout_seconds;
+  in_place = number_of_truth request.in_place;
 }
 
 -- the payload of a request: the fields of its message in the order of their numbers, defaults left out

@@ -68,7 +68,7 @@ environment_holds pairs = if not (list_all variable_holds pairs) then false else
 unfoldable pub directory_holds : List ℕ → Bool
 directory_holds text = if length text == 0 then true else is_path text
 
--- 6, 7, 12, 13, 14: a number from one to another
+-- 6, 7, 12, 13, 14, 16: a number from one to another
 abbrev pub is_within : ℕ → ℕ → ℕ → Bool
 is_within low high n = nat_le low n && nat_le n high
 
@@ -104,6 +104,7 @@ bad_last_field raw =
     else if not (is_within 0 1 raw.accept_cached) then Some 12
     else if not (is_within 0 1 raw.watch) then Some 13
     else if not (is_within 0 4294967295 raw.timeout_seconds) then Some 14
+    else if not (is_within 0 1 raw.in_place) then Some 16
     else None
 
 -- the least field from 8 on that breaks its rule
@@ -153,6 +154,7 @@ request_from raw = record {
   accept_cached = raw.accept_cached == 1;
   watch = raw.watch == 1;
   timeout_seconds = raw.timeout_seconds;
+  in_place = raw.in_place == 1;
 }
 
 -- a field is refused for a reason

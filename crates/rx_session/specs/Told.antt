@@ -61,6 +61,7 @@ told (replies.PlaceFault receipt placed) = replies.PlaceFault receipt placed
 told replies.JournalFull = replies.JournalFull
 told replies.NoMemory = replies.NoMemory
 told (replies.Blocked path) = replies.Blocked path
+told (replies.InPlace cause) = replies.InPlace cause
 
 -- ---- which replies are read again
 
@@ -134,3 +135,4 @@ reply_is_readable (replies.PlaceFault receipt placed) = 1 ≤ receipt
 reply_is_readable replies.JournalFull = Unit {0}
 reply_is_readable replies.NoMemory = Unit {0}
 reply_is_readable (replies.Blocked path) = Unit {0}
+reply_is_readable (replies.InPlace cause) = Unit {0}

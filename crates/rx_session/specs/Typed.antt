@@ -12,6 +12,8 @@ use Rattle.rx_world.specs.declared.refusals.LocalCause.TheVariants as locals
 use Rattle.rx_world.specs.declared.remote_causes.RemoteCause.{RemoteCause}
 use Rattle.rx_world.specs.declared.remote_causes.RemoteCause.TheVariants as remotes
 use Rattle.rx_world.specs.declared.versions.SemVer.{SemVer}
+use Rattle.rx_session.specs.declared.in_place.InPlaceCause.{InPlaceCause}
+use Rattle.rx_session.specs.declared.in_place.InPlaceCause.TheVariants as places
 use Rattle.rx_session.specs.declared.replies.Reply.{Reply}
 use Rattle.rx_session.specs.declared.replies.Reply.TheVariants as replies
 use Rattle.rx_session.specs.PathTexts.{own_path}
@@ -54,6 +56,10 @@ abbrev pub local_cause_is_typed : LocalCause → Type 0
 local_cause_is_typed (locals.Word word) = Unit {0}
 local_cause_is_typed (locals.Path path) = IsOwn path
 
+abbrev pub in_place_is_typed : InPlaceCause → Type 0
+in_place_is_typed (places.Kept cause) = local_cause_is_typed cause
+in_place_is_typed (places.TooLarge limit) = Unit {0}
+
 abbrev pub reply_is_typed : Reply → Type 0
 reply_is_typed (replies.Done exit stdout stderr origin receipt placed) = Unit {0}
 reply_is_typed (replies.BadRequest bad) = Unit {0}
@@ -68,3 +74,4 @@ reply_is_typed (replies.PlaceFault receipt placed) = Unit {0}
 reply_is_typed replies.JournalFull = Unit {0}
 reply_is_typed replies.NoMemory = Unit {0}
 reply_is_typed (replies.Blocked path) = IsOwn path
+reply_is_typed (replies.InPlace cause) = in_place_is_typed cause

@@ -29,6 +29,8 @@ pub(crate) mod request {
     pub(crate) const WATCH: u32 = 13;
 
     pub(crate) const TIMEOUT_SECONDS: u32 = 14;
+
+    pub(crate) const IN_PLACE: u32 = 16;
 }
 
 /// A pair in a Request.

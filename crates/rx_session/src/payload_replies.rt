@@ -3,13 +3,14 @@
 ghost use Rattle.std.specs.Prelude.{◌≡◌};
 ghost use Rattle.rx_base.specs.Results.{Gives};
 ghost use Rattle.rx_session.specs.Replies.{origin_of};
-ghost use Rattle.rx_session.specs.ReplyReading.{all_failed_of, bad_request_of, blocked_of, cancelled_of, done_of, failures_of, first_fields_are, input_missing_of, last_fields_are, not_remotable_of, one_failure, path_cause_of, place_fault_of, receipt_of, reply_by, reply_by_kind, reply_fields, reply_has_only, reply_input_changed_of, reply_source_fault_of, too_large_of, two_failures};
+ghost use Rattle.rx_session.specs.ReplyReading.{all_failed_of, bad_request_of, blocked_of, cancelled_of, done_of, failures_of, first_fields_are, input_missing_of, last_fields_are, local_cause_of, not_remotable_of, one_failure, path_cause_of, place_fault_of, receipt_of, reply_by, reply_by_kind, reply_fields, reply_has_only, reply_input_changed_of, reply_source_fault_of, too_large_of, two_failures};
 ghost use Rattle.rx_session.specs.declared.reply_fault.ReplyFault.TheVariants.{NoMemory};
 
 use crate::bad::Bad;
 use crate::end_message::EndMessage;
 use crate::ends::{allows, failure_of};
 use crate::fields::reply;
+use crate::in_place::in_place_of;
 use crate::local_ends::LOCAL;
 use crate::path_texts::read_path;
 use crate::payloads::{PATH, WORD, kind};
@@ -91,6 +92,7 @@ fn reply_fields(kind: u64) -> &'static [u32]
         kind::CANCELLED => &[reply::REASON],
         kind::PLACE_FAULT => &[reply::RECEIPT, reply::PLACED],
         kind::BLOCKED => &[reply::PATH],
+        kind::IN_PLACE => &[reply::REASON, reply::VALUE, reply::PATH],
         _ => &[],
     }
 }
@@ -136,26 +138,31 @@ fn bad_request_of(message: &ReplyMessage) -> Result<Reply, ReplyFault>
 }
 
 #[tactic(auto, unfolding(crate::specs::ReplyReading::path_cause_of))]
-fn path_cause_of(alloc: Global, message: &ReplyMessage) -> Result<Reply, ReplyFault>
-    ensures { Gives NoMemory (λ reply. reply) result (path_cause_of message.now) }
+fn path_cause_of(alloc: Global, message: &ReplyMessage) -> Result<LocalCause, ReplyFault>
+    ensures { Gives NoMemory (λ cause. cause) result (path_cause_of message.now) }
 {
     let path = read_path(alloc, &message.path)?;
-    let cause = LocalCause::Path { path };
-    Ok(Reply::NotRemotable { cause })
+    Ok(LocalCause::Path { path })
+}
+
+/// Reason 1 and a word, or reason 2 and a path.
+#[tactic(auto, unfolding(crate::specs::ReplyReading::local_cause_of))]
+pub(crate) fn local_cause_of(alloc: Global, message: ReplyMessage) -> Result<LocalCause, ReplyFault>
+    ensures { Gives NoMemory (λ cause. cause) result (local_cause_of message) }
+{
+    match message.reason {
+        WORD => Ok(LocalCause::Word { word: message.path }),
+        PATH => path_cause_of(alloc, &message),
+        _ => Err(ReplyFault::BadReply),
+    }
 }
 
 #[tactic(auto, unfolding(crate::specs::ReplyReading::not_remotable_of))]
 fn not_remotable_of(alloc: Global, message: ReplyMessage) -> Result<Reply, ReplyFault>
     ensures { Gives NoMemory (λ reply. reply) result (not_remotable_of message) }
 {
-    match message.reason {
-        WORD => {
-            let cause = LocalCause::Word { word: message.path };
-            Ok(Reply::NotRemotable { cause })
-        }
-        PATH => path_cause_of(alloc, &message),
-        _ => Err(ReplyFault::BadReply),
-    }
+    let cause = local_cause_of(alloc, message)?;
+    Ok(Reply::NotRemotable { cause })
 }
 
 #[tactic(auto, unfolding(crate::specs::ReplyReading::input_missing_of))]
@@ -285,6 +292,7 @@ fn reply_by_kind(alloc: Global, message: ReplyMessage) -> Result<Reply, ReplyFau
         kind::JOURNAL_FULL => Ok(Reply::JournalFull),
         kind::NO_MEMORY => Ok(Reply::NoMemory),
         kind::BLOCKED => blocked_of(alloc, &message),
+        kind::IN_PLACE => in_place_of(alloc, message),
         _ => Err(ReplyFault::BadReply),
     }
 }

@@ -3,13 +3,14 @@
 ghost use Rattle.std.specs.Prelude.{◌≡◌, IfOk, IfSome, IsOk, map};
 ghost use Rattle.std.specs.List.{AllByRecursion};
 ghost use Rattle.rx_session.specs.Ends.{end_of};
-ghost use Rattle.rx_session.specs.Replies.{all_failed_message, bad_request_message, bare_reply, cancelled_message, exit_message, input_changed_message, message_of, not_remotable_message, origin_number, path_reply, too_large_message};
+ghost use Rattle.rx_session.specs.Replies.{all_failed_message, bad_request_message, bare_reply, cancelled_message, exit_message, input_changed_message, local_cause_message, message_of, origin_number, path_reply, too_large_message};
 ghost use Rattle.rx_session.specs.Typed.{IsOwn, failure_is_typed, local_cause_is_typed, reply_is_typed};
 
 use crate::bad::Bad;
 use crate::cancels::CancelReason;
 use crate::end_message::EndMessage;
 use crate::ends::end_of;
+use crate::in_place::in_place_message;
 use crate::path_texts::path_text;
 use crate::refusals::{cancel_number, limit_number, path_or_none, reason_number};
 use crate::replies::Reply;
@@ -46,9 +47,11 @@ pub(crate) mod kind {
     pub(crate) const NO_MEMORY: u64 = 11;
 
     pub(crate) const BLOCKED: u64 = 12;
+
+    pub(crate) const IN_PLACE: u64 = 13;
 }
 
-/// The reason of a reply that is not remotable: a word, or a path.
+/// The reason of what keeps a command: a word, or a path.
 pub(crate) const WORD: u64 = 1;
 
 pub(crate) const PATH: u64 = 2;
@@ -64,7 +67,7 @@ fn origin_number(origin: Origin) -> u64
 }
 
 /// A reply of a kind that says nothing more.
-fn bare_reply(alloc: Global, kind: u64) -> ReplyMessage
+pub(crate) fn bare_reply(alloc: Global, kind: u64) -> ReplyMessage
     ensures { result ≡ bare_reply kind }
 {
     ReplyMessage {
@@ -137,8 +140,12 @@ fn exit_message(
 }
 
 /// What keeps a command on this machine: reason 1 and the word, or reason 2 and the path.
-fn not_remotable_message(alloc: Global, cause: &LocalCause) -> Result<ReplyMessage, NoMemory>
-    ensures message { IfOk result (λ reply. reply ≡ not_remotable_message cause.now) }
+pub(crate) fn local_cause_message(
+    alloc: Global,
+    kind: u64,
+    cause: &LocalCause,
+) -> Result<ReplyMessage, NoMemory>
+    ensures message { IfOk result (λ reply. reply ≡ local_cause_message kind cause.now) }
     ensures typed { local_cause_is_typed cause.now }
 {
     let (reason, path) = match cause {
@@ -148,7 +155,7 @@ fn not_remotable_message(alloc: Global, cause: &LocalCause) -> Result<ReplyMessa
     Ok(ReplyMessage {
         reason,
         path,
-        ..bare_reply(alloc, kind::NOT_REMOTABLE)
+        ..bare_reply(alloc, kind)
     })
 }
 
@@ -227,7 +234,7 @@ pub(crate) fn message_of(alloc: Global, reply: &Reply) -> Result<ReplyMessage, N
             ..exit_message(alloc, *exit, stdout, stderr)?
         }),
         Reply::BadRequest { bad } => Ok(bad_request_message(alloc, bad)),
-        Reply::NotRemotable { cause } => not_remotable_message(alloc, cause),
+        Reply::NotRemotable { cause } => local_cause_message(alloc, kind::NOT_REMOTABLE, cause),
         Reply::InputMissing { path } => path_reply(alloc, kind::INPUT_MISSING, path),
         Reply::InputChanged(input) => input_changed_message(alloc, input),
         Reply::SourceFault { path } => path_reply(alloc, kind::SOURCE_FAULT, path),
@@ -242,5 +249,6 @@ pub(crate) fn message_of(alloc: Global, reply: &Reply) -> Result<ReplyMessage, N
         Reply::JournalFull => Ok(bare_reply(alloc, kind::JOURNAL_FULL)),
         Reply::NoMemory => Ok(bare_reply(alloc, kind::NO_MEMORY)),
         Reply::Blocked { path } => path_reply(alloc, kind::BLOCKED, path),
+        Reply::InPlace { cause } => in_place_message(alloc, cause),
     }
 }

@@ -3,7 +3,7 @@
 ghost use Rattle.std.specs.Prelude.{◌≡◌, ◌++◌, IfOk, IsOk, Ok, OnOk, map};
 ghost use Rattle.rx_codec.specs.Contents.{text_in, texts_in};
 ghost use Rattle.rx_codec.specs.FieldBytes.{contents};
-ghost use Rattle.rx_session.specs.Messages.{pair_message, raw_request_fields, raw_request_from, raw_request_with};
+ghost use Rattle.rx_session.specs.Messages.{last_request_fields, pair_message, raw_request_fields, raw_request_from, raw_request_with};
 
 use crate::fields::request;
 use crate::pair_message::{PairMessage, pair_messages, pairs_in};
@@ -44,6 +44,8 @@ pub struct RawRequest {
     pub watch: u64,
     /// 14
     pub timeout_seconds: u64,
+    /// 16
+    pub in_place: u64,
 }
 
 impl Shape for RawRequest {
@@ -173,6 +175,7 @@ fn request_in(
         accept_cached: list.number(request::ACCEPT_CACHED),
         watch: list.number(request::WATCH),
         timeout_seconds: list.number(request::TIMEOUT_SECONDS),
+        in_place: list.number(request::IN_PLACE),
     })
 }
 
@@ -205,7 +208,15 @@ fn write_with(
     out.texts(request::TOOLCHAIN_INPUTS, &message.toolchain_inputs)?;
     out.texts(request::OUTPUTS, &message.outputs)?;
     out.messages(alloc, request::PLATFORM, platform)?;
+    write_last(message, out)
+}
+
+/// Writes the fields from 12 on.
+fn write_last(message: &RawRequest, out: &mut Writer<RawRequest>) -> Result<(), NoMemory>
+    ensures { OnOk result (out.new ≡ out.old ++ last_request_fields message.now) }
+{
     out.number(request::ACCEPT_CACHED, message.accept_cached)?;
     out.number(request::WATCH, message.watch)?;
-    out.number(request::TIMEOUT_SECONDS, message.timeout_seconds)
+    out.number(request::TIMEOUT_SECONDS, message.timeout_seconds)?;
+    out.number(request::IN_PLACE, message.in_place)
 }

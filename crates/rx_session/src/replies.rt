@@ -11,6 +11,7 @@ ghost use Rattle.rx_session.specs.declared.reply_fault.ReplyFault.TheVariants.{N
 
 use crate::bad::Bad;
 use crate::cancels::CancelReason;
+use crate::in_place::InPlaceCause;
 use crate::payload_replies::reply_by;
 use crate::payloads::message_of;
 use crate::reply_fault::ReplyFault;
@@ -78,6 +79,10 @@ pub enum Reply {
     /// 12: the working directory is a file or below one, or this output is below one.
     Blocked {
         path: RelPath,
+    },
+    /// 13: the client asked to run such a step itself, and this is why the step isn't taken.
+    InPlace {
+        cause: InPlaceCause,
     },
 }
 

@@ -44,6 +44,9 @@ pub struct Request {
     pub watch: bool,
     /// How long the command may run remotely, in seconds; 0 says nothing.
     pub timeout_seconds: u32,
+    /// Whether the client runs a compile step itself that this proxy can't take: the reply is then
+    /// `InPlace`.
+    pub in_place: bool,
 }
 
 impl Request {

@@ -133,6 +133,9 @@ fn bad_last_field(raw: &RawRequest) -> Option<u32>
     if !is_within(0, MAX_TIMEOUT_SECONDS, raw.timeout_seconds) {
         return Some(request::TIMEOUT_SECONDS);
     }
+    if !is_within(0, 1, raw.in_place) {
+        return Some(request::IN_PLACE);
+    }
     None
 }
 
@@ -154,6 +157,7 @@ fn request_from(raw: RawRequest) -> Request
         accept_cached: raw.accept_cached == 1,
         watch: raw.watch == 1,
         timeout_seconds: raw.timeout_seconds as u32,
+        in_place: raw.in_place == 1,
     }
 }
 

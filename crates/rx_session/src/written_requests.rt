@@ -77,5 +77,6 @@ pub(crate) fn request_message(alloc: Global, request: &Request) -> Result<RawReq
         accept_cached: u64::from(request.accept_cached),
         watch: u64::from(request.watch),
         timeout_seconds: u64::from(request.timeout_seconds),
+        in_place: u64::from(request.in_place),
     })
 }

@@ -32,5 +32,6 @@ returns-clause-again c = λ ok.
       number_again x.accept_cached,
       number_again x.watch,
       number_again x.timeout_seconds,
+      number_again x.in_place,
     ) refl
     )
