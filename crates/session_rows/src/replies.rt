@@ -5,7 +5,7 @@ use crate::ends::read_failures;
 use crate::seen::read_changed;
 use rx_base::{Bytes, Text};
 use rx_rows::{Answer, Row, RowFault};
-use rx_session::{Bad, BadReason, CancelReason, Reply, Room, encode};
+use rx_session::{Bad, BadReason, CancelReason, InPlaceCause, Reply, Room, encode};
 use rx_world::{Limit, LocalCause, Origin};
 use std::alloc::Global;
 
@@ -60,6 +60,7 @@ fn read_reply(alloc: Global, row: &mut Row<'_>) -> Result<Reply, RowFault> {
         "journal_full" => Ok(Reply::JournalFull),
         "no_memory" => Ok(Reply::NoMemory),
         "blocked" => read_blocked(alloc, row),
+        "in_place" => read_in_place(alloc, row),
         _ => Err(RowFault::BadCall),
     }
 }
@@ -110,6 +111,26 @@ fn read_place_fault(row: &mut Row<'_>) -> Result<Reply, RowFault> {
 fn read_blocked(alloc: Global, row: &mut Row<'_>) -> Result<Reply, RowFault> {
     let path = read_path(alloc, row)?;
     Ok(Reply::Blocked { path })
+}
+
+fn read_in_place(alloc: Global, row: &mut Row<'_>) -> Result<Reply, RowFault> {
+    let cause = read_in_place_cause(alloc, row)?;
+    Ok(Reply::InPlace { cause })
+}
+
+/// `kept word TEXT`, `kept path PATH` or `too_large LIMIT`.
+fn read_in_place_cause(alloc: Global, row: &mut Row<'_>) -> Result<InPlaceCause, RowFault> {
+    match row.word()? {
+        "kept" => {
+            let cause = read_local_cause(alloc, row)?;
+            Ok(InPlaceCause::Kept { cause })
+        }
+        "too_large" => {
+            let limit = read_limit(row)?;
+            Ok(InPlaceCause::TooLarge { limit })
+        }
+        _ => Err(RowFault::BadCall),
+    }
 }
 
 /// `done EXIT STDOUT STDERR ORIGIN RECEIPT PLACED`.

@@ -180,7 +180,8 @@ fn write_request(request: &Request, answer: &mut Answer) -> Result<(), AllocErro
     write_pairs("platform", request.platform.as_slice(), answer)?;
     write_flag("accept_cached", request.accept_cached, answer)?;
     write_flag("watch", request.watch, answer)?;
-    write_seconds(request.timeout_seconds, answer)
+    write_seconds(request.timeout_seconds, answer)?;
+    write_flag("in_place", request.in_place, answer)
 }
 
 fn write_fault(fault: &SessionFault, answer: &mut Answer) -> Result<(), AllocError> {

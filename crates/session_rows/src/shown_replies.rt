@@ -5,7 +5,7 @@ use crate::shown_ends::show_failures;
 use crate::shown_values::{show_changed, show_path};
 use rx_base::{Bytes, RelPath};
 use rx_rows::{Answer, Row, RowFault};
-use rx_session::{Bad, Reply, ReplyFault};
+use rx_session::{Bad, InPlaceCause, Reply, ReplyFault};
 use rx_world::{Limit, LocalCause};
 use std::alloc::{AllocError, Global};
 
@@ -50,7 +50,7 @@ fn show_reply(reply: &Reply, answer: &mut Answer) -> Result<(), AllocError> {
             show_receipt(*receipt, *placed, answer)
         }
         Reply::BadRequest { bad } => show_bad(bad, answer),
-        Reply::NotRemotable { cause } => show_local_cause(cause, answer),
+        Reply::NotRemotable { cause } => show_local_cause("not_remotable", cause, answer),
         Reply::InputMissing { path } => show_path("input_missing", path, answer),
         Reply::InputChanged(input) => show_changed(input, answer),
         Reply::SourceFault { path } => show_path("source_fault", path, answer),
@@ -70,6 +70,7 @@ fn show_reply(reply: &Reply, answer: &mut Answer) -> Result<(), AllocError> {
         Reply::JournalFull => answer.word("journal_full"),
         Reply::NoMemory => answer.word("no_memory"),
         Reply::Blocked { path } => show_path("blocked", path, answer),
+        Reply::InPlace { cause } => show_in_place(cause, answer),
     }
 }
 
@@ -96,14 +97,26 @@ fn show_bad(bad: &Bad, answer: &mut Answer) -> Result<(), AllocError> {
     answer.number(bad.value)
 }
 
-fn show_local_cause(cause: &LocalCause, answer: &mut Answer) -> Result<(), AllocError> {
-    answer.word("not_remotable")?;
+/// A word, and what keeps a command.
+fn show_local_cause(word: &str, cause: &LocalCause, answer: &mut Answer) -> Result<(), AllocError> {
+    answer.word(word)?;
     match cause {
         LocalCause::Word { word } => {
             answer.word("word")?;
             answer.text(word.as_str().as_bytes())
         }
         LocalCause::Path { path } => show_path("path", path, answer),
+    }
+}
+
+fn show_in_place(cause: &InPlaceCause, answer: &mut Answer) -> Result<(), AllocError> {
+    answer.word("in_place")?;
+    match cause {
+        InPlaceCause::Kept { cause } => show_local_cause("kept", cause, answer),
+        InPlaceCause::TooLarge { limit } => {
+            answer.word("too_large")?;
+            answer.value(limit)
+        }
     }
 }
 
