@@ -1,5 +1,5 @@
 -- Facts of each item of a list.
-use Rattle.std.proofs.Common.{◌≡◌, ℕ, Bool, false, List, [], ◌∷◌, Option, Some, None, refl, cond}
+use Rattle.std.proofs.Common.{◌≡◌, ℕ, Bool, true, false, List, [], ◌∷◌, filter, Option, Some, None, refl, cond}
 use Rattle.std.specs.List.{AllByRecursion, list_any, cons_option}
 use Rattle.std.specs.declared.cmp.Ordering.{Ordering}
 use Rattle.std.specs.Ordering.{is_eq, is_lt, nat_cmp}
@@ -31,6 +31,20 @@ of_inserted P compare item (other ∷ others) h p =
 of_sorted_once : {K : Type 0} (P : K → Type 0) (compare : K → K → Ordering) (items : List K) → AllByRecursion P items → AllByRecursion P (sorted_once compare items)
 of_sorted_once P compare [] p = tt
 of_sorted_once P compare (item ∷ items) p = of_inserted P compare item (sorted_once compare items) p.0 (of_sorted_once P compare items p.1)
+
+pub of_passing : {A : Type 0} (P : A → Type 0) (test : A → Bool) (xs : List A) → AllByRecursion P xs → AllByRecursion P (filter test xs)
+of_passing P test [] p = tt
+of_passing P test (x ∷ xs) p =
+    cond_both (test x) (x ∷ filter test xs) (filter test xs) (λ found. AllByRecursion P found)
+    (λ _. (p.0, of_passing P test xs p.1))
+    (λ _. of_passing P test xs p.1)
+
+pub all_pass : {A : Type 0} (test : A → Bool) (xs : List A) → AllByRecursion (λ x. test x ≡ true) (filter test xs)
+all_pass test [] = tt
+all_pass test (x ∷ xs) =
+    cond_both (test x) (x ∷ filter test xs) (filter test xs) (λ found. AllByRecursion (λ y. test y ≡ true) found)
+    (λ e. (e, all_pass test xs))
+    (λ _. all_pass test xs)
 
 -- what holds of each path holds of each sorted path
 pub of_sorted : (P : List ℕ → Type 0) (paths : List (List ℕ)) → AllByRecursion P paths → AllByRecursion P (sorted_paths paths)

@@ -16,8 +16,9 @@ use Rattle.rx_cppflags.specs.Rows.{Row, row_for, own_value, takes_next}
 use Rattle.rx_cppflags.specs.Pieces.{Saying, said_by, saying, sayings_after, uses_next, with_next}
 use Rattle.rx_cppflags.specs.Found.{has_meaning, has_meaning_once, is_apart, is_in_table, outputs_of, outside_of, path_for, paths_of, sources_of}
 use Rattle.rx_cppflags.specs.Variables.{first_variable}
+use Rattle.rx_cppflags.specs.LocalOutputs.{apart_paths, dependency_texts, local_outputs, object_texts, written_paths}
 use Rattle.rx_cppflags.specs.Readings.{HasSafeOutputs, IsSafeOutput, compile_from, compile_of, first_word, only_path, reading_of, reading_unless, unless_variable}
-use Rattle.rx_cppflags.proofs.Lists.{each, none_passes, with_option, of_sorted}
+use Rattle.rx_cppflags.proofs.Lists.{all_pass, each, none_passes, of_passing, of_sorted, with_option}
 use Rattle.rx_base.proofs.Lists.{All-append, All-back, All-front, All-weaken}
 
 -- ---- what each word's path is
@@ -99,35 +100,70 @@ each_output P said p =
     (each_path Output P said (each _ (λ _. Unit {0}) _ (λ s f _ path e. f path (is_output s.meaning e)) said p (each _ _ (λ _. Unit {0}) (λ _ _ _. tt) said p p)))
     (each_path DependencyFile P said (each _ (λ _. Unit {0}) _ (λ s f _ path e. f path (is_dependency_file s.meaning e)) said p (each _ _ (λ _. Unit {0}) (λ _ _ _. tt) said p p)))
 
--- what the definition tests of an output is what is promised of it
-safe : (command : Command) (inputs named : List (List ℕ)) (path : List ℕ) → IsWritten command.working_directory inputs (command.outputs ++ named) path → IsSafeOutput command inputs (sorted_paths named) path
-safe command inputs named path w =
+-- neither above nor below
+abbrev Far : List ℕ → List ℕ → Type 0
+Far path other = (is_below path other ≡ false) × (is_below other path ≡ false)
+
+-- nothing that is apart from others stands above or below one of them
+all_far : (path : List ℕ) (others : List (List ℕ)) → is_apart others path ≡ true → AllByRecursion (Far path) others
+all_far path others e =
     let near : List ℕ → Bool = λ other. is_below path other || is_below other path in
-    let far : List ℕ → Type 0 = λ other. (is_below path other ≡ false) × (is_below other path ≡ false) in
-    let none : AllByRecursion (λ other. near other ≡ false) (command.outputs ++ named) = none_passes near (command.outputs ++ named) (not-true (list_any near (command.outputs ++ named)) w.1) in
-    let apart : AllByRecursion far (command.outputs ++ named) =
-    All-weaken (λ other. near other ≡ false) far (command.outputs ++ named) (λ other e. or_parts (is_below path other) (is_below other path) e) none in
+    All-weaken (λ other. near other ≡ false) (Far path) others (λ other f. or_parts (is_below path other) (is_below other path) f)
+    (none_passes near others (not-true (list_any near others) e))
+
+-- what the definition tests of an output is what is promised of it, among the outputs that are left of those that are named
+safe : (command : Command) (inputs named left : List (List ℕ)) (path : List ℕ) → IsWritten command.working_directory inputs (command.outputs ++ named) path
+    → (AllByRecursion (Far path) named → AllByRecursion (Far path) left) → IsSafeOutput command inputs left path
+safe command inputs named left path w keeps =
+    let far : AllByRecursion (Far path) (command.outputs ++ named) = all_far path (command.outputs ++ named) w.1 in
     let above : List ℕ → Bool = λ input. is_below input path in
     record {
       below = (and_parts (is_below path command.working_directory) (not (list_any above inputs)) w.0).0;
       clear = none_passes above inputs (not-true (list_any above inputs) (and_parts (is_below path command.working_directory) (not (list_any above inputs)) w.0).1);
-      apart = All-append far command.outputs (sorted_paths named) (All-front far command.outputs named apart) (of_sorted far named (All-back far command.outputs named apart));
+      apart = All-append (Far path) command.outputs left (All-front (Far path) command.outputs named far) (keeps (All-back (Far path) command.outputs named far));
     }
+
+-- ---- the outputs of a command that only the machine itself can run
+
+written_each : (command : Command) (inputs texts : List (List ℕ)) → AllByRecursion (λ path. is_writable command.working_directory inputs path ≡ true) (written_paths command inputs texts)
+written_each command inputs [] = tt
+written_each command inputs (text ∷ texts) =
+    let writable : List ℕ → Bool = is_writable command.working_directory inputs in
+    with_option (λ path. writable path ≡ true) (path_of command.working_directory inputs Output text) (written_paths command inputs texts)
+    (λ path e. kept_passes writable (path_from command.working_directory text) path e)
+    (written_each command inputs texts)
+
+left_safe : (command : Command) (inputs named : List (List ℕ)) → AllByRecursion (λ path. is_writable command.working_directory inputs path ≡ true) named
+    → AllByRecursion (IsSafeOutput command inputs (sorted_paths (apart_paths command.outputs named))) (sorted_paths (apart_paths command.outputs named))
+left_safe command inputs named w =
+    let test : List ℕ → Bool = is_apart (command.outputs ++ named) in
+    let left : List (List ℕ) = sorted_paths (apart_paths command.outputs named) in
+    of_sorted (IsSafeOutput command inputs left) (apart_paths command.outputs named)
+    (each (λ path. is_writable command.working_directory inputs path ≡ true) (λ path. test path ≡ true) (IsSafeOutput command inputs left)
+    (λ path writable apart. safe command inputs named left path (writable, apart) (λ far. of_sorted (Far path) (apart_paths command.outputs named) (of_passing (Far path) test named far)))
+    (apart_paths command.outputs named) (of_passing (λ path. is_writable command.working_directory inputs path ≡ true) test named w) (all_pass test named))
+
+local_safe : (command : Command) (inputs : List (List ℕ)) (said : List Saying) (word : List ℕ) → HasSafeOutputs command inputs (LocalOnly word (local_outputs command inputs said))
+local_safe command inputs said word =
+    let texts : List (List ℕ) = object_texts said ++ dependency_texts said in
+    left_safe command inputs (written_paths command inputs texts) (written_each command inputs texts)
 
 -- ---- the reading
 
-unless_safe : (command : Command) (inputs : List (List ℕ)) (said : List Saying) (source : List ℕ) → AllByRecursion (IsSafeOutput command inputs (sorted_paths (outputs_of said))) (sorted_paths (outputs_of said))
-    → (o : Option (List ℕ)) → HasSafeOutputs command inputs (unless_variable o (compile_of said source))
-unless_safe command inputs said source p None = p
-unless_safe command inputs said source p (Some name) = tt
+unless_safe : (command : Command) (inputs outputs : List (List ℕ)) (said : List Saying) (source : List ℕ) → ((word : List ℕ) → HasSafeOutputs command inputs (LocalOnly word outputs))
+    → AllByRecursion (IsSafeOutput command inputs (sorted_paths (outputs_of said))) (sorted_paths (outputs_of said))
+    → (o : Option (List ℕ)) → HasSafeOutputs command inputs (unless_variable o outputs (compile_of said source))
+unless_safe command inputs outputs said source k p None = p
+unless_safe command inputs outputs said source k p (Some name) = k name
 
-compile_safe : (command : Command) (inputs : List (List ℕ)) (said : List Saying) → AllByRecursion (IsSafeOutput command inputs (sorted_paths (outputs_of said))) (sorted_paths (outputs_of said))
-    → (o : Option (List ℕ)) → HasSafeOutputs command inputs (compile_from command said o)
-compile_safe command inputs said p None = tt
-compile_safe command inputs said p (Some source) =
-    cond_both (has_meaning CompileOnly said && has_meaning_once Output said) (unless_variable (first_variable command.environment) (compile_of said source)) (LocalOnly (first_word command.words)) (λ reading. HasSafeOutputs command inputs reading)
-    (λ _. unless_safe command inputs said source p (first_variable command.environment))
-    (λ _. tt)
+compile_safe : (command : Command) (inputs outputs : List (List ℕ)) (said : List Saying) → ((word : List ℕ) → HasSafeOutputs command inputs (LocalOnly word outputs))
+    → AllByRecursion (IsSafeOutput command inputs (sorted_paths (outputs_of said))) (sorted_paths (outputs_of said))
+    → (o : Option (List ℕ)) → HasSafeOutputs command inputs (compile_from command outputs said o)
+compile_safe command inputs outputs said k p None = k (first_word command.words)
+compile_safe command inputs outputs said k p (Some source) =
+    cond_both (has_meaning CompileOnly said && has_meaning_once Output said) (unless_variable (first_variable command.environment) outputs (compile_of said source)) (LocalOnly (first_word command.words) outputs) (λ reading. HasSafeOutputs command inputs reading)
+    (λ _. unless_safe command inputs outputs said source k p (first_variable command.environment))
+    (λ _. k (first_word command.words))
 
 outputs_safe : (command : Command) (inputs : List (List ℕ)) (said : List Saying) → AllByRecursion (λ s. s.path ≡ path_of command.working_directory inputs s.meaning s.text) said
     → outside_of command.outputs said ≡ None
@@ -143,19 +179,20 @@ outputs_safe command inputs said p e =
     (written command.working_directory inputs outputs has_file) said inside p) in
     of_sorted (IsSafeOutput command inputs (sorted_paths (outputs_of said))) (outputs_of said)
     (each (IsWritten command.working_directory inputs outputs) (IsWritten command.working_directory inputs outputs) (IsSafeOutput command inputs (sorted_paths (outputs_of said)))
-    (λ path w _. safe command inputs (outputs_of said) path w) (outputs_of said) all_written all_written)
+    (λ path w _. safe command inputs (outputs_of said) (sorted_paths (outputs_of said)) path w (λ far. of_sorted (Far path) (outputs_of said) far)) (outputs_of said) all_written all_written)
 
-safe_unless : (command : Command) (inputs : List (List ℕ)) (said : List Saying) → AllByRecursion (λ s. s.path ≡ path_of command.working_directory inputs s.meaning s.text) said
-    → (o : Option (List ℕ)) → outside_of command.outputs said ≡ o → HasSafeOutputs command inputs (reading_unless command said o)
-safe_unless command inputs said p None e = compile_safe command inputs said (outputs_safe command inputs said p e) (only_path (sources_of said))
-safe_unless command inputs said p (Some word) e = tt
+safe_unless : (command : Command) (inputs outputs : List (List ℕ)) (said : List Saying) → ((word : List ℕ) → HasSafeOutputs command inputs (LocalOnly word outputs))
+    → AllByRecursion (λ s. s.path ≡ path_of command.working_directory inputs s.meaning s.text) said
+    → (o : Option (List ℕ)) → outside_of command.outputs said ≡ o → HasSafeOutputs command inputs (reading_unless command outputs said o)
+safe_unless command inputs outputs said k p None e = compile_safe command inputs outputs said k (outputs_safe command inputs said p e) (only_path (sources_of said))
+safe_unless command inputs outputs said k p (Some word) e = k word
 
 -- the outputs of each reading are safe
 pub reading_safe : (command : Command) (inputs : List (List ℕ)) → HasSafeOutputs command inputs (reading_of command inputs)
 unfolding reading_of
 reading_safe command inputs =
     let said : List Saying = sayings_after command.working_directory inputs false (drop 1 command.words) in
-    safe_unless command inputs said (placed command.working_directory inputs false (drop 1 command.words)) (outside_of command.outputs said) refl
+    safe_unless command inputs (local_outputs command inputs said) said (local_safe command inputs said) (placed command.working_directory inputs false (drop 1 command.words)) (outside_of command.outputs said) refl
 
 pub told_safe : {E : Type 0} (command : Command) (inputs : List (List ℕ)) (result : Result Reading E) → IfOk result (λ reading. reading ≡ reading_of command inputs) → IfOk result (λ reading. HasSafeOutputs command inputs reading)
 told_safe command inputs (Ok reading) e = subst (λ (found : Reading). HasSafeOutputs command inputs found) (sym e) (reading_safe command inputs)

@@ -1,18 +1,19 @@
 -- Lists of paths that have the same members mean the same.
-use Rattle.std.proofs.Common.{◌≡◌, ℕ, Bool, true, false, not, ◌&&◌, List, [], ◌∷◌, ◌++◌, drop, Option, Some, None, Result, IfOk, refl, sym, ap, ◌∙◌, subst, cond}
-use Rattle.std.specs.List.{find}
+use Rattle.std.proofs.Common.{◌≡◌, ℕ, Bool, true, false, not, ◌&&◌, List, [], ◌∷◌, ◌++◌, drop, filter, Option, Some, None, Result, IfOk, refl, sym, ap, ◌∙◌, subst, cond}
+use Rattle.std.specs.List.{cons_option, find}
 use Rattle.std.specs.Option.{option_map}
 use Rattle.rx_base.specs.Paths.{is_below}
-use Rattle.rx_base.specs.SortedPaths.{HasSameMembers}
+use Rattle.rx_base.specs.SortedPaths.{HasSameMembers, sorted_paths}
 use Rattle.rx_world.specs.declared.commands.Command.{Command}
 use Rattle.rx_cppflags.specs.declared.meanings.Meaning.{Meaning}
-use Rattle.rx_cppflags.specs.declared.meanings.Meaning.TheVariants.{DependencyFile}
+use Rattle.rx_cppflags.specs.declared.meanings.Meaning.TheVariants.{DependencyFile, Output}
 use Rattle.rx_cppflags.specs.declared.readings.Reading.{Reading}
 use Rattle.rx_cppflags.specs.Places.{is_writable, kept, path_from, path_of}
 use Rattle.rx_cppflags.specs.Rows.{Row, row_for, own_value, takes_next}
 use Rattle.rx_cppflags.specs.Pieces.{Saying, said_by, saying, sayings_after, uses_next, with_next}
-use Rattle.rx_cppflags.specs.Found.{first_outside, has_meaning, is_apart_output, is_in_table, outputs_of, outside_of}
-use Rattle.rx_cppflags.specs.Readings.{reading_from, reading_of}
+use Rattle.rx_cppflags.specs.Found.{first_outside, has_meaning, is_apart, is_apart_output, is_in_table, outputs_of, outside_of}
+use Rattle.rx_cppflags.specs.LocalOutputs.{apart_paths, dependency_texts, local_outputs, object_texts, written_paths}
+use Rattle.rx_cppflags.specs.Readings.{reading_by, reading_from, reading_of}
 use Rattle.rx_base.proofs.Members.{list_any-same_members}
 
 -- ---- inputs
@@ -50,16 +51,41 @@ sayings_same d xs ys false (word ∷ others) same =
     ap (λ (s : Saying). s ∷ sayings_after d xs (uses_next (row_for word) word) others) first
     ∙ ap (λ (ss : List Saying). said_by d ys (row_for word) word others ∷ ss) rest
 
+written_same : (command : Command) (xs ys texts : List (List ℕ)) → HasSameMembers xs ys → written_paths command xs texts ≡ written_paths command ys texts
+written_same command xs ys [] same = refl
+written_same command xs ys (text ∷ texts) same =
+    ap (λ (o : Option (List ℕ)). cons_option o (written_paths command xs texts)) (path_same command.working_directory xs ys Output text same)
+    ∙ ap (cons_option (path_of command.working_directory ys Output text)) (written_same command xs ys texts same)
+
+local_same : (command : Command) (xs ys : List (List ℕ)) (said : List Saying) → HasSameMembers xs ys → local_outputs command xs said ≡ local_outputs command ys said
+local_same command xs ys said same = ap (λ (paths : List (List ℕ)). sorted_paths (apart_paths command.outputs paths)) (written_same command xs ys (object_texts said ++ dependency_texts said) same)
+
 -- a command's reading asks only which inputs there are
 pub reading_same : (command : Command) (xs ys : List (List ℕ)) → HasSameMembers xs ys → reading_of command xs ≡ reading_of command ys
 unfolding reading_of
-reading_same command xs ys same = ap (λ (said : List Saying). reading_from command said) (sayings_same command.working_directory xs ys false (drop 1 command.words) same)
+reading_same command xs ys same =
+    let said : List Saying = sayings_after command.working_directory ys false (drop 1 command.words) in
+    ap (λ (said : List Saying). reading_from command xs said) (sayings_same command.working_directory xs ys false (drop 1 command.words) same)
+    ∙ ap (λ (outputs : List (List ℕ)). reading_by command outputs said) (local_same command xs ys said same)
 
 -- ---- outputs
 
 apart_same : (xs ys : List (List ℕ)) (o : Option (List ℕ)) → HasSameMembers xs ys → is_apart_output xs o ≡ is_apart_output ys o
 apart_same xs ys None same = refl
 apart_same xs ys (Some path) same = ap not (list_any-same_members _ xs ys same)
+
+passing_same : (test other : List ℕ → Bool) (paths : List (List ℕ)) → ((path : List ℕ) → test path ≡ other path) → filter test paths ≡ filter other paths
+passing_same test other [] e = refl
+passing_same test other (path ∷ paths) e = rw (e path, passing_same test other paths e) refl
+
+-- which paths are apart asks only which paths there are
+pub told_apart : {E : Type 0} (outputs paths all sorted : List (List ℕ)) (result : Result (List (List ℕ)) E) → all ≡ outputs ++ paths → HasSameMembers all sorted
+    → IfOk result (λ apart. apart ≡ filter (is_apart sorted) paths) → IfOk result (λ apart. apart ≡ apart_paths outputs paths)
+told_apart outputs paths all sorted result a same told =
+    let given : filter (is_apart sorted) paths ≡ apart_paths outputs paths =
+    passing_same (is_apart sorted) (is_apart all) paths (λ path. sym (ap not (list_any-same_members _ all sorted same)))
+    ∙ ap (λ (others : List (List ℕ)). filter (is_apart others) paths) a in
+    subst (λ (left : List (List ℕ)). IfOk result (λ apart. apart ≡ left)) given told
 
 find_same : (test other : Saying → Bool) (said : List Saying) → ((s : Saying) → test s ≡ other s) → find (λ s. not (test s)) said ≡ find (λ s. not (other s)) said
 find_same test other [] e = refl

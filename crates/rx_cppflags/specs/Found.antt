@@ -4,7 +4,7 @@ use Rattle.std.specs.List.{find, filter, filter_map, list_any}
 use Rattle.std.specs.Option.{is_some, option_map}
 use Rattle.rx_base.specs.Paths.{is_below}
 use Rattle.rx_cppflags.specs.declared.meanings.Meaning.{Meaning}
-use Rattle.rx_cppflags.specs.declared.meanings.Meaning.TheVariants.{Refused, CSource, CppSource, Output, DependencyFile, Dependencies}
+use Rattle.rx_cppflags.specs.declared.meanings.Meaning.TheVariants.{Refused, CSource, CppSource, OtherSource, Output, DependencyFile, Dependencies}
 use Rattle.rx_cppflags.specs.Meanings.{same, names_output, names_path}
 use Rattle.rx_cppflags.specs.Pieces.{Saying}
 
@@ -47,7 +47,7 @@ is_in_table has_file outputs s =
     if names_output s.meaning then is_apart_output outputs s.path
     else if names_path s.meaning then is_some s.path
     else if same s.meaning Dependencies then has_file
-    else not (same s.meaning Refused)
+    else not (same s.meaning Refused || same s.meaning OtherSource)
 
 -- the first word that is no compile word, where a file of dependencies is named or not, among these outputs
 abbrev pub first_outside : Bool → List (List ℕ) → List Saying → Option (List ℕ)

@@ -1,4 +1,6 @@
+pub mod Endings
 pub mod Found
+pub mod LocalOutputs
 pub mod Meanings
 pub mod Pieces
 pub mod Places

@@ -3,7 +3,7 @@ use Rattle.std.specs.Prelude.{Bool, true, false, ◌||◌}
 use denote.Enum.Bare.{sameb}
 use Rattle.rx_cppflags.specs.contracts.meanings.Meaning.{the_type}
 use Rattle.rx_cppflags.specs.declared.meanings.Meaning.{Meaning}
-use Rattle.rx_cppflags.specs.declared.meanings.Meaning.TheVariants.{Refused, Nothing, Output, DependencyFile, Dependencies, CompileOnly}
+use Rattle.rx_cppflags.specs.declared.meanings.Meaning.TheVariants.{Refused, Nothing, CSource, CppSource, OtherSource, Output, DependencyFile, Dependencies, CompileOnly}
 
 -- whether two meanings are one
 abbrev pub same : Meaning → Meaning → Bool
@@ -17,6 +17,11 @@ names_output meaning = same meaning Output || same meaning DependencyFile
 abbrev pub names_path : Meaning → Bool
 names_path Refused = false
 names_path Nothing = false
+names_path OtherSource = false
 names_path Dependencies = false
 names_path CompileOnly = false
 names_path meaning = true
+
+-- whether the value is a source, of whatever language
+abbrev pub names_source : Meaning → Bool
+names_source meaning = same meaning CSource || same meaning CppSource || same meaning OtherSource

@@ -9,6 +9,7 @@ use Rattle.rx_cppflags.specs.declared.readings.Reading.{Reading}
 use Rattle.rx_cppflags.specs.declared.readings.Reading.TheVariants.{Compile, LocalOnly}
 use Rattle.rx_cppflags.specs.Pieces.{Saying, sayings}
 use Rattle.rx_cppflags.specs.Found.{has_meaning, has_meaning_once, outputs_of, outside_of, paths_of, sources_of, texts_of}
+use Rattle.rx_cppflags.specs.LocalOutputs.{local_outputs}
 use Rattle.rx_cppflags.specs.Variables.{first_variable}
 
 -- the compiler; a command without words has the empty text for it
@@ -28,10 +29,10 @@ compile_of said source =
     (sorted_paths (outputs_of said))
     (has_meaning CSource said)
 
--- unless its environment has one of these variables
-abbrev pub unless_variable : Option (List ℕ) → Reading → Reading
-unless_variable None reading = reading
-unless_variable (Some name) reading = LocalOnly name
+-- unless its environment has one of these variables; only the machine itself can run it then, and it has these outputs
+abbrev pub unless_variable : Option (List ℕ) → List (List ℕ) → Reading → Reading
+unless_variable None outputs reading = reading
+unless_variable (Some name) outputs reading = LocalOnly name outputs
 
 -- the one path of a list that has one
 abbrev pub only_path : List (List ℕ) → Option (List ℕ)
@@ -40,26 +41,30 @@ only_path (path ∷ []) = Some path
 only_path (path ∷ other ∷ others) = None
 
 -- where the words say that it compiles, and have one source and one output
-abbrev pub compile_from : Command → List Saying → Option (List ℕ) → Reading
-compile_from command said None = LocalOnly (first_word command.words)
-compile_from command said (Some source) =
+abbrev pub compile_from : Command → List (List ℕ) → List Saying → Option (List ℕ) → Reading
+compile_from command outputs said None = LocalOnly (first_word command.words) outputs
+compile_from command outputs said (Some source) =
     if has_meaning CompileOnly said && has_meaning_once Output said
-    then unless_variable (first_variable command.environment) (compile_of said source)
-    else LocalOnly (first_word command.words)
+    then unless_variable (first_variable command.environment) outputs (compile_of said source)
+    else LocalOnly (first_word command.words) outputs
 
 -- where each of them is a compile word
-abbrev pub reading_unless : Command → List Saying → Option (List ℕ) → Reading
-reading_unless command said None = compile_from command said (only_path (sources_of said))
-reading_unless command said (Some word) = LocalOnly word
+abbrev pub reading_unless : Command → List (List ℕ) → List Saying → Option (List ℕ) → Reading
+reading_unless command outputs said None = compile_from command outputs said (only_path (sources_of said))
+reading_unless command outputs said (Some word) = LocalOnly word outputs
 
-abbrev pub reading_from : Command → List Saying → Reading
-reading_from command said = reading_unless command said (outside_of command.outputs said)
+-- by what its words say; one that only the machine itself can run has these outputs
+abbrev pub reading_by : Command → List (List ℕ) → List Saying → Reading
+reading_by command outputs said = reading_unless command outputs said (outside_of command.outputs said)
+
+abbrev pub reading_from : Command → List (List ℕ) → List Saying → Reading
+reading_from command inputs said = reading_by command (local_outputs command inputs said) said
 
 -- How a command with these declared inputs is read.
 unfoldable pub reading_of : Command → List (List ℕ) → Reading
-reading_of command inputs = reading_from command (sayings command.working_directory inputs (drop 1 command.words))
+reading_of command inputs = reading_from command inputs (sayings command.working_directory inputs (drop 1 command.words))
 
--- ---- the outputs of a compile command
+-- ---- the outputs of a command
 
 -- An output that its command may write: it lies below the working directory, above no declared input, and
 -- above and below none of the outputs that the command has or that its words name.
@@ -68,7 +73,7 @@ pub record IsSafeOutput (command : Command) (inputs outputs : List (List ℕ)) (
   pub clear : AllByRecursion (λ input. is_below input path ≡ false) inputs
   pub apart : AllByRecursion (λ other. (is_below path other ≡ false) × (is_below other path ≡ false)) (command.outputs ++ outputs)
 
--- where a command is read as one that compiles, each output that its words name is such
+-- each output that its words name is such
 abbrev pub HasSafeOutputs : Command → List (List ℕ) → Reading → Type 0
 HasSafeOutputs command inputs (Compile source quote_dirs dirs forced sysroots outputs is_c) = AllByRecursion (IsSafeOutput command inputs outputs) outputs
-HasSafeOutputs command inputs (LocalOnly word) = Unit {0}
+HasSafeOutputs command inputs (LocalOnly word outputs) = AllByRecursion (IsSafeOutput command inputs outputs) outputs

@@ -6,7 +6,7 @@ use Rattle.std.specs.Borrow.{Bor}
 use Rattle.rx_cppflags.specs.declared.meanings.Form.{Form}
 use Rattle.rx_cppflags.specs.declared.meanings.Form.TheVariants.{Alone, Next, Joined, JoinedOrNext, JoinedWithoutEquals, Ending}
 use Rattle.rx_cppflags.specs.declared.meanings.Meaning.{Meaning}
-use Rattle.rx_cppflags.specs.declared.meanings.Meaning.TheVariants.{Refused, Nothing, CSource, CppSource, QuoteDir, Dir, SystemDir, AfterDir, Forced, Sysroot, Output, DependencyFile, Dependencies, CompileOnly}
+use Rattle.rx_cppflags.specs.declared.meanings.Meaning.TheVariants.{Refused, Nothing, CSource, CppSource, OtherSource, QuoteDir, Dir, SystemDir, AfterDir, Forced, Sysroot, Output, DependencyFile, Dependencies, CompileOnly}
 
 -- A spelling, the words that it stands for, and what they say.
 pub record Row : Type 0 where
@@ -30,7 +30,7 @@ rows =
     row (codes "-include") Next Forced ∷
     row (codes "-imacros") Next Forced ∷
     row (codes "-o") JoinedOrNext Output ∷
-    row (codes "-MF") Next DependencyFile ∷
+    row (codes "-MF") JoinedOrNext DependencyFile ∷
     row (codes "-MD") Alone Dependencies ∷
     row (codes "-MMD") Alone Dependencies ∷
     row (codes "-c") Alone CompileOnly ∷
@@ -57,6 +57,7 @@ rows =
     row (codes "-Wl,") Joined Refused ∷
     row (codes "-W") Joined Nothing ∷
     row (codes "-O") Joined Nothing ∷
+    row (codes "-gsplit-dwarf") Joined Refused ∷
     row (codes "-g") Joined Nothing ∷
     row (codes "-std=") Joined Nothing ∷
     row (codes "-stdlib=") Joined Nothing ∷
@@ -68,6 +69,22 @@ rows =
     row (codes "-fprofile") Joined Refused ∷
     row (codes "-fpch") Joined Refused ∷
     row (codes "-finclude") Joined Refused ∷
+    row (codes "-fsyntax-only") Alone Refused ∷
+    row (codes "-fbranch-probabilities") Alone Refused ∷
+    row (codes "-fauto-profile") Joined Refused ∷
+    row (codes "-fcreate-profile") Alone Refused ∷
+    row (codes "-fcs-profile") Joined Refused ∷
+    row (codes "-ftest-coverage") Alone Refused ∷
+    row (codes "-fstack-usage") Alone Refused ∷
+    row (codes "-fcallgraph-info") Joined Refused ∷
+    row (codes "-ftime-trace") Joined Refused ∷
+    row (codes "-fdump-") Joined Refused ∷
+    row (codes "-fsave-optimization-record") Joined Refused ∷
+    row (codes "-fcompare-debug") Joined Refused ∷
+    row (codes "-fproc-stat-report") Joined Refused ∷
+    row (codes "-fhelp") Joined Refused ∷
+    row (codes "-fversion") Alone Refused ∷
+    row (codes "-ftarget-help") Alone Refused ∷
     row (codes "-f") JoinedWithoutEquals Nothing ∷
     row (codes "-fdebug-prefix-map=") Joined Nothing ∷
     row (codes "-ffile-prefix-map=") Joined Nothing ∷
@@ -81,11 +98,21 @@ rows =
     row (codes "-ftemplate-depth=") Joined Nothing ∷
     row (codes "-ffp-contract=") Joined Nothing ∷
     row (codes "-fsanitize=") Joined Nothing ∷
+    row (codes "@") Joined Refused ∷
     row (codes ".c") Ending CSource ∷
     row (codes ".cc") Ending CppSource ∷
     row (codes ".cpp") Ending CppSource ∷
     row (codes ".cxx") Ending CppSource ∷
     row (codes ".C") Ending CppSource ∷
+    row (codes ".cp") Ending OtherSource ∷
+    row (codes ".c++") Ending OtherSource ∷
+    row (codes ".CPP") Ending OtherSource ∷
+    row (codes ".m") Ending OtherSource ∷
+    row (codes ".mm") Ending OtherSource ∷
+    row (codes ".i") Ending OtherSource ∷
+    row (codes ".ii") Ending OtherSource ∷
+    row (codes ".s") Ending OtherSource ∷
+    row (codes ".S") Ending OtherSource ∷
     []
 
 -- ---- which row reads a word

@@ -126,6 +126,6 @@ fn is_in_table(has_file: bool, outputs: &[RelPath], piece: &Piece) -> bool
     } else if piece.meaning.is(Meaning::Dependencies) {
         has_file
     } else {
-        !piece.meaning.is(Meaning::Refused)
+        !(piece.meaning.is(Meaning::Refused) || piece.meaning.is(Meaning::OtherSource))
     }
 }

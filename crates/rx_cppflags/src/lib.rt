@@ -2,7 +2,9 @@
 //! in, forced files and outputs. Only words are read here: no file is looked at.
 #![tactic(auto)]
 
+mod endings;
 mod found;
+mod local_outputs;
 mod meanings;
 mod pieces;
 mod places;

@@ -28,6 +28,9 @@ pub(crate) enum Meaning {
     CSource,
     /// A source in C++.
     CppSource,
+    /// A source in another language, or one whose includes are known no more. The word isn't a
+    /// compile word.
+    OtherSource,
     /// A directory for quoted names alone.
     QuoteDir,
     /// A directory for quoted and angled names.
@@ -52,7 +55,7 @@ pub(crate) enum Meaning {
 
 impl Meaning {
     ghost use Rattle.std.specs.Prelude.{◌≡◌};
-    ghost use Rattle.rx_cppflags.specs.Meanings.{same, names_output, names_path};
+    ghost use Rattle.rx_cppflags.specs.Meanings.{same, names_output, names_path, names_source};
 
     /// Whether it is this one.
     pub(crate) fn is(self, other: Meaning) -> bool
@@ -74,7 +77,18 @@ impl Meaning {
     {
         !matches!(
             self,
-            Meaning::Refused | Meaning::Nothing | Meaning::Dependencies | Meaning::CompileOnly
+            Meaning::Refused
+                | Meaning::Nothing
+                | Meaning::OtherSource
+                | Meaning::Dependencies
+                | Meaning::CompileOnly
         )
+    }
+
+    /// Whether the value is a source, of whatever language.
+    pub(crate) fn names_source(self) -> bool
+        ensures { result ≡ names_source self }
+    {
+        self.is(Meaning::CSource) || self.is(Meaning::CppSource) || self.is(Meaning::OtherSource)
     }
 }

@@ -4,11 +4,13 @@
 ghost use Rattle.std.specs.Prelude.{◌≡◌, ◌++◌, IfOk, drop, option_map};
 ghost use Rattle.rx_base.specs.SortedPaths.{AreSorted};
 ghost use Rattle.rx_cppflags.specs.Found.{outside_of, sources_of};
+ghost use Rattle.rx_cppflags.specs.LocalOutputs.{local_outputs};
 ghost use Rattle.rx_cppflags.specs.Readings.{HasSafeOutputs, compile_from, compile_of, first_word, only_path, reading_from, reading_of};
 
 use crate::found::{
     first_outside, has_meaning, has_meaning_once, outputs_of, paths_of, sources_of, texts_of,
 };
+use crate::local_outputs::local_outputs;
 use crate::meanings::Meaning;
 use crate::pieces::{Piece, Site, cut};
 use crate::searches::{are_sorted, copy_paths};
@@ -41,6 +43,11 @@ pub enum Reading {
     /// The command is more than that, by this word or this name of an environment variable.
     LocalOnly {
         word: Text,
+        /// What the words name as outputs as far as they are understood, sorted by bytes, each once:
+        /// each `-o` and `-MF`; without `-o`, where there is `-c`, each source's own object; and without
+        /// `-MF`, where there is `-MD` or `-MMD`, each object's own file of dependencies. One that isn't
+        /// below the working directory, or is in the way of another or of a declared input, is left out.
+        outputs: Items<RelPath>,
     },
 }
 
@@ -91,7 +98,7 @@ fn read_sorted(alloc: Global, command: &Command, inputs: &[RelPath]) -> Result<R
         arguments(command.words.as_slice()),
         &mut pieces,
     )?;
-    read_pieces(alloc, command, &pieces)
+    read_pieces(alloc, command, inputs, &pieces)
 }
 
 /// The words behind the compiler.
@@ -105,12 +112,18 @@ fn arguments(words: &[Text]) -> &[Text]
 }
 
 /// The reading of a command whose words say this.
-fn read_pieces(alloc: Global, command: &Command, pieces: &[Piece]) -> Result<Reading, NoMemory>
-    ensures { IfOk result (λ reading. reading ≡ reading_from command.now pieces.now) }
+fn read_pieces(
+    alloc: Global,
+    command: &Command,
+    inputs: &[RelPath],
+    pieces: &[Piece],
+) -> Result<Reading, NoMemory>
+    requires { AreSorted inputs.now }
+    ensures { IfOk result (λ reading. reading ≡ reading_from command.now inputs.now pieces.now) }
 {
     match outside_of(alloc, &command.outputs, pieces)? {
-        Some(word) => Ok(Reading::LocalOnly { word }),
-        None => count(alloc, command, pieces),
+        Some(word) => local_only(alloc, command, inputs, pieces, word.as_str()),
+        None => count(alloc, command, inputs, pieces),
     }
 }
 
@@ -132,18 +145,26 @@ fn outside_of(
 }
 
 /// The reading of compile words.
-fn count(alloc: Global, command: &Command, pieces: &[Piece]) -> Result<Reading, NoMemory>
+fn count(
+    alloc: Global,
+    command: &Command,
+    inputs: &[RelPath],
+    pieces: &[Piece],
+) -> Result<Reading, NoMemory>
+    requires { AreSorted inputs.now }
     ensures { IfOk result (λ reading. reading
-        ≡ compile_from command.now pieces.now (only_path (sources_of pieces.now))) }
+        ≡ compile_from command.now (local_outputs command.now inputs.now pieces.now)
+        pieces.now (only_path (sources_of pieces.now))) }
 {
+    let compiler = first_word(command.words.as_slice());
     let Some(source) = only_path(sources_of(alloc, pieces)?) else {
-        return local_only(alloc, first_word(command.words.as_slice()));
+        return local_only(alloc, command, inputs, pieces, compiler);
     };
     if !has_meaning(pieces, Meaning::CompileOnly) || !has_meaning_once(pieces, Meaning::Output) {
-        return local_only(alloc, first_word(command.words.as_slice()));
+        return local_only(alloc, command, inputs, pieces, compiler);
     }
     match first_variable(command.environment.as_slice()) {
-        Some(name) => local_only(alloc, name.as_str()),
+        Some(name) => local_only(alloc, command, inputs, pieces, name.as_str()),
         None => compile(alloc, pieces, source),
     }
 }
@@ -165,11 +186,21 @@ fn compile(alloc: Global, pieces: &[Piece], source: RelPath) -> Result<Reading, 
     })
 }
 
-fn local_only(alloc: Global, word: &str) -> Result<Reading, NoMemory>
-    ensures { IfOk result (λ reading. reading ≡ Reading.LocalOnly word.now) }
+/// The reading of a command that only the machine itself can run, by this word or name.
+fn local_only(
+    alloc: Global,
+    command: &Command,
+    inputs: &[RelPath],
+    pieces: &[Piece],
+    word: &str,
+) -> Result<Reading, NoMemory>
+    requires { AreSorted inputs.now }
+    ensures { IfOk result (λ reading. reading
+        ≡ Reading.LocalOnly word.now (local_outputs command.now inputs.now pieces.now)) }
 {
     Ok(Reading::LocalOnly {
         word: Text::copy_of(alloc, word)?,
+        outputs: local_outputs(alloc, command, inputs, pieces)?,
     })
 }
 
