@@ -48,7 +48,7 @@ Sights = List (List ℕ × Look)
 word-alone : (command : Command) (o : Option Reading) (word : List ℕ) (search : Search) → word_for o ≡ Some word → search_for command o ≡ Some search → ⊥
 word-alone command None word search e s = absurd (cc e)
 word-alone command (Some (reading.Compile source quote_dirs dirs forced sysroots outputs is_c)) word search e s = absurd (cc e)
-word-alone command (Some (reading.LocalOnly text)) word search e s = absurd (cc s)
+word-alone command (Some (reading.LocalOnly text outputs)) word search e s = absurd (cc s)
 
 tool-says : (o : Option Reading) (word : List ℕ) → word_for o ≡ Some word → o ≡ None → ⊥
 tool-says o word e n = absurd (cc (sym e ∙ ap word_for n))
@@ -87,8 +87,8 @@ cause-asked asked meaning hard cause k e = e ∙ ap (λ (s : WordMeaning). cause
 
 -- ---- the steps
 
-pub allows-meaning : (asked : Asked) (meaning : WordMeaning) → meaning ≡ meaning_asked asked → ((text : List ℕ) → meaning.word ≡ Some text → local_plan asked.strategy ≢ None) → AllowsWords asked
-allows-meaning asked meaning e h = subst (λ (s : WordMeaning). (text : List ℕ) → s.word ≡ Some text → local_plan asked.strategy ≢ None) e h
+pub allows-meaning : (asked : Asked) (meaning : WordMeaning) → meaning ≡ meaning_asked asked → ((text : List ℕ) → meaning.word ≡ Some text → local_plan asked.choice ≢ None) → AllowsWords asked
+allows-meaning asked meaning e h = subst (λ (s : WordMeaning). (text : List ℕ) → s.word ≡ Some text → local_plan asked.choice ≢ None) e h
 
 fits-scan : (scene : Scene) (asked : Asked) (scanned : Scanned) → AllowsWords asked → IsScanOf scene asked.inputs (meaning_asked asked) scanned → FitsScan scene asked
 fits-scan scene asked scanned allows h = record { inputs = record { words = allows; there = h.there }; scan = (scanned.files, h.list, h.fits) }
@@ -102,7 +102,7 @@ least-once P None (Some path) other h k e f = h path k.0
 -- what nothing keeps here isn't kept by anything
 kept-once : (scene : Scene) (asked : Asked) (other : LocalCause) (o : Option Reading) → reading_asked asked ≡ o → IsKept scene asked None → IsKept scene asked (Some other) → ⊥
 kept-once scene asked other None e h k = absurd (cc (k.of_tool e))
-kept-once scene asked other (Some (reading.LocalOnly word)) e h k = absurd (cc (h.by_word word (ap word_for e)))
+kept-once scene asked other (Some (reading.LocalOnly word outputs)) e h k = absurd (cc (h.by_word word (ap word_for e)))
 kept-once scene asked other (Some (reading.Compile source quote_dirs dirs forced sysroots outputs is_c)) e h k =
     let search : Search = record { working_directory = asked.command.working_directory; source = source; quote_dirs = quote_dirs; dirs = dirs; forced = forced; is_c = is_c } in
     let sought : search_asked asked ≡ Some search = ap (search_for asked.command) e in
@@ -110,11 +110,11 @@ kept-once scene asked other (Some (reading.Compile source quote_dirs dirs forced
     let b = k.by_path search sought in
     least-once (IsHard scene search) a.0 b.0 other a.1 b.1 a.2 b.2
 
-any-plan : (scene : Scene) (asked : Asked) (cause : Option LocalCause) → IsKept scene asked cause → plan_of asked.strategy cause ≢ None → (other : LocalCause) → IsKept scene asked (Some other) → plan_of asked.strategy (Some other) ≢ None
+any-plan : (scene : Scene) (asked : Asked) (cause : Option LocalCause) → IsKept scene asked cause → plan_of asked.choice cause ≢ None → (other : LocalCause) → IsKept scene asked (Some other) → plan_of asked.choice (Some other) ≢ None
 any-plan scene asked (Some cause) h planned other k = planned
 any-plan scene asked None h planned other k = absurd (kept-once scene asked other (reading_asked asked) refl h k)
 
-has-plan : (scene : Scene) (asked : Asked) (scanned : Scanned) → AllowsWords asked → IsScanOf scene asked.inputs (meaning_asked asked) scanned → plan_of asked.strategy (cause_of (meaning_asked asked).word scanned.hard) ≢ None → HasPlan scene asked
+has-plan : (scene : Scene) (asked : Asked) (scanned : Scanned) → AllowsWords asked → IsScanOf scene asked.inputs (meaning_asked asked) scanned → plan_of asked.choice (cause_of (meaning_asked asked).word scanned.hard) ≢ None → HasPlan scene asked
 has-plan scene asked scanned allows h planned = record {
   fits = fits-scan scene asked scanned allows h;
   planned = any-plan scene asked (cause_of (meaning_asked asked).word scanned.hard) (kept-so scene asked scanned h) planned;
@@ -138,7 +138,7 @@ path-of (Some text) hard path e = absurd (cc e)
 path-of None None path e = absurd (cc e)
 path-of None (Some found) path e = cc e
 
-kept-after : (asked : Asked) (scanned : Scanned) (kept : LocalCause) (st : Stretch) → AllowsWords asked → cause_of (meaning_asked asked).word scanned.hard ≡ Some kept → plan_of asked.strategy (Some kept) ≡ None
+kept-after : (asked : Asked) (scanned : Scanned) (kept : LocalCause) (st : Stretch) → AllowsWords asked → cause_of (meaning_asked asked).word scanned.hard ≡ Some kept → plan_of asked.choice (Some kept) ≡ None
     → IfSome scanned.hard (IsKnownAt st.new) → Shown st (λ scene. IsScanOf scene asked.inputs (meaning_asked asked) scanned) → IsKeptAfter asked kept st
 kept-after asked scanned (local.Word word) st allows e none known fact = absurd (allows word (word-of (meaning_asked asked).word scanned.hard word e) none)
 kept-after asked scanned (local.Path path) st allows e none known fact =
@@ -146,12 +146,12 @@ kept-after asked scanned (local.Path path) st allows e none known fact =
 
 -- ---- refusals by cases
 
-word-refused : (asked : Asked) (before now : ℕ) (fault : GatherFault) → (text : List ℕ) × (word_for (reading_asked asked) ≡ Some text) × (fault ≡ NotRemotable (local.Word text)) × (local_plan asked.strategy ≡ None)
+word-refused : (asked : Asked) (before now : ℕ) (fault : GatherFault) → (text : List ℕ) × (word_for (reading_asked asked) ≡ Some text) × (fault ≡ NotRemotable (local.Word text)) × (local_plan asked.choice ≡ None)
     → BlamesGather asked fault (stretch [] [] before now [] [])
 word-refused asked before now fault h =
     subst (λ f. BlamesGather asked f (stretch [] [] before now [] [])) (sym h.2) (h.3, notes-none [], (refl, refl), λ scene shows. kept-word scene asked h.0 h.1)
 
-of-word : (asked : Asked) (before now : ℕ) (fault : GatherFault) → (fault ≢ NoMemory → (text : List ℕ) × (word_for (reading_asked asked) ≡ Some text) × (fault ≡ NotRemotable (local.Word text)) × (local_plan asked.strategy ≡ None))
+of-word : (asked : Asked) (before now : ℕ) (fault : GatherFault) → (fault ≢ NoMemory → (text : List ℕ) × (word_for (reading_asked asked) ≡ Some text) × (fault ≡ NotRemotable (local.Word text)) × (local_plan asked.choice ≡ None))
     → BlamesGather asked fault (stretch [] [] before now [] [])
 of-word asked before now NoMemory h = tt
 of-word asked before now (InputMissing path) h = word-refused asked before now (InputMissing path) (h (λ e. cc e))
@@ -189,7 +189,7 @@ changed-later mid xs ys change n (b, inr u) =
 -- the tree's refusals, after a scan
 of-tree : (asked : Asked) (scanned : Scanned) (mid new : Sights) (fa fb fc : ℕ) (fault : GatherFault) (xs ys : List Given) (ls ms : List Listing) → AllowsWords asked → fa ≤ fb → Notes [] mid xs → IfSome scanned.hard (IsKnownAt mid)
     → ((scene : Scene) → Shows scene [] xs ls → IsScanOf scene asked.inputs (meaning_asked asked) scanned)
-    → BlamesTree (command_asked asked) scanned.files (cause_of (meaning_asked asked).word scanned.hard) asked.strategy fault (stretch mid new fb fc ys ms)
+    → BlamesTree (command_asked asked) scanned.files (cause_of (meaning_asked asked).word scanned.hard) asked.choice fault (stretch mid new fb fc ys ms)
     → BlamesGather asked fault (stretch [] new fa fc (xs ++ ys) (ls ++ ms))
 of-tree asked scanned mid new fa fb fc (InputMissing path) xs ys ls ms allows le n known fact h = absurd h
 of-tree asked scanned mid new fa fb fc (SourceFault path) xs ys ls ms allows le n known fact h = omega (arith, le, h)
@@ -206,7 +206,7 @@ of-tree asked scanned mid new fa fb fc (TooLarge limit m path) xs ys ls ms allow
 of-tree asked scanned mid new fa fb fc (InputChanged change) xs ys ls ms allows le n known fact h = changed-later mid xs ys change n h
 of-tree asked scanned mid new fa fb fc (NotRemotable kept) xs ys ls ms allows le n known fact h =
     let there : (scene : Scene) → Shows scene [] (xs ++ ys) (ls ++ ms) → IsScanOf scene asked.inputs (meaning_asked asked) scanned = λ scene shows. fact scene (shows-first scene [] xs ys ls ms shows) in
-    let none : plan_of asked.strategy (Some kept) ≡ None = ap (plan_of asked.strategy) (sym h.0) ∙ h.1 in (
+    let none : plan_of asked.choice (Some kept) ≡ None = ap (plan_of asked.choice) (sym h.0) ∙ h.1 in (
       none,
       notes-join [] mid new xs ys n h.2,
       kept-after asked scanned kept (stretch [] new fa fc (xs ++ ys) (ls ++ ms)) allows h.0 none (if-known mid new ys scanned.hard h.2 known) there,
@@ -240,10 +240,10 @@ module _ {T W : Type 0} (w : world.Ghosts W) (s : sources.Ghosts T W) where
   pub memory-at_once : (a : T) (asked : Asked) → Gathers w s a a asked (Err NoMemory)
   memory-at_once a asked = gathers-fault a a [] asked NoMemory (fails-one w s a a [] [] [] (BlamesGather asked NoMemory) (gives-none w s a) tt)
 
-  pub refused-meaning : (a : T) (asked : Asked) (meaning : WordMeaning) (fault : GatherFault) → meaning ≡ meaning_asked asked → (fault ≢ NoMemory → (text : List ℕ) × (meaning.word ≡ Some text) × (fault ≡ NotRemotable (local.Word text)) × (local_plan asked.strategy ≡ None))
+  pub refused-meaning : (a : T) (asked : Asked) (meaning : WordMeaning) (fault : GatherFault) → meaning ≡ meaning_asked asked → (fault ≢ NoMemory → (text : List ℕ) × (meaning.word ≡ Some text) × (fault ≡ NotRemotable (local.Word text)) × (local_plan asked.choice ≡ None))
       → Gathers w s a a asked (Err fault)
   refused-meaning a asked meaning fault e h =
-      let meant = subst (λ (m : WordMeaning). fault ≢ NoMemory → (text : List ℕ) × (m.word ≡ Some text) × (fault ≡ NotRemotable (local.Word text)) × (local_plan asked.strategy ≡ None)) e h in
+      let meant = subst (λ (m : WordMeaning). fault ≢ NoMemory → (text : List ℕ) × (m.word ≡ Some text) × (fault ≡ NotRemotable (local.Word text)) × (local_plan asked.choice ≡ None)) e h in
       gathers-fault a a [] asked fault (fails-one w s a a [] [] [] (BlamesGather asked fault) (gives-none w s a) (of-word asked (s.faults a) (s.faults a) fault meant))
 
   pub refused-scan : (a b : T) (asked : Asked) (meaning : WordMeaning) (old new : Sights) (fault : GatherFault) → AllowsWords asked → meaning ≡ meaning_asked asked → old ≡ [] → Fails w s a b old new (BlamesScan asked.inputs meaning fault) → Gathers w s a b asked (Err fault)
@@ -260,14 +260,14 @@ module _ {T W : Type 0} (w : world.Ghosts W) (s : sources.Ghosts T W) where
       (subst (λ (x : Sights). Learns w s a b x new (λ scene. IsScanOf scene asked.inputs meaning scanned)) o l)
 
   pub refused-tree : (a b c : T) (asked : Asked) (mid new : Sights) (scanned : Scanned) (command : Command) (cause : Option LocalCause) (fault : GatherFault) → AllowsWords asked → command ≡ command_asked asked → cause ≡ cause_of (meaning_asked asked).word scanned.hard
-      → IfSome scanned.hard (IsKnownAt mid) → Learns w s a b [] mid (λ scene. IsScanOf scene asked.inputs (meaning_asked asked) scanned) → Fails w s b c mid new (BlamesTree command scanned.files cause asked.strategy fault)
+      → IfSome scanned.hard (IsKnownAt mid) → Learns w s a b [] mid (λ scene. IsScanOf scene asked.inputs (meaning_asked asked) scanned) → Fails w s b c mid new (BlamesTree command scanned.files cause asked.choice fault)
       → Gathers w s a c asked (Err fault)
   refused-tree a b c asked mid new scanned command cause fault allows e k known l f =
       gathers-fault a c new asked fault
-      (fails-join w s a b c [] mid new (λ scene. IsScanOf scene asked.inputs (meaning_asked asked) scanned) (BlamesTree command scanned.files cause asked.strategy fault) (BlamesGather asked fault) l f
+      (fails-join w s a b c [] mid new (λ scene. IsScanOf scene asked.inputs (meaning_asked asked) scanned) (BlamesTree command scanned.files cause asked.choice fault) (BlamesGather asked fault) l f
       (λ xs ys ls ms le n fact h. of-tree asked scanned mid new (s.faults a) (s.faults b) (s.faults c) fault xs ys ls ms allows le n known fact
-      (subst (λ (o : Option LocalCause). BlamesTree (command_asked asked) scanned.files o asked.strategy fault (stretch mid new (s.faults b) (s.faults c) ys ms)) k
-      (subst (λ (x : Command). BlamesTree x scanned.files cause asked.strategy fault (stretch mid new (s.faults b) (s.faults c) ys ms)) e h))))
+      (subst (λ (o : Option LocalCause). BlamesTree (command_asked asked) scanned.files o asked.choice fault (stretch mid new (s.faults b) (s.faults c) ys ms)) k
+      (subst (λ (x : Command). BlamesTree x scanned.files cause asked.choice fault (stretch mid new (s.faults b) (s.faults c) ys ms)) e h))))
 
   pub refused-sight : (a b c : T) (asked : Asked) (mid : Sights) (P : Scene → Type 0) (fault : SightFault) → Learns w s a b [] mid P → Ends w s b c mid fault → Gathers w s a c asked (Err (fault_of fault))
   refused-sight a b c asked mid P fault l e =

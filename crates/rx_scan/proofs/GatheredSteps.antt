@@ -104,7 +104,7 @@ dirs-so scene asked scanned dirs h d path = (
 
 pub gathered-so : (scene : Scene) (asked : Asked) (scanned : Scanned) (files : List SeenFile) (gathered : Gathered) → IsScanOf scene asked.inputs (meaning_asked asked) scanned
     → IsFilesIf scene (command_asked asked).outputs scanned.files (is_some (cause_of (meaning_asked asked).word scanned.hard)) files
-    → plan_of asked.strategy (cause_of (meaning_asked asked).word scanned.hard) ≡ Some gathered.plan → HasDirs (command_asked asked) scanned.dirs gathered.dirs → map seen_file gathered.files ≡ files → IsGathered scene asked gathered
+    → plan_of asked.choice (cause_of (meaning_asked asked).word scanned.hard) ≡ Some gathered.plan → HasDirs (command_asked asked) scanned.dirs gathered.dirs → map seen_file gathered.files ≡ files → IsGathered scene asked gathered
 gathered-so scene asked scanned files gathered h f p d same =
     let cause = cause_of (meaning_asked asked).word scanned.hard in
     let paths : inputs_of gathered.files ≡ paths_of files = same-paths gathered.files files same in
@@ -237,14 +237,14 @@ orderly-so asked inputs outputs beside tree gathered e w safe t ds same view pla
 may-keep : (command : Command) (read : Option Reading) (hard : Option (List ℕ)) → (search_for command read ≡ None → hard ≡ None) → MayKeep read (cause_of (word_for read) hard)
 may-keep command None hard h = ap (option_map (λ path. local.Path path)) (h refl)
 may-keep command (Some (reading.Compile source quote_dirs dirs forced sysroots outputs is_c)) hard h = (hard, refl)
-may-keep command (Some (reading.LocalOnly word)) hard h = refl
+may-keep command (Some (reading.LocalOnly word outputs)) hard h = refl
 
 pub planned-so : (asked : Asked) (meaning : WordMeaning) (hard : Option (List ℕ)) (cause : Option LocalCause) (plan : Plan) → meaning ≡ meaning_asked asked → cause ≡ cause_of (meaning_asked asked).word hard → (meaning.search ≡ None → hard ≡ None)
-    → plan_of asked.strategy cause ≡ Some plan → IsPlanned asked plan
+    → plan_of asked.choice cause ≡ Some plan → IsPlanned asked plan
 planned-so asked meaning hard cause plan e k unsought p = (
   cause_of (meaning_asked asked).word hard,
   may-keep asked.command (reading_asked asked) hard (λ none. unsought (ap (λ (s : WordMeaning). s.search) e ∙ none)),
-  subst (λ (o : Option LocalCause). plan_of asked.strategy o ≡ Some plan) k p,
+  subst (λ (o : Option LocalCause). plan_of asked.choice o ≡ Some plan) k p,
 )
 
 -- ---- over the steps
@@ -263,14 +263,14 @@ module _ {T W : Type 0} (w : world.Ghosts W) (s : sources.Ghosts T W) where
 
   pub all-learned : (a b c : T) (asked : Asked) (mid new : Sights) (scanned : Scanned) (command : Command) (cause : Option LocalCause) (files : List SeenFile) (gathered : Gathered) → command ≡ command_asked asked → cause ≡ cause_of (meaning_asked asked).word scanned.hard
       → Learns w s a b [] mid (λ scene. IsScannedTree scene asked scanned command cause files) → Scans w s b c mid new Always
-      → plan_of asked.strategy cause ≡ Some gathered.plan → HasDirs command scanned.dirs gathered.dirs → map seen_file gathered.files ≡ files
+      → plan_of asked.choice cause ≡ Some gathered.plan → HasDirs command scanned.dirs gathered.dirs → map seen_file gathered.files ≡ files
       → Learns w s a c [] new (λ scene. IsGathered scene asked gathered)
   all-learned a b c asked mid new scanned command cause files gathered e k l m p d same =
       learns-join w s a b c [] mid new (λ scene. IsScannedTree scene asked scanned command cause files) Always (λ scene. IsGathered scene asked gathered) l
       (learns-scans w s b c mid new Always m)
       (λ scene h q. gathered-so scene asked scanned files gathered h.scans
       (subst (λ (o : Option LocalCause). IsFilesIf scene (command_asked asked).outputs scanned.files (is_some o) files) k (subst (λ (x : Command). IsFilesIf scene x.outputs scanned.files (is_some cause) files) e h.files_are))
-      (subst (λ (o : Option LocalCause). plan_of asked.strategy o ≡ Some gathered.plan) k p) (subst (λ (x : Command). HasDirs x scanned.dirs gathered.dirs) e d) same)
+      (subst (λ (o : Option LocalCause). plan_of asked.choice o ≡ Some gathered.plan) k p) (subst (λ (x : Command). HasDirs x scanned.dirs gathered.dirs) e d) same)
 
   -- what was learned, and then the digests
   pub learns-scanned : (a b c : T) (old mid new : Sights) (P : Scene → Type 0) (Q : Scene → Type 0) → Learns w s a b old mid P → Scans w s b c mid new Q → Learns w s a c old new P

@@ -9,7 +9,7 @@ use Rattle.rx_base.specs.Paths.{is_below}
 use Rattle.rx_base.specs.SortedPaths.{AreSorted, first_at_or_above}
 use Rattle.rx_world.specs.declared.attempts.Plan.{Plan}
 use Rattle.rx_world.specs.declared.commands.Command.{Command}
-use Rattle.rx_world.specs.declared.commands.Strategy.{Strategy}
+use Rattle.rx_scan.specs.declared.plans.Choice.{Choice}
 use Rattle.rx_world.specs.declared.looks.Look.{Look}
 use Rattle.rx_world.specs.declared.looks.Look.TheVariants.{Absent, Dir, File}
 use Rattle.rx_world.specs.declared.looks.ChangedInput.{ChangedInput}
@@ -121,34 +121,34 @@ change-is old new answers file change n seen b e =
 there-is : (o : Option Plan) (plan : Plan) → o ≡ Some plan → o ≢ None
 there-is o plan e n = absurd (cc (sym n ∙ e))
 
-of-way : (old new : Sights) (command : Command) (scanned files : List SeenFile) (paths dirs : List (List ℕ)) (cause : Option LocalCause) (strategy : Strategy) (before now : ℕ) (fault : GatherFault) (xs : List Given) (ls : List Listing) → Notes old new xs
-    → ((scene : Scene) → Shows scene old xs ls → IsFilesIf scene command.outputs scanned (is_some cause) files) → paths ≡ paths_of files → AreSorted (paths_of files) → All (IsSeen new) files → All (IsDirSeen new) dirs → plan_of strategy cause ≢ None
-    → BlamesWay command files paths dirs fault → BlamesTree command scanned cause strategy fault (stretch old new before now xs ls)
-of-way old new command scanned files paths dirs cause strategy before now (InputChanged change) xs ls n fact is sorted fs ds planned h =
+of-way : (old new : Sights) (command : Command) (scanned files : List SeenFile) (paths dirs : List (List ℕ)) (cause : Option LocalCause) (choice : Choice) (before now : ℕ) (fault : GatherFault) (xs : List Given) (ls : List Listing) → Notes old new xs
+    → ((scene : Scene) → Shows scene old xs ls → IsFilesIf scene command.outputs scanned (is_some cause) files) → paths ≡ paths_of files → AreSorted (paths_of files) → All (IsSeen new) files → All (IsDirSeen new) dirs → plan_of choice cause ≢ None
+    → BlamesWay command files paths dirs fault → BlamesTree command scanned cause choice fault (stretch old new before now xs ls)
+of-way old new command scanned files paths dirs cause choice before now (InputChanged change) xs ls n fact is sorted fs ds planned h =
     let p = path-there files h.0 h.1 h.3 in
     let seen : IsSeen new h.1 = All-among (IsSeen new) h.1 files (recursion_from_All (IsSeen new) files fs) p.1 in
     change-is old new xs h.1 change n seen (upper-below new files paths dirs h.0 h.1 is fs ds h.3 (or_cases (upper_among paths paths) (over_among paths dirs) h.0 h.2)) h.4
-of-way old new command scanned files paths dirs cause strategy before now (Blocked path) xs ls n fact is sorted fs ds planned h =
+of-way old new command scanned files paths dirs cause choice before now (Blocked path) xs ls n fact is sorted fs ds planned h =
     let blocks = subst (λ ps. blocked command ps ≡ Some path) is h.2 in
     (planned, n, (files, sorted, fs, blocks), λ scene shows. (files, fact scene shows, sorted, blocks))
-of-way old new command scanned files paths dirs cause strategy before now (InputMissing path) xs ls n fact is sorted fs ds planned h = absurd h
-of-way old new command scanned files paths dirs cause strategy before now (SourceFault path) xs ls n fact is sorted fs ds planned h = absurd h
-of-way old new command scanned files paths dirs cause strategy before now (TooLarge limit m path) xs ls n fact is sorted fs ds planned h = absurd h
-of-way old new command scanned files paths dirs cause strategy before now (NotRemotable kept) xs ls n fact is sorted fs ds planned h = absurd h
-of-way old new command scanned files paths dirs cause strategy before now NoMemory xs ls n fact is sorted fs ds planned h = tt
+of-way old new command scanned files paths dirs cause choice before now (InputMissing path) xs ls n fact is sorted fs ds planned h = absurd h
+of-way old new command scanned files paths dirs cause choice before now (SourceFault path) xs ls n fact is sorted fs ds planned h = absurd h
+of-way old new command scanned files paths dirs cause choice before now (TooLarge limit m path) xs ls n fact is sorted fs ds planned h = absurd h
+of-way old new command scanned files paths dirs cause choice before now (NotRemotable kept) xs ls n fact is sorted fs ds planned h = absurd h
+of-way old new command scanned files paths dirs cause choice before now NoMemory xs ls n fact is sorted fs ds planned h = tt
 
-of-whole : (command : Command) (scanned : List SeenFile) (cause : Option LocalCause) (strategy : Strategy) (fault : GatherFault) (st : Stretch) → is_some cause ≡ true → plan_of strategy cause ≢ None → BlamesWhole fault st → BlamesTree command scanned cause strategy fault st
-of-whole command scanned cause strategy (TooLarge limit n path) st e planned h = (e, planned, h.0, h.1, h.2)
-of-whole command scanned cause strategy (SourceFault path) st e planned h = h
-of-whole command scanned cause strategy (InputChanged change) st e planned h = (h.0, inl h.1)
-of-whole command scanned cause strategy (InputMissing path) st e planned h = absurd h
-of-whole command scanned cause strategy (NotRemotable kept) st e planned h = absurd h
-of-whole command scanned cause strategy (Blocked path) st e planned h = absurd h
-of-whole command scanned cause strategy NoMemory st e planned h = tt
+of-whole : (command : Command) (scanned : List SeenFile) (cause : Option LocalCause) (choice : Choice) (fault : GatherFault) (st : Stretch) → is_some cause ≡ true → plan_of choice cause ≢ None → BlamesWhole fault st → BlamesTree command scanned cause choice fault st
+of-whole command scanned cause choice (TooLarge limit n path) st e planned h = (e, planned, h.0, h.1, h.2)
+of-whole command scanned cause choice (SourceFault path) st e planned h = h
+of-whole command scanned cause choice (InputChanged change) st e planned h = (h.0, inl h.1)
+of-whole command scanned cause choice (InputMissing path) st e planned h = absurd h
+of-whole command scanned cause choice (NotRemotable kept) st e planned h = absurd h
+of-whole command scanned cause choice (Blocked path) st e planned h = absurd h
+of-whole command scanned cause choice NoMemory st e planned h = tt
 
-of-whole_if : (b : Bool) (command : Command) (scanned : List SeenFile) (cause : Option LocalCause) (strategy : Strategy) (fault : GatherFault) (st : Stretch) → is_some cause ≡ b → plan_of strategy cause ≢ None → BlamesWholeIf b fault st → BlamesTree command scanned cause strategy fault st
-of-whole_if true command scanned cause strategy fault st e planned h = of-whole command scanned cause strategy fault st e planned h
-of-whole_if false command scanned cause strategy fault st e planned h = absurd h
+of-whole_if : (b : Bool) (command : Command) (scanned : List SeenFile) (cause : Option LocalCause) (choice : Choice) (fault : GatherFault) (st : Stretch) → is_some cause ≡ b → plan_of choice cause ≢ None → BlamesWholeIf b fault st → BlamesTree command scanned cause choice fault st
+of-whole_if true command scanned cause choice fault st e planned h = of-whole command scanned cause choice fault st e planned h
+of-whole_if false command scanned cause choice fault st e planned h = absurd h
 
 module _ {T W : Type 0} (w : world.Ghosts W) (s : sources.Ghosts T W) where
   -- ---- the files
@@ -167,33 +167,33 @@ module _ {T W : Type 0} (w : world.Ghosts W) (s : sources.Ghosts T W) where
 
   -- ---- the tree
 
-  pub plan-refused : (a : T) (old : Sights) (command : Command) (scanned : List SeenFile) (cause : Option LocalCause) (strategy : Strategy) (fault : GatherFault) → ((kept : LocalCause) × (fault ≡ NotRemotable kept) × (cause ≡ Some kept) × (plan_of strategy cause ≡ None))
-      → Fails w s a a old old (BlamesTree command scanned cause strategy fault)
-  plan-refused a old command scanned cause strategy fault h =
-      fails-one w s a a old old [] (BlamesTree command scanned cause strategy fault) (gives-none w s a)
-      (subst (λ f. BlamesTree command scanned cause strategy f (stretch old old (s.faults a) (s.faults a) [] [])) (sym h.1) (h.2, h.3, notes-none old))
+  pub plan-refused : (a : T) (old : Sights) (command : Command) (scanned : List SeenFile) (cause : Option LocalCause) (choice : Choice) (fault : GatherFault) → ((kept : LocalCause) × (fault ≡ NotRemotable kept) × (cause ≡ Some kept) × (plan_of choice cause ≡ None))
+      → Fails w s a a old old (BlamesTree command scanned cause choice fault)
+  plan-refused a old command scanned cause choice fault h =
+      fails-one w s a a old old [] (BlamesTree command scanned cause choice fault) (gives-none w s a)
+      (subst (λ f. BlamesTree command scanned cause choice f (stretch old old (s.faults a) (s.faults a) [] [])) (sym h.1) (h.2, h.3, notes-none old))
 
-  pub tree_files-refused : (a b : T) (old new : Sights) (command : Command) (scanned : List SeenFile) (cause : Option LocalCause) (strategy : Strategy) (fault : GatherFault) (kept : Bool) (plan : Plan) → kept ≡ is_some cause → plan_of strategy cause ≡ Some plan → Fails w s a b old new (BlamesWholeIf kept fault)
-      → Fails w s a b old new (BlamesTree command scanned cause strategy fault)
-  tree_files-refused a b old new command scanned cause strategy fault kept plan e p f =
-      fails-so w s a b old new (BlamesWholeIf kept fault) (BlamesTree command scanned cause strategy fault) f (λ st h. of-whole_if kept command scanned cause strategy fault st (sym e) (there-is (plan_of strategy cause) plan p) h)
+  pub tree_files-refused : (a b : T) (old new : Sights) (command : Command) (scanned : List SeenFile) (cause : Option LocalCause) (choice : Choice) (fault : GatherFault) (kept : Bool) (plan : Plan) → kept ≡ is_some cause → plan_of choice cause ≡ Some plan → Fails w s a b old new (BlamesWholeIf kept fault)
+      → Fails w s a b old new (BlamesTree command scanned cause choice fault)
+  tree_files-refused a b old new command scanned cause choice fault kept plan e p f =
+      fails-so w s a b old new (BlamesWholeIf kept fault) (BlamesTree command scanned cause choice fault) f (λ st h. of-whole_if kept command scanned cause choice fault st (sym e) (there-is (plan_of choice cause) plan p) h)
 
   pub tree_files-are : (a b : T) (old new : Sights) (command : Command) (scanned files : List SeenFile) (cause : Option LocalCause) (kept : Bool) → kept ≡ is_some cause → Learns w s a b old new (λ scene. IsFilesIf scene command.outputs scanned kept files)
       → Learns w s a b old new (λ scene. IsFilesIf scene command.outputs scanned (is_some cause) files)
   tree_files-are a b old new command scanned files cause kept e l =
       learns-so w s a b old new (λ scene. IsFilesIf scene command.outputs scanned kept files) (λ scene. IsFilesIf scene command.outputs scanned (is_some cause) files) l (λ scene h. subst (λ k. IsFilesIf scene command.outputs scanned k files) e h)
 
-  pub tree-no_memory : (a b : T) (old mid new : Sights) (P : Scene → Type 0) (command : Command) (scanned : List SeenFile) (cause : Option LocalCause) (strategy : Strategy) → Learns w s a b old mid P
-      → Fails w s a b old new (BlamesTree command scanned cause strategy NoMemory)
-  tree-no_memory a b old mid new P command scanned cause strategy l = fails-always w s a b old mid new P (BlamesTree command scanned cause strategy NoMemory) l (λ st. tt)
+  pub tree-no_memory : (a b : T) (old mid new : Sights) (P : Scene → Type 0) (command : Command) (scanned : List SeenFile) (cause : Option LocalCause) (choice : Choice) → Learns w s a b old mid P
+      → Fails w s a b old new (BlamesTree command scanned cause choice NoMemory)
+  tree-no_memory a b old mid new P command scanned cause choice l = fails-always w s a b old mid new P (BlamesTree command scanned cause choice NoMemory) l (λ st. tt)
 
   pub learned-dirs : (a b : T) (old new : Sights) (P : Scene → Type 0) (dirs : List (List ℕ)) → Learns w s a b old new P → All (IsDirSeen old) dirs → All (IsDirSeen new) dirs
   learned-dirs a b old new P dirs l h = All-weaker (IsDirSeen old) (IsDirSeen new) (λ dir e. notes-keep old new l.answers dir Dir l.notes e) dirs h
 
-  pub way-refused : (a b : T) (old new : Sights) (command : Command) (scanned files : List SeenFile) (paths dirs : List (List ℕ)) (cause : Option LocalCause) (strategy : Strategy) (plan : Plan) (fault : GatherFault) → plan_of strategy cause ≡ Some plan → paths ≡ paths_of files → AreSorted (paths_of files) → All (IsSeen new) files → All (IsDirSeen old) dirs
+  pub way-refused : (a b : T) (old new : Sights) (command : Command) (scanned files : List SeenFile) (paths dirs : List (List ℕ)) (cause : Option LocalCause) (choice : Choice) (plan : Plan) (fault : GatherFault) → plan_of choice cause ≡ Some plan → paths ≡ paths_of files → AreSorted (paths_of files) → All (IsSeen new) files → All (IsDirSeen old) dirs
       → Learns w s a b old new (λ scene. IsFilesIf scene command.outputs scanned (is_some cause) files) → BlamesWay command files paths dirs fault
-      → Fails w s a b old new (BlamesTree command scanned cause strategy fault)
-  way-refused a b old new command scanned files paths dirs cause strategy plan fault p is sorted fs ds l h =
+      → Fails w s a b old new (BlamesTree command scanned cause choice fault)
+  way-refused a b old new command scanned files paths dirs cause choice plan fault p is sorted fs ds l h =
       let later = learned-dirs a b old new (λ scene. IsFilesIf scene command.outputs scanned (is_some cause) files) dirs l ds in
-      fails-after w s a b old new (λ scene. IsFilesIf scene command.outputs scanned (is_some cause) files) (BlamesTree command scanned cause strategy fault) l
-      (λ xs ls n fact. of-way old new command scanned files paths dirs cause strategy (s.faults a) (s.faults b) fault xs ls n fact is sorted fs later (there-is (plan_of strategy cause) plan p) h)
+      fails-after w s a b old new (λ scene. IsFilesIf scene command.outputs scanned (is_some cause) files) (BlamesTree command scanned cause choice fault) l
+      (λ xs ls n fact. of-way old new command scanned files paths dirs cause choice (s.faults a) (s.faults b) fault xs ls n fact is sorted fs later (there-is (plan_of choice cause) plan p) h)

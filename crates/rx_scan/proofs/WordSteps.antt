@@ -14,7 +14,7 @@ Safe command inputs outputs = AllByRecursion (IsSafeOutput command inputs output
 
 safe-read : (command : Command) (inputs : List (List ℕ)) (read : Reading) → HasSafeOutputs command inputs read → Safe command inputs (outputs_in read)
 safe-read command inputs (reading.Compile source quote_dirs dirs forced sysroots outputs is_c) h = h
-safe-read command inputs (reading.LocalOnly word) h = tt
+safe-read command inputs (reading.LocalOnly word outputs) h = h
 
 pub safe-meaning : (command : Command) (inputs : List (List ℕ)) (read : Reading) (meaning : WordMeaning) → meaning ≡ meaning_of command (Some read) → HasSafeOutputs command inputs read → Safe command inputs meaning.outputs
 safe-meaning command inputs read meaning e h = subst (λ (s : WordMeaning). Safe command inputs s.outputs) (sym e) (safe-read command inputs read h)

@@ -7,7 +7,7 @@ use Rattle.rx_cppflags.specs.declared.readings.Reading.{Reading}
 use Rattle.rx_world.specs.declared.attempts.Plan.{Plan}
 use Rattle.rx_world.specs.declared.commands.Command.{Command}
 use Rattle.rx_world.specs.declared.commands.Kind.{Kind}
-use Rattle.rx_world.specs.declared.commands.Strategy.{Strategy}
+use Rattle.rx_scan.specs.declared.plans.Choice.{Choice}
 use Rattle.rx_world.specs.declared.looks.Look.{Look}
 use Rattle.rx_world.specs.declared.looks.Look.TheVariants.{File}
 use Rattle.rx_world.specs.declared.refusals.Limit.{Limit}
@@ -41,15 +41,15 @@ use Rattle.rx_scan.specs.Words.{outputs_for, reading_for, meaning_of, search_for
 
 -- ---- what is asked for
 
--- What is asked for: a command, its kind, its declared inputs and its strategy.
+-- What is asked for: a command, its kind, its declared inputs, and what is chosen for it.
 pub record Asked : Type 0 where
   pub command : Command
   pub kind : Kind
   pub inputs : List (List ℕ)
-  pub strategy : Strategy
+  pub choice : Choice
 
-abbrev pub asked_for : Command → Kind → List (List ℕ) → Strategy → Asked
-asked_for command kind inputs strategy = record { command = command; kind = kind; inputs = inputs; strategy = strategy }
+abbrev pub asked_for : Command → Kind → List (List ℕ) → Choice → Asked
+asked_for command kind inputs choice = record { command = command; kind = kind; inputs = inputs; choice = choice }
 
 abbrev pub reading_asked : Asked → Option Reading
 reading_asked asked = reading_for asked.kind asked.command asked.inputs
@@ -78,10 +78,10 @@ pub record IsKept (scene : Scene) (asked : Asked) (cause : Option LocalCause) : 
       (hard : Option (List ℕ)) × IsLeastPath (IsHard scene search) hard × (cause ≡ option_map (λ path. local.Path path) hard)
   pub of_tool : reading_asked asked ≡ None → cause ≡ None
 
--- the plan; a command that is kept here has none where it is to run remotely
-abbrev pub plan_of : Strategy → Option LocalCause → Option Plan
-plan_of strategy None = Some (ordinary_plan strategy)
-plan_of strategy (Some cause) = local_plan strategy
+-- the plan; a command that is kept here has none where it is to run remotely, or where its client runs it
+abbrev pub plan_of : Choice → Option LocalCause → Option Plan
+plan_of choice None = Some (ordinary_plan choice.strategy)
+plan_of choice (Some cause) = local_plan choice
 
 -- what may keep the command here, whatever the source tree tells: nothing of a tool, a word that is no compile word, else perhaps a path
 abbrev pub MayKeepBy : Option (List ℕ) → Option LocalCause → Type 0
@@ -92,9 +92,9 @@ abbrev pub MayKeep : Option Reading → Option LocalCause → Type 0
 MayKeep None cause = cause ≡ None
 MayKeep (Some read) cause = MayKeepBy (word_in read) cause
 
--- a plan that the strategy has for such a command
+-- a plan that the choice has for such a command
 abbrev pub IsPlanned : Asked → Plan → Type 0
-IsPlanned asked plan = (cause : Option LocalCause) × MayKeep (reading_asked asked) cause × (plan_of asked.strategy cause ≡ Some plan)
+IsPlanned asked plan = (cause : Option LocalCause) × MayKeep (reading_asked asked) cause × (plan_of asked.choice cause ≡ Some plan)
 
 -- a file of the input tree: one of the scan; of a command that is kept here, any that isn't its output
 abbrev pub IsInput : Scene → Asked → Option LocalCause → List ℕ → Type 0
@@ -142,7 +142,7 @@ pub record IsWithin (scene : Scene) (asked : Asked) (cause : Option LocalCause) 
 pub record IsGathered (scene : Scene) (asked : Asked) (gathered : Gathered) : Type 0 where
   pub cause : Option LocalCause
   pub kept : IsKept scene asked cause
-  pub plan_is : plan_of asked.strategy cause ≡ Some gathered.plan
+  pub plan_is : plan_of asked.choice cause ≡ Some gathered.plan
   pub there : first_missing scene asked.inputs ≡ None
   pub files : (path : List ℕ) → Contains (map (λ file. file.path) gathered.files) path ↔ IsInput scene asked cause path
   pub looks : All (λ file. scene.look file.path ≡ File file.stamp file.executable) gathered.files
@@ -155,7 +155,7 @@ pub record IsGathered (scene : Scene) (asked : Asked) (gathered : Gathered) : Ty
 abbrev pub AreApart : List (List ℕ) → Type 0
 AreApart paths = (upper lower : List ℕ) → Contains paths upper → Contains paths lower → is_below lower upper ≡ true → ⊥
 
--- What was gathered can be staged and built, whatever the source tree answered: the plan is one of the strategy; there are no more
+-- What was gathered can be staged and built, whatever the source tree answered: the plan is one that the choice has; there are no more
 -- files than a tree may have, each once, in order; none stands above another, at or above a directory or the working directory, or above an output.
 pub record IsOrderly (asked : Asked) (gathered : Gathered) : Type 0 where
   pub command_is : gathered.command ≡ command_asked asked
@@ -174,9 +174,9 @@ pub record IsOrderly (asked : Asked) (gathered : Gathered) : Type 0 where
 -- ---- the order of the refusals
 
 -- Gathering goes step by step, and each refusal is that of the first step that doesn't go well. The first step looks at nothing: no
--- word keeps a command here that is to run remotely.
+-- word keeps a command here that has no plan then.
 abbrev pub AllowsWords : Asked → Type 0
-AllowsWords asked = (word : List ℕ) → word_for (reading_asked asked) ≡ Some word → plan_of asked.strategy (Some (local.Word word)) ≢ None
+AllowsWords asked = (word : List ℕ) → word_for (reading_asked asked) ≡ Some word → plan_of asked.choice (Some (local.Word word)) ≢ None
 
 -- the second: there is something at each declared input
 pub record HasInputs (scene : Scene) (asked : Asked) : Type 0 where
@@ -191,9 +191,9 @@ pub record FitsScan (scene : Scene) (asked : Asked) : Type 0 where
 -- the fourth: whatever keeps the command here, it has a plan
 pub record HasPlan (scene : Scene) (asked : Asked) : Type 0 where
   pub fits : FitsScan scene asked
-  pub planned : (cause : LocalCause) → IsKept scene asked (Some cause) → plan_of asked.strategy (Some cause) ≢ None
+  pub planned : (cause : LocalCause) → IsKept scene asked (Some cause) → plan_of asked.choice (Some cause) ≢ None
 
--- what went before a command is refused that is to run remotely: where a word keeps it here nothing was asked of the source tree, and
+-- what went before a command is refused that is kept here without a plan: where a word keeps it here nothing was asked of the source tree, and
 -- where a path does it was looked at, and the scan went well
 abbrev pub IsKeptAfter : Asked → LocalCause → Stretch → Type 0
 IsKeptAfter asked (local.Word word) st = (st.answers ≡ []) × (st.lists ≡ [])
@@ -231,7 +231,7 @@ BlamesGather asked (TooLarge limit n path) st =
     HasView st × IsLimited st.new limit n path × Shown st (λ scene. PassesLimit scene asked limit n path)
 BlamesGather asked (InputChanged change) st = IsChangeFrom st.old st.answers change
 BlamesGather asked (NotRemotable cause) st =
-    (plan_of asked.strategy (Some cause) ≡ None) × HasView st × IsKeptAfter asked cause st × Shown st (λ scene. IsKept scene asked (Some cause))
+    (plan_of asked.choice (Some cause) ≡ None) × HasView st × IsKeptAfter asked cause st × Shown st (λ scene. IsKept scene asked (Some cause))
 BlamesGather asked (Blocked path) st =
     HasView st × WasBlocked (command_asked asked) st.new path × Shown st (λ scene. HasInWay scene asked path)
 BlamesGather asked NoMemory st = Unit {0}

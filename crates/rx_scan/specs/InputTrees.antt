@@ -3,7 +3,7 @@ use Rattle.std.specs.Prelude.{◌≡◌, ◌≢◌, ◌⊎◌, ◌↔◌, ◌≤
 use Rattle.std.specs.Option.{is_some, option_map}
 use Rattle.rx_base.specs.SortedPaths.{AreSorted}
 use Rattle.rx_world.specs.declared.commands.Command.{Command}
-use Rattle.rx_world.specs.declared.commands.Strategy.{Strategy}
+use Rattle.rx_scan.specs.declared.plans.Choice.{Choice}
 use Rattle.rx_world.specs.declared.refusals.LocalCause.{LocalCause}
 use Rattle.rx_world.specs.declared.refusals.LocalCause.TheVariants as local
 use Rattle.rx_world.specs.Causes.{Rose}
@@ -54,14 +54,14 @@ HasBlocked scene command scanned cause path =
     (files : List SeenFile) × IsFilesIf scene command.outputs scanned (is_some cause) files × AreSorted (paths_of files) × (blocked command (paths_of files) ≡ Some path)
 
 -- each refusal of the tree only for its cause; those that come after the choice of a plan tell that there is one
-abbrev pub BlamesTree : Command → List SeenFile → Option LocalCause → Strategy → GatherFault → Stretch → Type 0
-BlamesTree command scanned cause strategy (InputMissing path) st = ⊥
-BlamesTree command scanned cause strategy (SourceFault path) st = Rose st.before st.now
-BlamesTree command scanned cause strategy (InputChanged change) st = IsChangeFrom st.old st.answers change
-BlamesTree command scanned cause strategy (TooLarge limit n path) st =
-    (is_some cause ≡ true) × (plan_of strategy cause ≢ None)
+abbrev pub BlamesTree : Command → List SeenFile → Option LocalCause → Choice → GatherFault → Stretch → Type 0
+BlamesTree command scanned cause choice (InputMissing path) st = ⊥
+BlamesTree command scanned cause choice (SourceFault path) st = Rose st.before st.now
+BlamesTree command scanned cause choice (InputChanged change) st = IsChangeFrom st.old st.answers change
+BlamesTree command scanned cause choice (TooLarge limit n path) st =
+    (is_some cause ≡ true) × (plan_of choice cause ≢ None)
     × HasPassed WholeList st.new limit n path × HasView st × Shown st (λ scene. PassesWhole scene limit n path)
-BlamesTree command scanned cause strategy (NotRemotable kept) st = (cause ≡ Some kept) × (plan_of strategy cause ≡ None) × HasView st
-BlamesTree command scanned cause strategy (Blocked path) st =
-    (plan_of strategy cause ≢ None) × HasView st × WasBlocked command st.new path × Shown st (λ scene. HasBlocked scene command scanned cause path)
-BlamesTree command scanned cause strategy NoMemory st = Unit {0}
+BlamesTree command scanned cause choice (NotRemotable kept) st = (cause ≡ Some kept) × (plan_of choice cause ≡ None) × HasView st
+BlamesTree command scanned cause choice (Blocked path) st =
+    (plan_of choice cause ≢ None) × HasView st × WasBlocked command st.new path × Shown st (λ scene. HasBlocked scene command scanned cause path)
+BlamesTree command scanned cause choice NoMemory st = Unit {0}

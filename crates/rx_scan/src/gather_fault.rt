@@ -34,8 +34,9 @@ pub enum GatherFault {
     /// Two values of one path that differ: two looks, two contents, or a file with something below.
     #[error("an input changed")]
     InputChanged(ChangedInput),
-    /// The command is to run remotely alone, and can't.
-    #[error("the command can't run remotely")]
+    /// The command is kept here, and there is no plan for that: it is to run remotely, or its client
+    /// runs it.
+    #[error("the command is kept here without a plan")]
     NotRemotable {
         cause: LocalCause,
     },

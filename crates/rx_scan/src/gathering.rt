@@ -11,13 +11,13 @@ ghost use Rattle.rx_scan.specs.Plans.{local_plan};
 use crate::digests::with_digests;
 use crate::gather_fault::GatherFault;
 use crate::input_trees::{cause_of, take_tree};
-use crate::plans::local_plan;
+use crate::plans::{Choice, local_plan};
 use crate::scanned::scan;
 use crate::words::{read_words, with_outputs, word_of};
 use rx_base::{Items, RelPath, Text, TryClone};
 use rx_digest_cache::DigestCache;
 use rx_reach::Sights;
-use rx_world::{Command, Found, InputFile, Kind, LocalCause, Plan, Sources, Strategy, World};
+use rx_world::{Command, Found, InputFile, Kind, LocalCause, Plan, Sources, World};
 use std::alloc::Global;
 use std::sync::Wait;
 
@@ -45,27 +45,27 @@ pub struct Gathered {
 /// word that isn't a compile word, or reaches a file whose includes can't be followed, runs on all
 /// that the source tree lists but its outputs, and on this machine alone.
 ///
-/// Refused, in this order: a word that keeps a command here that is to run remotely; a declared input
-/// at which there is nothing; the limits of a scan; a path that keeps it here; the limits of a whole
-/// list; a file above another one, which counts as changed; what stands in the way of the working
-/// directory or of an output. A fault of the source tree, and a path that was seen in two ways, are
-/// refused where they are met.
+/// Refused, in this order: a word that keeps a command here which has no plan then, since it is to
+/// run remotely or its client runs it; a declared input at which there is nothing; the limits of a
+/// scan; a path that keeps such a command here; the limits of a whole list; a file above another one,
+/// which counts as changed; what stands in the way of the working directory or of an output. A fault
+/// of the source tree, and a path that was seen in two ways, are refused where they are met.
 pub fn gather<W: World, S: Sources<W>>(
     rt: &impl Wait,
     alloc: Global,
     command: &Command,
     kind: Kind,
     inputs: &[RelPath],
-    strategy: Strategy,
+    choice: Choice,
     sources: &mut S,
     cache: &DigestCache<W>,
 ) -> Result<Gathered, GatherFault>
     // By what the source tree told this is what the command runs on, or why not.
     ensures gathered { Gathers W.World S.Sources sources.old sources.new
-        (asked_for command.now kind inputs.now strategy) result }
+        (asked_for command.now kind inputs.now choice) result }
     // It can be staged, whatever the source tree told.
     ensures orderly { IfOk result
-        (IsOrderly (asked_for command.now kind inputs.now strategy)) }
+        (IsOrderly (asked_for command.now kind inputs.now choice)) }
     ensures digests { IfOk result (λ gathered. W.stamps_honest →
         HaveDigests W.content gathered.files) }
     // Of a source tree that tells its paths and keeps them, each file is as it is listed.
@@ -73,7 +73,7 @@ pub fn gather<W: World, S: Sources<W>>(
         IfSome (S.listed sources.old) (λ entries. All (IsAsListed entries) gathered.files)) }
 {
     let meaning = read_words(alloc, command, kind, inputs)?;
-    refuse_word(alloc, strategy, &meaning.word)?;
+    refuse_word(alloc, choice, &meaning.word)?;
     let command = with_outputs(alloc, command, meaning.outputs.as_slice())?;
     let mut sights = Sights::new(alloc);
     let scanned = scan(rt, alloc, sources, &mut sights, cache, inputs, &meaning)?;
@@ -83,7 +83,7 @@ pub fn gather<W: World, S: Sources<W>>(
         sources,
         &mut sights,
         &command,
-        strategy,
+        choice,
         cause,
         scanned.files,
         scanned.dirs,
@@ -107,15 +107,15 @@ pub fn gather<W: World, S: Sources<W>>(
     })
 }
 
-/// Refuses a command that is to run remotely and has a word that keeps it here.
-fn refuse_word(alloc: Global, strategy: Strategy, word: &Option<Text>) -> Result<(), GatherFault>
-    ensures ok { OnOk result ((text : List ℕ) → word.now ≡ Some text → local_plan strategy ≢ None) }
+/// Refuses a command that a word keeps here, and that has no plan then.
+fn refuse_word(alloc: Global, choice: Choice, word: &Option<Text>) -> Result<(), GatherFault>
+    ensures ok { OnOk result ((text : List ℕ) → word.now ≡ Some text → local_plan choice ≢ None) }
     ensures err { IfErr result (λ fault. fault ≢ no_memory → (text : List ℕ)
         × (word.now ≡ Some text) × (fault ≡ not_remotable (word_cause text))
-        × (local_plan strategy ≡ None)) }
+        × (local_plan choice ≡ None)) }
 {
     match word {
-        Some(word) => match local_plan(strategy) {
+        Some(word) => match local_plan(choice) {
             Some(_) => Ok(()),
             None => Err(GatherFault::NotRemotable {
                 cause: LocalCause::Word {

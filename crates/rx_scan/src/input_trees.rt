@@ -14,13 +14,13 @@ ghost use Rattle.rx_scan.specs.SeenDirs.{IsDirSeen};
 
 use crate::gather_fault::GatherFault;
 use crate::path_lists::{with_directory, with_paths};
-use crate::plans::{local_plan, ordinary_plan};
+use crate::plans::{Choice, local_plan, ordinary_plan};
 use crate::seen_files::SeenFile;
 use crate::ways::check_way;
 use crate::whole::take_whole;
 use rx_base::{Items, RelPath, Text};
 use rx_reach::Sights;
-use rx_world::{Command, LocalCause, Plan, Sources, Strategy, World};
+use rx_world::{Command, LocalCause, Plan, Sources, World};
 use std::alloc::Global;
 
 /// The input tree of a command, and which attempts are made of it.
@@ -45,14 +45,14 @@ pub(crate) fn cause_of(word: Option<Text>, hard: Option<RelPath>) -> Option<Loca
 }
 
 /// The plan of a command that is kept here for this cause, or isn't.
-fn choose_plan(strategy: Strategy, cause: Option<LocalCause>) -> Result<Plan, GatherFault>
-    ensures ok { IfOk result (λ plan. plan_of strategy cause ≡ Some plan) }
+fn choose_plan(choice: Choice, cause: Option<LocalCause>) -> Result<Plan, GatherFault>
+    ensures ok { IfOk result (λ plan. plan_of choice cause ≡ Some plan) }
     ensures err { IfErr result (λ fault. (kept : LocalCause) × (fault ≡ not_remotable kept)
-        × (cause ≡ Some kept) × (plan_of strategy cause ≡ None)) }
+        × (cause ≡ Some kept) × (plan_of choice cause ≡ None)) }
 {
     match cause {
-        None => Ok(ordinary_plan(strategy)),
-        Some(cause) => match local_plan(strategy) {
+        None => Ok(ordinary_plan(choice)),
+        Some(cause) => match local_plan(choice) {
             Some(plan) => Ok(plan),
             None => Err(GatherFault::NotRemotable { cause }),
         },
@@ -96,7 +96,7 @@ pub(crate) fn take_tree<W: World, S: Sources<W>>(
     sources: &mut S,
     sights: &mut Sights,
     command: &Command,
-    strategy: Strategy,
+    choice: Choice,
     cause: Option<LocalCause>,
     scanned: Items<SeenFile>,
     dirs: Items<RelPath>,
@@ -107,7 +107,7 @@ pub(crate) fn take_tree<W: World, S: Sources<W>>(
     requires dirs { All (IsDirSeen sights.old) dirs }
     requires outputs { AreSorted command.now.outputs }
     ensures orderly { IfOk result (IsOrderlyTree command.now dirs) }
-    ensures plan { IfOk result (λ tree. plan_of strategy cause ≡ Some tree.plan) }
+    ensures plan { IfOk result (λ tree. plan_of choice cause ≡ Some tree.plan) }
     ensures seen { IfOk result (λ tree. All (IsSeen sights.new) tree.files) }
     ensures taken { MatchResult result
         (λ tree. Learns W.World S.Sources
@@ -115,10 +115,10 @@ pub(crate) fn take_tree<W: World, S: Sources<W>>(
         (λ scene. IsFilesIf scene command.now.outputs scanned (is_some cause) tree.files))
         (λ fault. Fails W.World S.Sources
         sources.old sources.new sights.old sights.new
-        (BlamesTree command.now scanned cause strategy fault)) }
+        (BlamesTree command.now scanned cause choice fault)) }
 {
     let kept = cause.is_some();
-    let plan = choose_plan(strategy, cause)?;
+    let plan = choose_plan(choice, cause)?;
     let files = tree_files::<W, S>(
         alloc,
         sources,

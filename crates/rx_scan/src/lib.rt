@@ -20,3 +20,4 @@ mod words;
 
 pub use gather_fault::GatherFault;
 pub use gathering::{Gathered, gather};
+pub use plans::Choice;

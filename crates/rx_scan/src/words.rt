@@ -103,10 +103,10 @@ fn meaning_of(alloc: Global, command: &Command, reading: Reading) -> Result<Word
             outputs,
             word: None,
         }),
-        Reading::LocalOnly { word } => Ok(WordMeaning {
+        Reading::LocalOnly { word, outputs } => Ok(WordMeaning {
             search: None,
             roots: Items::new(alloc),
-            outputs: Items::new(alloc),
+            outputs,
             word: Some(word),
         }),
     }

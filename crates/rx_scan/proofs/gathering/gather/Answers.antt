@@ -19,7 +19,7 @@ returns-in_err-meaning-clause-gathered g c =
 pub returns-in_err-refuse_word-clause-gathered : goal.returns-in_err-refuse_word-clause-gathered
 returns-in_err-refuse_word-clause-gathered g c =
     let p = err_from_is_err_and c.from_residual-in_err-refuse_word.result c.from_residual-in_err-refuse_word.ensures.1 in
-    let asked : Asked = asked_for c.args.command.now c.args.kind c.args.inputs.now c.args.strategy in
+    let asked : Asked = asked_for c.args.command.now c.args.kind c.args.inputs.now c.args.choice in
     rw (p.1, p.2) (refused-meaning _ _ _ asked c.in_ok-meaning.meaning _ c.in_ok-meaning.ensures.meaning c.in_err-refuse_word.ensures.err)
 
 pub returns-in_err-command-clause-gathered : goal.returns-in_err-command-clause-gathered
@@ -30,14 +30,14 @@ returns-in_err-command-clause-gathered g c =
 pub returns-in_err-scanned-clause-gathered : goal.returns-in_err-scanned-clause-gathered
 returns-in_err-scanned-clause-gathered g c =
     let p = err_from_is_err_and c.from_residual-in_err-scanned.result c.from_residual-in_err-scanned.ensures.1 in
-    let asked : Asked = asked_for c.args.command.now c.args.kind c.args.inputs.now c.args.strategy in
+    let asked : Asked = asked_for c.args.command.now c.args.kind c.args.inputs.now c.args.choice in
     let allows = allows-meaning asked c.in_ok-meaning.meaning c.in_ok-meaning.ensures.meaning c.in_ok-refuse_word.ensures.ok in
     rw (p.1, p.2) (refused-scan _ _ _ _ asked c.in_ok-meaning.meaning _ _ _ allows c.in_ok-meaning.ensures.meaning c.new-sights.ensures c.in_err-scanned.ensures.scanned)
 
 pub returns-in_err-tree-clause-gathered : goal.returns-in_err-tree-clause-gathered
 returns-in_err-tree-clause-gathered g c =
     let p = err_from_is_err_and c.from_residual-in_err-tree.result c.from_residual-in_err-tree.ensures.1 in
-    let asked : Asked = asked_for c.args.command.now c.args.kind c.args.inputs.now c.args.strategy in
+    let asked : Asked = asked_for c.args.command.now c.args.kind c.args.inputs.now c.args.choice in
     let command = command-asked asked c.in_ok-meaning.meaning _ c.in_ok-command.command c.in_ok-meaning.ensures.meaning c.as_slice.ensures c.in_ok-command.ensures in
     let cause = cause-asked asked c.in_ok-meaning.meaning c.in_ok-scanned.scanned.hard c.cause_of-cause.result c.in_ok-meaning.ensures.meaning (rw c.word_of.ensures at c.cause_of-cause.ensures) in
     let scanned = scanned-asked _ _ _ _ asked c.in_ok-meaning.meaning _ _ c.in_ok-scanned.scanned c.in_ok-meaning.ensures.meaning c.new-sights.ensures c.in_ok-scanned.ensures.scanned in
@@ -47,7 +47,7 @@ returns-in_err-tree-clause-gathered g c =
 pub returns-in_err-files-clause-gathered : goal.returns-in_err-files-clause-gathered
 returns-in_err-files-clause-gathered g c =
     let p = err_from_is_err_and c.from_residual-in_err-files.result c.from_residual-in_err-files.ensures.1 in
-    let asked : Asked = asked_for c.args.command.now c.args.kind c.args.inputs.now c.args.strategy in
+    let asked : Asked = asked_for c.args.command.now c.args.kind c.args.inputs.now c.args.choice in
     let scanned = scanned-asked _ _ _ _ asked c.in_ok-meaning.meaning _ _ c.in_ok-scanned.scanned c.in_ok-meaning.ensures.meaning c.new-sights.ensures c.in_ok-scanned.ensures.scanned in
     let tree = tree-scanned _ _ _ _ _ asked _ _ c.in_ok-scanned.scanned c.in_ok-command.command c.cause_of-cause.result c.in_ok-tree.tree.files scanned c.in_ok-tree.ensures.taken in
     rw (p.1, p.2) (refused-sight _ _ _ _ _ asked _ _ _ tree c.in_err-files.ensures.err)
@@ -55,7 +55,7 @@ returns-in_err-files-clause-gathered g c =
 pub returns-in_err-view-clause-gathered : goal.returns-in_err-view-clause-gathered
 returns-in_err-view-clause-gathered g c =
     let p = err_from_is_err_and c.from_residual-in_err-view.result c.from_residual-in_err-view.ensures.1 in
-    let asked : Asked = asked_for c.args.command.now c.args.kind c.args.inputs.now c.args.strategy in
+    let asked : Asked = asked_for c.args.command.now c.args.kind c.args.inputs.now c.args.choice in
     let scanned = scanned-asked _ _ _ _ asked c.in_ok-meaning.meaning _ _ c.in_ok-scanned.scanned c.in_ok-meaning.ensures.meaning c.new-sights.ensures c.in_ok-scanned.ensures.scanned in
     let tree = tree-scanned _ _ _ _ _ asked _ _ c.in_ok-scanned.scanned c.in_ok-command.command c.cause_of-cause.result c.in_ok-tree.tree.files scanned c.in_ok-tree.ensures.taken in
     rw (p.1, p.2) (memory-last _ _ _ _ _ asked _ _ _ _ tree c.in_ok-files.ensures.ok)
@@ -68,7 +68,7 @@ take_tree-requires-clause-outputs g c = subst (λ (x : Command). AreSorted x.out
 
 pub returns-clause-gathered : goal.returns-clause-gathered
 returns-clause-gathered g c =
-    let asked : Asked = asked_for c.args.command.now c.args.kind c.args.inputs.now c.args.strategy in
+    let asked : Asked = asked_for c.args.command.now c.args.kind c.args.inputs.now c.args.choice in
     let command = command-asked asked c.in_ok-meaning.meaning _ c.in_ok-command.command c.in_ok-meaning.ensures.meaning c.as_slice.ensures c.in_ok-command.ensures in
     let cause = cause-asked asked c.in_ok-meaning.meaning c.in_ok-scanned.scanned.hard c.cause_of-cause.result c.in_ok-meaning.ensures.meaning (rw c.word_of.ensures at c.cause_of-cause.ensures) in
     let scanned = scanned-asked _ _ _ _ asked c.in_ok-meaning.meaning _ _ c.in_ok-scanned.scanned c.in_ok-meaning.ensures.meaning c.new-sights.ensures c.in_ok-scanned.ensures.scanned in
@@ -82,7 +82,7 @@ returns-clause-gathered g c =
 
 pub returns-clause-orderly : goal.returns-clause-orderly
 returns-clause-orderly g c =
-    let asked : Asked = asked_for c.args.command.now c.args.kind c.args.inputs.now c.args.strategy in
+    let asked : Asked = asked_for c.args.command.now c.args.kind c.args.inputs.now c.args.choice in
     let command = command-asked asked c.in_ok-meaning.meaning _ c.in_ok-command.command c.in_ok-meaning.ensures.meaning c.as_slice.ensures c.in_ok-command.ensures in
     let with = rw c.as_slice.ensures at c.in_ok-command.ensures in
     let cause = cause-asked asked c.in_ok-meaning.meaning c.in_ok-scanned.scanned.hard c.cause_of-cause.result c.in_ok-meaning.ensures.meaning (rw c.word_of.ensures at c.cause_of-cause.ensures) in
@@ -99,7 +99,7 @@ returns-clause-digests g c = λ honest.
 
 pub returns-clause-listed : goal.returns-clause-listed
 returns-clause-listed g c = λ honest keeps.
-    let asked : Asked = asked_for c.args.command.now c.args.kind c.args.inputs.now c.args.strategy in
+    let asked : Asked = asked_for c.args.command.now c.args.kind c.args.inputs.now c.args.choice in
     let known = rw c.as_slice-3.ensures at c.in_ok-files.ensures.digests in
     let same = rw c.as_slice-2.ensures at c.in_ok-files.ensures.same in
     let scanned = scanned-asked _ _ _ _ asked c.in_ok-meaning.meaning _ _ c.in_ok-scanned.scanned c.in_ok-meaning.ensures.meaning c.new-sights.ensures c.in_ok-scanned.ensures.scanned in
