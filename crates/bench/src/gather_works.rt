@@ -4,7 +4,7 @@ use crate::fault::Fault;
 use crate::gather_headers::Headers;
 use rx_base::{Items, RelPath, Text};
 use rx_digest_cache::DigestCache;
-use rx_scan::{Gathered, gather};
+use rx_scan::{Choice, Gathered, gather};
 use rx_world::{Command, Kind, Strategy, Toy};
 use std::alloc::Global;
 use std::marker::Brand;
@@ -56,6 +56,9 @@ pub fn gather_work(
         Work::ToolCold | Work::ToolWarm => (Kind::Tool, "project/include"),
     };
     let inputs = [RelPath::read(alloc, input)?];
-    let strategy = Strategy::Local;
-    Ok(gather(rt, alloc, &command, kind, &inputs, strategy, headers, cache)?)
+    let choice = Choice {
+        strategy: Strategy::Local,
+        in_place: false,
+    };
+    Ok(gather(rt, alloc, &command, kind, &inputs, choice, headers, cache)?)
 }

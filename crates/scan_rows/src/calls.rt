@@ -9,7 +9,7 @@ use rx_digest_cache::DigestCache;
 use rx_fakes::{MemorySources, Script, SourceEntries, TreeFault, read_tree};
 use rx_row_values::{path_of, read_path, read_string};
 use rx_rows::{Answer, Calls, Row, RowFault};
-use rx_scan::{Gathered, gather};
+use rx_scan::{Choice, Gathered, gather};
 use rx_world::Toy;
 use std::alloc::Global;
 use std::marker::Brand;
@@ -88,9 +88,16 @@ impl<'a, R: Wait> ScanCalls<'a, R> {
     }
 
     /// `gather KIND STRATEGY INPUTS WORDS`: what a command runs on, or why that can't be gathered.
-    fn call_gather(&mut self, row: &mut Row<'_>, answer: &mut Answer) -> Result<(), RowFault> {
+    /// `in-place` is the same, where its client runs what is kept here.
+    fn call_gather(
+        &mut self,
+        in_place: bool,
+        row: &mut Row<'_>,
+        answer: &mut Answer,
+    ) -> Result<(), RowFault> {
         let kind = kind_in(row)?;
         let strategy = strategy_in(row)?;
+        let choice = Choice { strategy, in_place };
         let inputs = paths_in(self.alloc, row)?;
         let command = command_in(self.alloc, row, "w/out")?;
         self.gathered = None;
@@ -100,7 +107,7 @@ impl<'a, R: Wait> ScanCalls<'a, R> {
             &command,
             kind,
             inputs.as_slice(),
-            strategy,
+            choice,
             &mut self.tree,
             &self.cache,
         );
@@ -161,7 +168,8 @@ impl<'a, R: Wait> Calls for ScanCalls<'a, R> {
     fn call(&mut self, row: &mut Row<'_>, answer: &mut Answer) -> Result<(), RowFault> {
         let word = row.word()?;
         match word {
-            "gather" => self.call_gather(row, answer),
+            "gather" => self.call_gather(false, row, answer),
+            "in-place" => self.call_gather(true, row, answer),
             "digests" => self.call_digests(answer),
             "digest" => self.call_digest(row, answer),
             "words" => self.call_words(row, answer),

@@ -23,12 +23,13 @@ fn show_texts(answer: &mut Answer, texts: &[Text]) -> Result<(), NoMemory> {
 }
 
 /// A reading: the source, directories for quoted names, directories for all, forced files, system roots,
-/// outputs and the language; or the word that keeps the command here.
+/// outputs and the language; or the word that keeps the command here, and outputs.
 pub(crate) fn show_reading(answer: &mut Answer, reading: &Reading) -> Result<(), NoMemory> {
     match reading {
-        Reading::LocalOnly { word } => {
+        Reading::LocalOnly { word, outputs } => {
             answer.word("kept")?;
-            answer.text(word.as_str().as_bytes())
+            answer.text(word.as_str().as_bytes())?;
+            show_paths(answer, outputs.as_slice())
         }
         Reading::Compile {
             source,
