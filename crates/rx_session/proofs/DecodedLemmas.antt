@@ -13,7 +13,7 @@ use Rattle.rx_base.specs.SortedPaths.{sorted_paths}
 use Rattle.rx_base.proofs.Orders.{HasSameMembers-sorted_once}
 use Rattle.rx_session.specs.declared.bad.Bad.{Bad}
 use Rattle.rx_session.specs.declared.bad.BadReason.{BadReason}
-use Rattle.rx_session.specs.declared.bad.BadReason.TheVariants.{BadField, CutShort, Trailing, UnknownVersion, WrongRoot}
+use Rattle.rx_session.specs.declared.bad.BadReason.TheVariants.{BadField, BadMessage, CutShort, Trailing, UnknownVersion, WrongRoot}
 use Rattle.rx_session.specs.declared.frames.Incoming.{Incoming}
 use Rattle.rx_session.specs.declared.frames.Incoming.TheVariants as incomings
 use Rattle.rx_session.specs.declared.headers.Head.{Head}
@@ -80,9 +80,14 @@ module _ (P : Request → Type 0) where
     found-holds (Ok request) h = h
     found-holds (Err why) h = tt
 
+    ends-hold : (short long : Bool) (x y : Bad) → IfOk (if short then Err x else if long then Err y else Ok incomings.Shutdown) ForRequest
+    ends-hold true long x y = tt
+    ends-hold false true x y = tt
+    ends-hold false false x y = tt
+
     head-holds : (root text : List ℕ) (head : Head) → IfOk (incoming_by root text head) ForRequest
     head-holds root text (heads.Request len) = found-holds (request_within root len text) (within-holds root len text)
-    head-holds root text heads.Shutdown = tt
+    head-holds root text (heads.Shutdown len) = ends-hold (nat_lt (length text) (5 + len)) (nat_lt 0 len) (bad CutShort (length text)) (bad BadMessage 1)
 
     told-holds : (root text : List ℕ) (head : Result Head Bad) → IfOk (head >>= incoming_by root text) ForRequest
     told-holds root text (Ok head) = head-holds root text head

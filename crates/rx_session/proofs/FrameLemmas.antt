@@ -2,26 +2,25 @@
 use Rattle.std.proofs.Common.{◌≡◌, ℕ, ◌+◌, ◌<◌, ◌≤◌, ◌==◌, not, Bool, true, false, List, [], ◌∷◌, ◌++◌, length, take, drop, Option, Result, Ok, Err, refl, sym, ap, ◌∙◌, arith, append_assoc, append-nil, nat_lt, length-append, length-drop, subst}
 use Rattle.std.proofs.lemmas.Bool.{lt-ltb, le-ltb}
 use Rattle.std.proofs.lemmas.List.{drop-append-le, drop_all}
-use Rattle.std.specs.Prelude.{if◌then◌else◌, slice_index}
+use Rattle.std.specs.Prelude.{OnOk, if◌then◌else◌, slice_index}
 use Rattle.std.proofs.Math.Seq.{take-append_seam}
 use Rattle.std.proofs.KnownBytes.{Consumes-trans, Consumes-kept, Consumes-nil}
 use Rattle.std.specs.Io.KnownBytes.{Consumes, Keeps, IsAtEnd}
 use Rattle.rx_base.specs.Results.{◌>>=◌}
 use Rattle.rx_session.specs.declared.bad.Bad.{Bad}
-use Rattle.rx_session.specs.declared.bad.BadReason.TheVariants.{BadMessage, CutShort, Trailing}
+use Rattle.rx_session.specs.declared.bad.BadReason.TheVariants.{CutShort, Trailing}
 use Rattle.rx_session.specs.declared.bad.SessionFault.{SessionFault}
 use Rattle.rx_session.specs.declared.bad.SessionFault.TheVariants as faults
 use Rattle.rx_session.specs.declared.frames.Incoming.{Incoming}
-use Rattle.rx_session.specs.declared.frames.Incoming.TheVariants as incomings
 use Rattle.rx_session.specs.declared.headers.Head.{Head}
 use Rattle.rx_session.specs.declared.headers.Head.TheVariants as heads
 use Rattle.rx_session.specs.declared.requests.Request.{Request}
 use Rattle.rx_session.specs.Bad.{Decodes, bad}
-use Rattle.rx_session.specs.Frames.{EndsRead, alone, begins, behind, head_by, head_in, incoming_of, length_in, longest_payload, or_request, payload_request, reach_by, reach_of, request_within}
+use Rattle.rx_session.specs.Frames.{EndsRead, alone, begins, behind, head_by, head_in, incoming_of, length_in, longest_payload, or_request, payload_length, payload_request, reach_by, reach_of, request_within, shutdown_within}
 use Rattle.rx_session.specs.Streams.{IsNoBad, IsNoCut, IsNoCutPast, ReadsOn}
 
-abbrev request_head : ℕ → Result Head Bad
-request_head len = Ok (heads.Request len)
+abbrev tells : Head → Result Head Bad
+tells head = Ok head
 
 -- ---- pieces that were read one after the other
 
@@ -71,10 +70,6 @@ header_refused view seen root text faults.ReadFault h = tt
 header_refused view seen root text faults.NoMemory h = tt
 header_refused view seen root text (faults.Bad why) h = rw h refl
 
-pub header_ends_all : (root text : List ℕ) → head_in text ≡ Ok heads.Shutdown → incoming_of root text ≡ Ok incomings.Shutdown
-unfolding incoming_of
-header_ends_all root text h = rw h refl
-
 -- the header tells the same with more bytes behind it
 pub head_in-more : (head : Head) (text more : List ℕ) → head_in text ≡ Ok head → head_in (text ++ more) ≡ Ok head
 unfolding head_in
@@ -96,11 +91,23 @@ incoming_of-header root len head text more h e =
     let told : head_in text ≡ Ok (heads.Request len) = rw e (head_in-more (heads.Request len) head more h) in
     rw told refl
 
+-- and where that of a Shutdown and its payload were
+pub incoming_of-shutdown : (root : List ℕ) (len : ℕ) (head text more : List ℕ) → head_in head ≡ Ok (heads.Shutdown len) → text ≡ head ++ more
+    → incoming_of root text ≡ shutdown_within len text
+unfolding incoming_of
+incoming_of-shutdown root len head text more h e =
+    let told : head_in text ≡ Ok (heads.Shutdown len) = rw e (head_in-more (heads.Shutdown len) head more h) in
+    rw told refl
+
+pub shutdown_decodes : (view : Incoming → Incoming) (result : Result Incoming SessionFault) (root : List ℕ) (len : ℕ) (head text more : List ℕ)
+    → head_in head ≡ Ok (heads.Shutdown len) → text ≡ head ++ more → Decodes view result (shutdown_within len text) → Decodes view result (incoming_of root text)
+shutdown_decodes view result root len head text more h e d = rw (incoming_of-shutdown root len head text more h e) d
+
 -- ---- how far is read
 
 five_reached : (told : Result Head Bad) → 5 ≤ reach_by told
 five_reached (Ok (heads.Request len)) = omega arith
-five_reached (Ok heads.Shutdown) = omega arith
+five_reached (Ok (heads.Shutdown len)) = omega arith
 five_reached (Err why) = omega arith
 
 pub reach-header : (text : List ℕ) → length text ≤ 5 → length text ≤ reach_of text
@@ -112,35 +119,46 @@ reach-told len head text more h e le =
     let told : head_in text ≡ Ok (heads.Request len) = rw e (head_in-more (heads.Request len) head more h) in
     rw told le
 
+pub reach-shutdown : (len : ℕ) (head text more : List ℕ) → head_in head ≡ Ok (heads.Shutdown len) → text ≡ head ++ more → length text ≤ 5 + len
+    → length text ≤ reach_of text
+reach-shutdown len head text more h e le =
+    let told : head_in text ≡ Ok (heads.Shutdown len) = rw e (head_in-more (heads.Shutdown len) head more h) in
+    rw told le
+
 -- ---- what is behind the frame
 
-by_kind : (len told : ℕ) (first over : Bool) → (if first then Ok (heads.Request told) else if over then Err (bad BadMessage 1) else Ok heads.Shutdown) ≡ request_head len
-    → told ≡ len
-by_kind len told true over h = cc
-by_kind len told false true h = absurd (cc h)
-by_kind len told false false h = absurd (cc h)
+by_kind : (len : ℕ) (first : Bool) → payload_length (if first then heads.Request len else heads.Shutdown len) ≡ len
+by_kind len true = refl
+by_kind len false = refl
 
-by_tests : (len told kind : ℕ) (short begun long : Bool) (x y z : Bad)
-    → (if short then Err x else if not begun then Err y else if long then Err z else head_by kind told) ≡ request_head len → told ≡ len
-by_tests len told kind true begun long x y z h = absurd (cc h)
-by_tests len told kind false false long x y z h = absurd (cc h)
-by_tests len told kind false true true x y z h = absurd (cc h)
-by_tests len told kind false true false x y z h = by_kind len told (kind == 1) (nat_lt 0 told) h
+tells_is : (a b : Head) → tells a ≡ tells b → a ≡ b
+tells_is a b h = cc
 
--- a request's length is that of its header
-pub length_told : (len : ℕ) (text : List ℕ) → head_in text ≡ Ok (heads.Request len) → length_in text ≡ len
+by_tests : (head : Head) (len kind : ℕ) (short begun long : Bool) (x y z : Bad)
+    → (if short then Err x else if not begun then Err y else if long then Err z else Ok (head_by kind len)) ≡ tells head → len ≡ payload_length head
+by_tests head len kind true begun long x y z h = absurd (cc h)
+by_tests head len kind false false long x y z h = absurd (cc h)
+by_tests head len kind false true true x y z h = absurd (cc h)
+by_tests head len kind false true false x y z h = sym (by_kind len (kind == 1)) ∙ ap payload_length (tells_is (head_by kind len) head h)
+
+-- a payload's length is that of the header
+pub length_told : (head : Head) (text : List ℕ) → head_in text ≡ Ok head → length_in text ≡ payload_length head
 unfolding head_in
-length_told len text h =
-    by_tests len (length_in text) (slice_index text 0) (nat_lt (length text) 5) (begins (slice_index text 0)) (nat_lt longest_payload (length_in text)) _ _ _ h
+length_told head text h =
+    by_tests head (length_in text) (slice_index text 0) (nat_lt (length text) 5) (begins (slice_index text 0)) (nat_lt longest_payload (length_in text)) _ _ _ h
 
 pub bare_header : (text : List ℕ) → length text ≤ 5 → behind text ≡ []
 bare_header text le = drop_all (5 + length_in text) text (omega (arith, le))
 
-pub bare_told : (len : ℕ) (head text more : List ℕ) → head_in head ≡ Ok (heads.Request len) → text ≡ head ++ more → length text ≤ 5 + len → behind text ≡ []
-bare_told len head text more h e le =
-    let told : head_in text ≡ Ok (heads.Request len) = rw e (head_in-more (heads.Request len) head more h) in
-    let same = length_told len text told in
+pub bare_told : (told : Head) (head text more : List ℕ) → head_in head ≡ Ok told → text ≡ head ++ more → length text ≤ 5 + payload_length told → behind text ≡ []
+bare_told told head text more h e le =
+    let same = length_told told text (rw e (head_in-more told head more h)) in
     drop_all (5 + length_in text) text (omega (arith, le, same))
+
+-- so it is of what came in
+pub bare_ok : (result : Result Incoming SessionFault) (text : List ℕ) → behind text ≡ [] → OnOk result (behind text ≡ [])
+bare_ok (Ok incoming) text e = e
+bare_ok (Err fault) text e = tt
 
 -- ---- the payload
 

@@ -14,29 +14,34 @@ abbrev ends_all : Result Incoming Bad
 ends_all = Ok incomings.Shutdown
 
 abbrev ends_head : Result Head Bad
-ends_head = Ok heads.Shutdown
+ends_head = Ok (heads.Shutdown 0)
 
 no_request : (request : Result Request Bad) → or_request request ≡ ends_all → ⊥
 no_request (Ok request) h = cc
 no_request (Err why) h = cc
 
+-- a Shutdown has no payload
+by_payload : (len : ℕ) (short long : Bool) (x y : Bad) → nat_lt 0 len ≡ long → (if short then Err x else if long then Err y else ends_all) ≡ ends_all → len ≡ 0
+by_payload len true long x y e h = absurd (cc h)
+by_payload len false true x y e h = absurd (cc h)
+by_payload len false false x y e h = let le = ltb-false 0 len e in omega arith
+
 -- only a header tells it
 told : (root text : List ℕ) (head : Result Head Bad) → (head >>= incoming_by root text) ≡ ends_all → head ≡ ends_head
 told root text (Ok (heads.Request len)) h = absurd (no_request (request_within root len text) h)
-told root text (Ok heads.Shutdown) h = refl
+told root text (Ok (heads.Shutdown len)) h = rw (by_payload len (nat_lt (length text) (5 + len)) (nat_lt 0 len) _ _ refl h) refl
 told root text (Err why) h = absurd (cc h)
 
--- of its kind and its length
-by_length : (len : ℕ) (s : Bool) (why : Bad) → nat_lt 0 len ≡ s → (if s then Err why else ends_head) ≡ ends_head → len ≡ 0
-by_length len true why e h = absurd (cc h)
-by_length len false why e h = let le = ltb-false 0 len e in omega arith
+zero_of : (len : ℕ) → Ok (heads.Shutdown len) ≡ ends_head → len ≡ 0
+zero_of len h = cc
 
-by_kind : (len kind : ℕ) (first second : Bool) → (kind == 1) ≡ first → (kind == 4) ≡ second → head_by kind len ≡ ends_head → begins kind ≡ true → (kind ≡ 4) × (len ≡ 0)
+-- of its kind and its length
+by_kind : (len kind : ℕ) (first second : Bool) → (kind == 1) ≡ first → (kind == 4) ≡ second → Ok (head_by kind len) ≡ ends_head → begins kind ≡ true → (kind ≡ 4) × (len ≡ 0)
 by_kind len kind true second e f h b = absurd (cc (rw e at h))
-by_kind len kind false true e f h b = (eqb-true kind 4 f, by_length len (nat_lt 0 len) _ refl (rw e at h))
+by_kind len kind false true e f h b = (eqb-true kind 4 f, zero_of len (rw e at h))
 by_kind len kind false false e f h b = absurd (cc (rw (e, f) at b))
 
-by_tests : (len kind : ℕ) (b l : Bool) (x y : Bad) → begins kind ≡ b → (if not b then Err y else if l then Err x else head_by kind len) ≡ ends_head → (kind ≡ 4) × (len ≡ 0)
+by_tests : (len kind : ℕ) (b l : Bool) (x y : Bad) → begins kind ≡ b → (if not b then Err y else if l then Err x else Ok (head_by kind len)) ≡ ends_head → (kind ≡ 4) × (len ≡ 0)
 by_tests len kind true true x y e h = absurd (cc h)
 by_tests len kind true false x y e h = by_kind len kind (kind == 1) (kind == 4) refl refl h e
 by_tests len kind false l x y e h = absurd (cc h)

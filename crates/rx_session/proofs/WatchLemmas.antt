@@ -12,7 +12,7 @@ use Rattle.rx_session.specs.declared.headers.Head.{Head}
 use Rattle.rx_session.specs.declared.headers.Head.TheVariants as heads
 use Rattle.rx_session.specs.declared.requests.Request.{Request}
 use Rattle.rx_session.specs.Bad.{bad}
-use Rattle.rx_session.specs.Frames.{alone, behind, head_in, incoming_by, incoming_of, length_in, or_request, payload_request, request_within}
+use Rattle.rx_session.specs.Frames.{alone, behind, head_in, incoming_by, incoming_of, length_in, or_request, payload_request, request_within, shutdown_within}
 use Rattle.rx_session.proofs.FrameLemmas.{head_in-more, incoming_of-header, length_told}
 
 abbrev found : Request → Result Request Bad
@@ -58,9 +58,17 @@ within_is : (root text : List ℕ) (len : ℕ) (request : Request) → request_w
 unfolding request_within
 within_is root text len request h = by_size root text len request (nat_lt (length text) (5 + len)) refl h
 
+no_shutdown_by : (short long : Bool) (x y : Bad) (request : Request) → (if short then Err x else if long then Err y else Ok incomings.Shutdown) ≡ came request → ⊥
+no_shutdown_by true long x y request h = cc
+no_shutdown_by false true x y request h = cc
+no_shutdown_by false false x y request h = cc
+
+no_shutdown : (len : ℕ) (text : List ℕ) (request : Request) → shutdown_within len text ≡ came request → ⊥
+no_shutdown len text request h = no_shutdown_by (nat_lt (length text) (5 + len)) (nat_lt 0 len) _ _ request h
+
 by_head : (root text : List ℕ) (request : Request) (head : Result Head Bad) → head_in text ≡ head → (head >>= incoming_by root text) ≡ came request → IsFramed root text request
 by_head root text request (Ok (heads.Request len)) e h = record { len = len; told = e; whole = within_is root text len request (came_is (request_within root len text) request h) }
-by_head root text request (Ok heads.Shutdown) e h = absurd (cc h)
+by_head root text request (Ok (heads.Shutdown len)) e h = absurd (no_shutdown len text request h)
 by_head root text request (Err why) e h = absurd (cc h)
 
 framed : (root text : List ℕ) (request : Request) → incoming_of root text ≡ came request → IsFramed root text request
@@ -94,8 +102,8 @@ pub behind-more : (root text more : List ℕ) (request : Request) → incoming_o
     → behind (text ++ more) ≡ more
 behind-more root text more request h bare =
     let f = framed root text request h in
-    let same : length_in text ≡ f.len = length_told f.len text f.told in
-    let later : length_in (text ++ more) ≡ f.len = length_told f.len (text ++ more) (head_in-more (heads.Request f.len) text more f.told) in
+    let same : length_in text ≡ f.len = length_told (heads.Request f.len) text f.told in
+    let later : length_in (text ++ more) ≡ f.len = length_told (heads.Request f.len) (text ++ more) (head_in-more (heads.Request f.len) text more f.told) in
     let none : length (drop (5 + f.len) text) ≡ 0 = ap length (rw same at bare) in
     let size : length text ≡ 5 + f.len = omega (arith, none, length-drop (5 + f.len) text, f.whole.size) in
     rw later (drop_at text more (5 + f.len) size)

@@ -70,12 +70,9 @@ behind text = drop (5 + length_in text) text
 abbrev pub begins : ℕ → Bool
 begins kind = kind == 1 || kind == 4
 
--- what a kind and a length tell: a Request has a payload of this length, and Shutdown has none
-abbrev pub head_by : ℕ → ℕ → Result Head Bad
-head_by kind len =
-    if kind == 1 then Ok (heads.Request len)
-    else if nat_lt 0 len then Err (bad BadMessage 1)
-    else Ok heads.Shutdown
+-- what one of these kinds and a length tell
+abbrev pub head_by : ℕ → ℕ → Head
+head_by kind len = if kind == 1 then heads.Request len else heads.Shutdown len
 
 -- what the header tells, of bytes that begin with one
 unfoldable pub head_in : List ℕ → Result Head Bad
@@ -83,12 +80,16 @@ head_in text =
     if nat_lt (length text) 5 then Err (bad CutShort (length text))
     else if not (begins (slice_index text 0)) then Err (bad BadKind 0)
     else if nat_lt longest_payload (length_in text) then Err (bad TooLong (length_in text))
-    else head_by (slice_index text 0) (length_in text)
+    else Ok (head_by (slice_index text 0) (length_in text))
+
+-- the payload's length
+abbrev pub payload_length : Head → ℕ
+payload_length (heads.Request len) = len
+payload_length (heads.Shutdown len) = len
 
 -- the payload has at most so many bytes
 abbrev pub IsWithin : ℕ → Head → Type 0
-IsWithin most (heads.Request len) = len ≤ most
-IsWithin most heads.Shutdown = Unit {0}
+IsWithin most head = payload_length head ≤ most
 
 -- a request, where nothing follows its frame, or where it watches: then a Cancel may
 abbrev pub alone : ℕ → List ℕ → Request → Result Request Bad
@@ -108,10 +109,17 @@ abbrev pub or_request : Result Request Bad → Result Incoming Bad
 or_request (Ok request) = Ok (incomings.Request request)
 or_request (Err why) = Err why
 
--- what comes in behind such a header; behind Shutdown nothing counts
+-- A Shutdown whose payload has so many bytes: it may have none, and one that is cut short is told as that. What follows its frame doesn't count.
+abbrev pub shutdown_within : ℕ → List ℕ → Result Incoming Bad
+shutdown_within len text =
+    if nat_lt (length text) (5 + len) then Err (bad CutShort (length text))
+    else if nat_lt 0 len then Err (bad BadMessage 1)
+    else Ok incomings.Shutdown
+
+-- what comes in behind such a header
 abbrev pub incoming_by : List ℕ → List ℕ → Head → Result Incoming Bad
 incoming_by root text (heads.Request len) = or_request (request_within root len text)
-incoming_by root text heads.Shutdown = Ok incomings.Shutdown
+incoming_by root text (heads.Shutdown len) = shutdown_within len text
 
 -- What comes in by a client's bytes: the Request that they are, all of them, or the one that watches or the Shutdown with whose frame they
 -- begin.
@@ -124,10 +132,11 @@ incoming_of root text = do
 abbrev pub IsRequest : List ℕ → List ℕ → Request → Type 0
 IsRequest root text request = incoming_of root text ≡ Ok (incomings.Request request)
 
--- The most bytes that are read: a header and, where it tells a Request, its payload and one byte behind the frame.
+-- The most bytes that are read: of a header that is refused no more than that, of a Shutdown its frame, and of a Request its frame and one byte
+-- behind it.
 abbrev pub reach_by : Result Head Bad → ℕ
 reach_by (Ok (heads.Request len)) = 5 + len + 1
-reach_by (Ok heads.Shutdown) = 5
+reach_by (Ok (heads.Shutdown len)) = 5 + len
 reach_by (Err why) = 5
 
 abbrev pub reach_of : List ℕ → ℕ

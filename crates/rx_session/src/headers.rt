@@ -18,6 +18,6 @@ pub(crate) const SHUTDOWN_KIND: u8 = 4;
 pub(crate) enum Head {
     /// A request, with so many bytes of payload.
     Request(usize),
-    /// That the proxy is to end. There is no payload.
-    Shutdown,
+    /// That the proxy is to end, with so many bytes of payload. It may have none.
+    Shutdown(usize),
 }

@@ -4,7 +4,7 @@ use Rattle.rx_session.specs.declared.frames.Incoming.{Incoming}
 use Rattle.rx_session.specs.declared.headers.Head.{Head}
 use Rattle.rx_session.specs.declared.requests.Request.{Request}
 use Rattle.rx_session.specs.Frames.{or_request}
-use Rattle.rx_session.proofs.FrameLemmas.{bare_told, header_ends_all, header_refused, incoming_of-header, reach-told, reads_join, reads_whole, within_alone, within_cut, within_refused, within_trailing, within_watched}
+use Rattle.rx_session.proofs.FrameLemmas.{bare_ok, bare_told, header_refused, incoming_of-header, reach-shutdown, reach-told, reads_join, reads_whole, shutdown_decodes, within_alone, within_cut, within_refused, within_trailing, within_watched}
 use Rattle.rx_session.proofs.frames.read_incoming.Goals as goal
 
 pub returns-in_err-head-clause-incoming : goal.returns-in_err-head-clause-incoming
@@ -108,10 +108,24 @@ returns-clause-reach g c =
     omega (arith, c.read_up_to-3.new.read.ok.0, c.in_ok-read_up_to-3.ensures.most, c.in_ok-read_up_to-2.ensures.most, c.in_ok-read_up_to.ensures.most, c.clear.ensures.len) in
     reach-told _ _ _ _ told (reads_join _ _ _ _ _ _ c.in_ok-read_up_to-2.ensures.read c.in_ok-read_up_to-3.ensures.read).grown within
 
-pub returns-in_default-clause-incoming : goal.returns-in_default-clause-incoming
-returns-in_default-clause-incoming g c =
-    let told = rw (c.deref.ensures.value, c.in_default.is) at c.in_ok-head.ensures.head in
-    header_ends_all _ _ told
+pub returns-in-Shutdown-clause-read : goal.returns-in-Shutdown-clause-read
+returns-in-Shutdown-clause-read g c =
+    reads_whole _ _ _ _ c.clear.ensures.items (reads_join _ _ _ _ _ _ c.in_ok-read_up_to.ensures.read c.read_shutdown.ensures.read)
+
+pub returns-in-Shutdown-clause-reach : goal.returns-in-Shutdown-clause-reach
+returns-in-Shutdown-clause-reach g c =
+    let told = rw (c.deref.ensures.value, c.in-Shutdown.is) at c.in_ok-head.ensures.head in
+    reach-shutdown _ _ _ _ told c.read_shutdown.ensures.read.grown c.read_shutdown.ensures.reach
+
+pub returns-in-Shutdown-clause-incoming : goal.returns-in-Shutdown-clause-incoming
+returns-in-Shutdown-clause-incoming g c =
+    let told = rw (c.deref.ensures.value, c.in-Shutdown.is) at c.in_ok-head.ensures.head in
+    shutdown_decodes (λ (x : Incoming). x) _ _ _ _ _ _ told c.read_shutdown.ensures.read.grown c.read_shutdown.ensures.incoming
+
+pub returns-in-Shutdown-clause-bare : goal.returns-in-Shutdown-clause-bare
+returns-in-Shutdown-clause-bare g c =
+    let told = rw (c.deref.ensures.value, c.in-Shutdown.is) at c.in_ok-head.ensures.head in
+    bare_ok c.read_shutdown.result c.read_shutdown.new.read.items (bare_told _ _ _ _ told c.read_shutdown.ensures.read.grown c.read_shutdown.ensures.reach)
 
 pub returns-then-request-clause-read : goal.returns-then-request-clause-read
 returns-then-request-clause-read g c =
