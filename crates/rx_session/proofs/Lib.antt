@@ -1,3 +1,4 @@
+pub mod CancelLemmas
 pub mod DecodedLemmas
 pub mod DistinctLemmas
 pub mod EndLemmas
