@@ -15,9 +15,9 @@ use Rattle.rx_world.specs.declared.remote_causes.ResultFault.{ResultFault}
 use Rattle.rx_world.specs.declared.remote_causes.ResultFault.TheVariants as results
 use Rattle.rx_session.specs.Ends.{bad_blob_of, bad_result_of, bench_fault_of, call_failed_of, end_has_only, end_of, exit_of, failure_of, input_changed_of, local_cause_of, local_end, local_failure_of, non_zero_of, output_limit_number, output_limit_of, output_missing_of, output_too_large_of, remote_cause_of, remote_end, remote_failure_of, remote_input_changed_of, remote_source_fault_of, result_fault_number, result_fault_of, source_fault_of, step_number, step_of, wrong_version_of}
 use Rattle.rx_session.specs.Seen.{is_no_file}
-use Rattle.rx_session.specs.Told.{cause_is_readable, failure_is_readable, remote_cause_is_readable, told_cause, told_failure, told_remote_cause}
+use Rattle.rx_session.specs.Told.{cause_is_readable, failure_is_readable, remote_cause_is_readable, told_failure, told_remote_cause}
 use Rattle.rx_session.specs.Typed.{IsInt32, cause_is_typed, failure_is_typed, remote_cause_is_typed}
-use Rattle.rx_session.proofs.FaultLemmas.{faults_again}
+use Rattle.rx_session.proofs.FaultLemmas.{faults_again, some_packed}
 use Rattle.rx_session.proofs.SeenLemmas.{changed_again}
 use Rattle.rx_session.proofs.VersionLemmas.{versions_again}
 
@@ -40,27 +40,27 @@ result_fault_again results.OutputAbsent = refl
 result_fault_again results.NoDigest = refl
 result_fault_again results.TooLarge = refl
 
-local_again : (cause : Cause) → cause_is_typed cause → cause_is_readable cause → local_failure_of (local_end cause) ≡ Ok (failures.Local (told_cause cause))
+local_again : (cause : Cause) → cause_is_typed cause → cause_is_readable cause → local_failure_of (local_end cause) ≡ Ok (failures.Local cause)
 unfolding local_failure_of end_has_only local_cause_of bench_fault_of output_missing_of input_changed_of output_too_large_of source_fault_of
 local_again (causes.BenchFault step) typed can = rw (step_again step) refl
 local_again (causes.OutputMissing path) typed can = rw typed refl
 local_again (causes.InputChanged input) typed can = rw (changed_again input typed can.0) refl
 local_again (causes.OutputTooLarge limit n) typed can = rw (output_limit_again limit) refl
 local_again (causes.SourceFault path) typed can = rw typed refl
-local_again (causes.Stopped decision) typed can = refl
-local_again causes.NoMemory typed can = refl
+local_again (causes.Stopped decision) typed can = absurd can
+local_again causes.NoMemory typed can = absurd can
 
 remote_again : (cause : RemoteCause) → remote_cause_is_typed cause → remote_cause_is_readable cause → remote_failure_of (remote_end cause) ≡ Ok (failures.Remote (told_remote_cause cause))
 unfolding remote_failure_of end_has_only remote_cause_of call_failed_of bad_blob_of bad_result_of remote_input_changed_of wrong_version_of remote_source_fault_of is_no_file
-remote_again (remotes.CallFailed faults) typed can = rw (faults_again faults can) refl
+remote_again (remotes.CallFailed faults) typed can = rw (some_packed faults can.0, faults_again faults can.1) refl
 remote_again (remotes.BadBlob expected got) typed can = refl
 remote_again (remotes.BadResult fault) typed can = rw (result_fault_again fault) refl
 remote_again remotes.OperationsSpent typed can = refl
-remote_again (remotes.Stopped decision) typed can = refl
+remote_again (remotes.Stopped decision) typed can = absurd can
 remote_again (remotes.InputChanged input) typed can = rw (changed_again input typed can.0) refl
 remote_again (remotes.WrongVersion low high) typed can = rw (versions_again low high typed.0 typed.1) refl
 remote_again (remotes.SourceFault path) typed can = rw typed refl
-remote_again remotes.NoMemory typed can = refl
+remote_again remotes.NoMemory typed can = absurd can
 
 pub local_attempt : (cause : Cause) → (local_end cause).attempt ≡ 1
 local_attempt (causes.BenchFault step) = refl

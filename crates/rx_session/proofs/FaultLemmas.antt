@@ -1,5 +1,5 @@
 -- Faults of calls read of their packed numbers.
-use Rattle.std.proofs.Common.{◌≡◌, ℕ, zero, suc, ◌+◌, ◌/◌, ◌%◌, ◌^◌, ◌<◌, ◌≤◌, ◌==◌, true, false, List, [], ◌∷◌, length, drop, map, Ok, refl, ap, arith, eq-eqb, length-append, lit<}
+use Rattle.std.proofs.Common.{◌≡◌, ◌≢◌, ℕ, zero, suc, ◌+◌, ◌/◌, ◌%◌, ◌^◌, ◌<◌, ◌≤◌, ◌==◌, true, false, List, [], ◌∷◌, length, drop, map, Ok, refl, ap, arith, eq-eqb, length-append, lit<}
 use Rattle.std.specs.Prelude.{nat_lt}
 use Rattle.std.specs.List.{AllByRecursion}
 use Rattle.std.proofs.lemmas.Bool.{ne_eqb, ltb-true}
@@ -82,3 +82,11 @@ faults_again_from (fault ∷ faults) (suc most) all at enough within e each =
 pub faults_again : (faults : List CallFault) → AllByRecursion IsOfCall faults → faults_in (packed_faults faults) ≡ Ok (map told_fault faults)
 unfolding faults_in
 faults_again faults each = faults_again_from faults (length (packed_faults faults)) (packed_faults faults) 0 (omega arith) (omega arith) refl each
+
+-- where there are faults, there are bytes
+pub some_packed : (faults : List CallFault) → faults ≢ [] → (length (packed_faults faults) == 0) ≡ false
+some_packed [] h = absurd (h refl)
+some_packed (fault ∷ faults) h =
+    let number = call_fault_number fault in
+    let some = Spells-some (shortest number) number (IsVarint-shortest number (number_fits fault)).spelled in
+    ne_eqb _ 0 (λ e. omega (arith, e, length-append (shortest number) (packed_faults faults)))

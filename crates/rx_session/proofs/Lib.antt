@@ -8,6 +8,7 @@ pub mod FrameLemmas
 pub mod NameLemmas
 pub mod NumberReading
 pub mod OutputLemmas
+pub mod PackedReading
 pub mod PathTextLemmas
 pub mod PlaceFaultBytes
 pub mod ReadableLemmas

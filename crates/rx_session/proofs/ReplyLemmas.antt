@@ -22,7 +22,7 @@ use Rattle.rx_session.specs.declared.reply_message.ReplyMessage.{ReplyMessage}
 use Rattle.rx_session.specs.Bad.{reason_number}
 use Rattle.rx_session.specs.Ends.{end_of}
 use Rattle.rx_session.specs.Replies.{cancel_number, cancel_of, limit_number, limit_of, message_of, origin_number, origin_of, path_or_none, reason_of}
-use Rattle.rx_session.specs.ReplyReading.{HasFields, all_failed_of, bad_request_of, blocked_of, cancelled_of, done_of, failures_of, first_fields_are, in_place_of, input_missing_of, kept_of, last_fields_are, limit_in_place_of, limit_path_of, local_cause_of, not_remotable_of, one_failure, path_cause_of, place_fault_of, receipt_of, reply_by, reply_by_kind, reply_has_only, reply_input_changed_of, reply_of, reply_source_fault_of, some_path_of, too_large_of, two_failures}
+use Rattle.rx_session.specs.ReplyReading.{HasFields, all_failed_of, bad_request_of, blocked_of, cancelled_of, done_of, failures_of, first_fields_are, in_place_of, input_missing_of, kept_of, last_fields_are, limit_in_place_of, limit_path_of, reply_local_cause_of, not_remotable_of, one_failure, path_cause_of, place_fault_of, receipt_of, reply_by, reply_by_kind, reply_has_only, reply_input_changed_of, reply_of, reply_source_fault_of, some_path_of, too_large_of, two_failures}
 use Rattle.rx_session.specs.ReplyMessages.{reply_message_from, reply_message_is_readable, reply_message_parts}
 use Rattle.rx_session.specs.Told.{AreEnds, IsLocal, IsRemote, PathFits, reply_is_readable, told, told_failure}
 use Rattle.rx_session.specs.Typed.{IsOwn, failure_is_typed, reply_is_typed}
@@ -101,7 +101,7 @@ failures_again (end ∷ second ∷ third ∷ ends) typed can = absurd can
 -- ---- replies
 
 pub reply_again : (reply : Reply) → reply_is_typed reply → reply_is_readable reply → reply_by (message_of reply) ≡ Ok (told reply)
-unfolding reply_by reply_has_only first_fields_are last_fields_are reply_by_kind done_of bad_request_of not_remotable_of path_cause_of input_missing_of reply_input_changed_of reply_source_fault_of too_large_of all_failed_of cancelled_of place_fault_of blocked_of local_cause_of in_place_of kept_of limit_in_place_of
+unfolding reply_by reply_has_only first_fields_are last_fields_are reply_by_kind done_of bad_request_of not_remotable_of path_cause_of input_missing_of reply_input_changed_of reply_source_fault_of too_large_of all_failed_of cancelled_of place_fault_of blocked_of reply_local_cause_of in_place_of kept_of limit_in_place_of
 reply_again (replies.Done exit stdout stderr origin receipt placed) typed can = rw (origin_again origin, receipt_again receipt can) refl
 reply_again (replies.BadRequest bad) typed can = rw (reason_again bad.reason) refl
 reply_again (replies.NotRemotable (locals.Word word)) typed can = refl
@@ -128,7 +128,7 @@ unfolding reply_of
 payload_again reply message payload e typed read can =
     let again : reply_message_is_readable (message_of reply) → decoded reply_message_parts reply_message_from any_form payload ≡ Ok (message_of reply) =
     subst (λ m. reply_message_is_readable m → decoded reply_message_parts reply_message_from any_form payload ≡ Ok m) e read in
-    rw (again (message_is_readable reply can)) (reply_again reply typed can)
+    rw (again (message_is_readable reply can), reply_again reply typed can) refl
 
 pub payloads_again : {X E : Type 0} (view : X → List ℕ) (r : Result X E) (reply : Reply) (message : ReplyMessage) → message ≡ message_of reply → reply_is_typed reply
     → IfOk r (λ x. reply_message_is_readable message → decoded reply_message_parts reply_message_from any_form (view x) ≡ Ok message)
@@ -139,4 +139,4 @@ payloads_again view (Err fault) reply message e typed read = tt
 -- a payload with the fields of a reply
 pub fields_again : (reply : Reply) (payload : List ℕ) → HasFields payload reply → reply_is_typed reply → reply_is_readable reply → reply_of payload ≡ Ok (told reply)
 unfolding reply_of
-fields_again reply payload fields typed can = rw fields (reply_again reply typed can)
+fields_again reply payload fields typed can = rw (fields, reply_again reply typed can) refl

@@ -1,24 +1,26 @@
 -- What was seen, read of its message.
 use Rattle.std.proofs.Common.{◌≡◌, ◌≢◌, inl, inr, ℕ, ◌+◌, ◌*◌, ◌/◌, ◌%◌, ◌^◌, ◌==◌, Bool, true, false, Option, None, Some, Result, Ok, refl, sym, ◌∙◌, arith, eq-eqb}
-use Rattle.std.specs.Prelude.{IsNone, IsSome, is_some, not, if◌then◌else◌}
+use Rattle.std.specs.Prelude.{IsNone, IsSome, is_some}
 use Rattle.std.proofs.lemmas.Bool.{and_parts, eqb-true}
 use Rattle.rx_base.specs.declared.digests.Digest.{Digest}
+use Rattle.rx_codec.specs.Contents.{number_of_truth}
 use Rattle.rx_world.specs.declared.looks.ChangedInput.{ChangedInput}
 use Rattle.rx_world.specs.declared.looks.Look.{Look}
 use Rattle.rx_world.specs.declared.looks.Look.TheVariants as looks
 use Rattle.rx_world.specs.declared.looks.Seen.{Seen}
 use Rattle.rx_session.specs.declared.reply_fault.ReplyFault.{ReplyFault}
 use Rattle.rx_session.specs.declared.seen_message.SeenMessage.{SeenMessage}
-use Rattle.rx_session.specs.Seen.{DigestsFit, changed_of, digests_fit, is_no_file, look_message, look_of, same_look, seen_message, seen_of}
+use Rattle.rx_session.specs.Seen.{DigestsFit, changed_of, digests_fit, file_of, is_no_file, look_message, look_of, same_look, seen_message, seen_of}
 use Rattle.rx_session.specs.Typed.{IsOwn}
 
 mark_again : (mark : ℕ) → mark / 2 ^ 64 * 2 ^ 64 + mark % 2 ^ 64 ≡ mark
 mark_again mark = omega arith
 
 look_again : (look : Look) (digest : Option Digest) → look_of (record (look_message look) { digest = digest }) ≡ Ok look
-unfolding look_of is_no_file
+unfolding look_of file_of is_no_file
 look_again looks.Absent digest = refl
-look_again (looks.File stamp executable) digest = rw (mark_again stamp.mark) refl
+look_again (looks.File stamp true) digest = rw (mark_again stamp.mark) refl
+look_again (looks.File stamp false) digest = rw (mark_again stamp.mark) refl
 look_again looks.Dir digest = refl
 look_again looks.Other digest = refl
 
@@ -28,30 +30,25 @@ seen_again seen = rw (look_again seen.look seen.digest) refl
 
 -- ---- looks that are equal
 
-agree : (a b : Bool) → (if a then b else not b) ≡ true → a ≡ b
-agree true true e = refl
-agree true false e = absurd (cc e)
-agree false true e = absurd (cc e)
-agree false false e = refl
-
-agrees : (a : Bool) → (if a then a else not a) ≡ true
-agrees true = refl
-agrees false = refl
-
 same_again : (x y : SeenMessage) → same_look x y ≡ true → look_of x ≡ look_of y
-unfolding same_look look_of is_no_file
+unfolding same_look look_of file_of is_no_file
 same_again x y e =
     let kind = and_parts (x.kind == y.kind) _ e in
     let size = and_parts (x.size == y.size) _ kind.1 in
     let high = and_parts (x.mark_high == y.mark_high) _ size.1 in
     let low = and_parts (x.mark_low == y.mark_low) _ high.1 in
-    rw (eqb-true x.kind y.kind kind.0, eqb-true x.size y.size size.0, eqb-true x.mark_high y.mark_high high.0, eqb-true x.mark_low y.mark_low low.0, agree x.executable y.executable low.1) refl
+    rw (eqb-true x.kind y.kind kind.0, eqb-true x.size y.size size.0, eqb-true x.mark_high y.mark_high high.0, eqb-true x.mark_low y.mark_low low.0, eqb-true x.executable y.executable low.1) refl
 
 itself : (look : Look) (digest other : Option Digest) → same_look (record (look_message look) { digest = digest }) (record (look_message look) { digest = other }) ≡ true
 unfolding same_look
 itself looks.Absent digest other = refl
 itself (looks.File stamp executable) digest other =
-    rw (eq-eqb stamp.size stamp.size refl, eq-eqb (stamp.mark / 2 ^ 64) (stamp.mark / 2 ^ 64) refl, eq-eqb (stamp.mark % 2 ^ 64) (stamp.mark % 2 ^ 64) refl) (agrees executable)
+    rw (
+      eq-eqb stamp.size stamp.size refl,
+      eq-eqb (stamp.mark / 2 ^ 64) (stamp.mark / 2 ^ 64) refl,
+      eq-eqb (stamp.mark % 2 ^ 64) (stamp.mark % 2 ^ 64) refl,
+      eq-eqb (number_of_truth executable) (number_of_truth executable) refl,
+    ) refl
 itself looks.Dir digest other = refl
 itself looks.Other digest other = refl
 

@@ -12,8 +12,6 @@ use Rattle.rx_world.specs.declared.attempts.Cause.TheVariants as causes
 use Rattle.rx_world.specs.declared.attempts.Failure.{Failure}
 use Rattle.rx_world.specs.declared.attempts.Failure.TheVariants as failures
 use Rattle.rx_world.specs.declared.call_faults.CallFault.{CallFault}
-use Rattle.rx_world.specs.declared.decisions.Decision.{Decision}
-use Rattle.rx_world.specs.declared.decisions.Decision.TheVariants as decisions
 use Rattle.rx_world.specs.declared.looks.ChangedInput.{ChangedInput}
 use Rattle.rx_world.specs.declared.refusals.OutputLimit.{OutputLimit}
 use Rattle.rx_world.specs.declared.refusals.OutputLimit.TheVariants as limits
@@ -171,10 +169,6 @@ abbrev pub some_or_bad : {X : Type 0} → Option X → Result X ReplyFault
 some_or_bad None = bad_reply
 some_or_bad (Some x) = Ok x
 
--- a decision isn't told, and stands as none
-abbrev pub untold : Decision
-untold = decisions.Undecided
-
 unfoldable pub bench_fault_of : EndMessage → Result Cause ReplyFault
 bench_fault_of x = do
   step ← step_of x.value
@@ -200,6 +194,7 @@ source_fault_of x = do
   path ← own_path x.path
   Ok (causes.SourceFault path)
 
+-- No reply has an end that a decision or want of memory made: 6 and 7 are written and not read.
 unfoldable pub local_cause_of : EndMessage → Result Cause ReplyFault
 local_cause_of x =
     if x.cause == 1 then bench_fault_of x
@@ -207,14 +202,15 @@ local_cause_of x =
     else if x.cause == 3 then input_changed_of x
     else if x.cause == 4 then output_too_large_of x
     else if x.cause == 5 then source_fault_of x
-    else if x.cause == 6 then Ok (causes.Stopped untold)
-    else if x.cause == 7 then Ok causes.NoMemory
     else bad_reply
 
+-- one fault at least
 unfoldable pub call_failed_of : EndMessage → Result RemoteCause ReplyFault
-call_failed_of x = do
-  faults ← faults_in x.faults
-  Ok (remotes.CallFailed faults)
+call_failed_of x =
+    if length x.faults == 0 then bad_reply
+    else do
+      faults ← faults_in x.faults
+      Ok (remotes.CallFailed faults)
 
 -- a message with a digest alone
 abbrev pub digest_alone : SeenMessage → Result Digest ReplyFault
@@ -248,17 +244,16 @@ remote_source_fault_of x = do
   path ← own_path x.path
   Ok (remotes.SourceFault path)
 
+-- 5 and 10 are written and not read
 unfoldable pub remote_cause_of : EndMessage → Result RemoteCause ReplyFault
 remote_cause_of x =
     if x.cause == 1 then call_failed_of x
     else if x.cause == 2 then bad_blob_of x
     else if x.cause == 3 then bad_result_of x
     else if x.cause == 4 then Ok remotes.OperationsSpent
-    else if x.cause == 5 then Ok (remotes.Stopped untold)
     else if x.cause == 6 then remote_input_changed_of x
     else if x.cause == 8 then wrong_version_of x
     else if x.cause == 9 then remote_source_fault_of x
-    else if x.cause == 10 then Ok remotes.NoMemory
     else bad_reply
 
 -- an exit code, in two's complement of 64 bits

@@ -5,6 +5,7 @@ pub mod Ends
 pub mod Frames
 pub mod Jobs
 pub mod Messages
+pub mod Packed
 pub mod Parts
 pub mod PathTexts
 pub mod Replies

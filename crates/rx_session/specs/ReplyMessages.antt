@@ -3,7 +3,7 @@ use Rattle.std.specs.Prelude.{ℕ, ◌==◌, List, ◌++◌, Result, Ok, IfSome,
 use Rattle.std.specs.List.{AllByRecursion}
 use Rattle.rx_base.specs.Results.{◌>>=◌}
 use Rattle.rx_wire.specs.Values.{Field}
-use Rattle.rx_codec.specs.Contents.{each_in, each_put, int32_in, int32_put, joined_in, number_in, number_put, one_in, one_put, text_in, text_put, truth_in, truth_put}
+use Rattle.rx_codec.specs.Contents.{each_in, each_put, int32_in, int32_put, joined_in, number_in, number_put, one_in, one_put, text_in, text_put}
 use Rattle.rx_codec.specs.Digests.{digest_fields, digest_from, digest_is_readable, digest_parts}
 use Rattle.rx_codec.specs.FieldBytes.{contents, numbered}
 use Rattle.rx_codec.specs.Parts.{Part, anything, message, text}
@@ -24,7 +24,7 @@ seen_message_fields x =
     ++ numbered 3 (number_put x.mark_high)
     ++ numbered 4 (number_put x.mark_low)
     ++ numbered 5 (one_put digest_fields x.digest)
-    ++ numbered 6 (truth_put x.executable)
+    ++ numbered 6 (number_put x.executable)
 
 unfoldable pub seen_message_from : List Field → Result SeenMessage MessageFault
 seen_message_from fields = do
@@ -35,7 +35,7 @@ seen_message_from fields = do
     mark_high = number_in (contents 3 fields);
     mark_low = number_in (contents 4 fields);
     digest = digest;
-    executable = truth_in (contents 6 fields);
+    executable = number_in (contents 6 fields);
   })
 
 -- the digest's size is below 2^63

@@ -1,8 +1,9 @@
 -- Which reply a message is, and which payload.
-use Rattle.std.specs.Prelude.{◌≡◌, ℕ, pos, ◌==◌, ◌&&◌, Bool, not, List, [], ◌∷◌, length, Option, None, Some, is_none, Result, Ok, if◌then◌else◌}
+use Rattle.std.specs.Prelude.{◌≡◌, ℕ, pos, ◌==◌, ◌&&◌, Bool, not, List, [], ◌∷◌, length, Option, None, Some, is_none, Result, Ok, Err, if◌then◌else◌}
 use Rattle.std.specs.Ordering.{int_eq}
 use Rattle.rx_base.specs.Results.{◌>>=◌}
 use Rattle.rx_codec.specs.Decoding.{any_form, decoded}
+use Rattle.rx_wire.specs.declared.faults.WireFault.{WireFault}
 use Rattle.rx_world.specs.declared.attempts.Failure.{Failure}
 use Rattle.rx_world.specs.declared.refusals.Limit.{Limit}
 use Rattle.rx_world.specs.declared.refusals.Limit.TheVariants as limits
@@ -13,8 +14,10 @@ use Rattle.rx_session.specs.declared.in_place.InPlaceCause.TheVariants as places
 use Rattle.rx_session.specs.declared.replies.Reply.{Reply}
 use Rattle.rx_session.specs.declared.replies.Reply.TheVariants as replies
 use Rattle.rx_session.specs.declared.reply_fault.ReplyFault.{ReplyFault}
+use Rattle.rx_session.specs.declared.reply_fault.ReplyFault.TheVariants.{BadReply, NoMemory, Wire}
 use Rattle.rx_session.specs.declared.reply_message.ReplyMessage.{ReplyMessage}
 use Rattle.rx_session.specs.Ends.{allows, failure_of}
+use Rattle.rx_session.specs.Packed.{packed_checked}
 use Rattle.rx_session.specs.PathTexts.{own_path}
 use Rattle.rx_session.specs.Replies.{cancel_of, limit_of, message_of, origin_of, reason_of}
 use Rattle.rx_session.specs.ReplyFaults.{bad_reply, or_bad_reply}
@@ -83,15 +86,15 @@ path_cause_of x = do
   Ok (locals.Path path)
 
 -- reason 1 and a word, or reason 2 and a path
-unfoldable pub local_cause_of : ReplyMessage → Result LocalCause ReplyFault
-local_cause_of x =
+unfoldable pub reply_local_cause_of : ReplyMessage → Result LocalCause ReplyFault
+reply_local_cause_of x =
     if x.reason == 1 then Ok (locals.Word x.path)
     else if x.reason == 2 then path_cause_of x
     else bad_reply
 
 unfoldable pub not_remotable_of : ReplyMessage → Result Reply ReplyFault
 not_remotable_of x = do
-  cause ← local_cause_of x
+  cause ← reply_local_cause_of x
   Ok (replies.NotRemotable cause)
 
 unfoldable pub input_missing_of : ReplyMessage → Result Reply ReplyFault
@@ -174,7 +177,7 @@ unfoldable pub kept_of : ReplyMessage → Result Reply ReplyFault
 kept_of x =
     if not (x.value == 0) then bad_reply
     else do
-      cause ← local_cause_of x
+      cause ← reply_local_cause_of x
       Ok (replies.InPlace (places.Kept cause))
 
 -- a limit has no text beside its number
@@ -211,11 +214,22 @@ reply_by_kind x =
 unfoldable pub reply_by : ReplyMessage → Result Reply ReplyFault
 reply_by x = if not (reply_has_only (reply_fields x.kind) x) then bad_reply else reply_by_kind x
 
+-- why a payload is no reply's: a packed number that is cut, or too long, is told by its place
+abbrev pub refusal_by : Result (Unit {0}) WireFault → ReplyFault
+refusal_by (Ok x) = BadReply
+refusal_by (Err fault) = Wire fault
+
+abbrev pub or_refusal : List ℕ → Result Reply ReplyFault → Result Reply ReplyFault
+or_refusal payload (Ok reply) = Ok reply
+or_refusal payload (Err BadReply) = Err (refusal_by (packed_checked payload))
+or_refusal payload (Err (Wire fault)) = Err (Wire fault)
+or_refusal payload (Err NoMemory) = Err NoMemory
+
 -- the reply in a payload
 unfoldable pub reply_of : List ℕ → Result Reply ReplyFault
 reply_of payload = do
   message ← or_bad_reply (decoded reply_message_parts reply_message_from any_form payload)
-  reply_by message
+  or_refusal payload (reply_by message)
 
 -- the payload is a message whose fields are those of the reply
 abbrev pub HasFields : List ℕ → Reply → Type 0

@@ -1,5 +1,5 @@
 -- What a reply's message tells of it: which replies are read again as they were written, and what of a reply isn't told.
-use Rattle.std.specs.Prelude.{◌≤◌, ℕ, List, [], ◌∷◌, map, Option, IfSome, IsSome, IsNone}
+use Rattle.std.specs.Prelude.{◌≢◌, ◌≤◌, ℕ, List, [], ◌∷◌, map, Option, IfSome, IsSome, IsNone}
 use Rattle.std.specs.List.{AllByRecursion}
 use Rattle.rx_codec.specs.Digests.{digest_is_readable}
 use Rattle.rx_world.specs.declared.attempts.Cause.{Cause}
@@ -14,35 +14,24 @@ use Rattle.rx_world.specs.declared.remote_causes.RemoteCause.TheVariants as remo
 use Rattle.rx_session.specs.declared.replies.Reply.{Reply}
 use Rattle.rx_session.specs.declared.replies.Reply.TheVariants as replies
 use Rattle.rx_session.specs.CallFaults.{IsOfCall, told_fault}
-use Rattle.rx_session.specs.Ends.{untold}
 use Rattle.rx_session.specs.Seen.{DigestsFit}
 
 -- ---- what isn't told
 
--- which decision stopped an attempt
-abbrev pub told_cause : Cause → Cause
-told_cause (causes.BenchFault step) = causes.BenchFault step
-told_cause (causes.OutputMissing path) = causes.OutputMissing path
-told_cause (causes.InputChanged input) = causes.InputChanged input
-told_cause (causes.OutputTooLarge limit n) = causes.OutputTooLarge limit n
-told_cause (causes.SourceFault path) = causes.SourceFault path
-told_cause (causes.Stopped decision) = causes.Stopped untold
-told_cause causes.NoMemory = causes.NoMemory
-
--- that, and of a fault of a call all but its number
+-- of a fault of a call all but its number
 abbrev pub told_remote_cause : RemoteCause → RemoteCause
 told_remote_cause (remotes.CallFailed faults) = remotes.CallFailed (map told_fault faults)
 told_remote_cause (remotes.BadBlob expected got) = remotes.BadBlob expected got
 told_remote_cause (remotes.BadResult fault) = remotes.BadResult fault
 told_remote_cause remotes.OperationsSpent = remotes.OperationsSpent
-told_remote_cause (remotes.Stopped decision) = remotes.Stopped untold
+told_remote_cause (remotes.Stopped decision) = remotes.Stopped decision
 told_remote_cause (remotes.InputChanged input) = remotes.InputChanged input
 told_remote_cause (remotes.WrongVersion low high) = remotes.WrongVersion low high
 told_remote_cause (remotes.SourceFault path) = remotes.SourceFault path
 told_remote_cause remotes.NoMemory = remotes.NoMemory
 
 abbrev pub told_failure : Failure → Failure
-told_failure (failures.Local cause) = failures.Local (told_cause cause)
+told_failure (failures.Local cause) = failures.Local cause
 told_failure (failures.Remote cause) = failures.Remote (told_remote_cause cause)
 told_failure (failures.NonZero exit) = failures.NonZero exit
 
@@ -69,26 +58,27 @@ told (replies.InPlace cause) = replies.InPlace cause
 abbrev pub changed_is_readable : ChangedInput → Type 0
 changed_is_readable input = DigestsFit input × IfSome input.first.digest digest_is_readable × IfSome input.second.digest digest_is_readable
 
+-- no attempt that was stopped, or had no memory, is told as an end
 abbrev pub cause_is_readable : Cause → Type 0
 cause_is_readable (causes.BenchFault step) = Unit {0}
 cause_is_readable (causes.OutputMissing path) = Unit {0}
 cause_is_readable (causes.InputChanged input) = changed_is_readable input
 cause_is_readable (causes.OutputTooLarge limit n) = Unit {0}
 cause_is_readable (causes.SourceFault path) = Unit {0}
-cause_is_readable (causes.Stopped decision) = Unit {0}
-cause_is_readable causes.NoMemory = Unit {0}
+cause_is_readable (causes.Stopped decision) = ⊥
+cause_is_readable causes.NoMemory = ⊥
 
--- no want of memory stands among the faults of calls
+-- nor here; and there is a fault of a call, and no want of memory stands among them
 abbrev pub remote_cause_is_readable : RemoteCause → Type 0
-remote_cause_is_readable (remotes.CallFailed faults) = AllByRecursion IsOfCall faults
+remote_cause_is_readable (remotes.CallFailed faults) = (faults ≢ []) × AllByRecursion IsOfCall faults
 remote_cause_is_readable (remotes.BadBlob expected got) = digest_is_readable expected × digest_is_readable got
 remote_cause_is_readable (remotes.BadResult fault) = Unit {0}
 remote_cause_is_readable remotes.OperationsSpent = Unit {0}
-remote_cause_is_readable (remotes.Stopped decision) = Unit {0}
+remote_cause_is_readable (remotes.Stopped decision) = ⊥
 remote_cause_is_readable (remotes.InputChanged input) = changed_is_readable input
 remote_cause_is_readable (remotes.WrongVersion low high) = Unit {0}
 remote_cause_is_readable (remotes.SourceFault path) = Unit {0}
-remote_cause_is_readable remotes.NoMemory = Unit {0}
+remote_cause_is_readable remotes.NoMemory = ⊥
 
 abbrev pub failure_is_readable : Failure → Type 0
 failure_is_readable (failures.Local cause) = cause_is_readable cause

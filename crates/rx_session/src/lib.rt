@@ -15,6 +15,7 @@ mod in_place;
 mod jobs;
 mod local_ends;
 mod output_rules;
+mod packed;
 mod pair_message;
 mod path_texts;
 mod paths_in;

@@ -12,7 +12,7 @@ use crate::path_texts::{path_text, read_path};
 use crate::reply_fault::ReplyFault;
 use crate::seen_values::{read_changed, seen_message};
 use rx_base::{Bytes, NoMemory, RelPath, Text};
-use rx_world::{BenchStep, Cause, ChangedInput, Decision, OutputLimit};
+use rx_world::{BenchStep, Cause, ChangedInput, OutputLimit};
 use std::alloc::Global;
 
 /// A local attempt.
@@ -208,7 +208,7 @@ fn source_fault_of(alloc: Global, end: &EndMessage) -> Result<Cause, ReplyFault>
     Ok(Cause::SourceFault { path })
 }
 
-/// Why a local attempt has no outcome. Which decision stopped it isn't told.
+/// Why a local attempt has no outcome. No reply has one that was stopped, or that had no memory.
 #[tactic(auto, unfolding(crate::specs::Ends::local_cause_of))]
 pub(crate) fn local_cause_of(alloc: Global, end: &EndMessage) -> Result<Cause, ReplyFault>
     ensures { Gives NoMemory (λ cause. cause) result (local_cause_of end.now) }
@@ -219,10 +219,6 @@ pub(crate) fn local_cause_of(alloc: Global, end: &EndMessage) -> Result<Cause, R
         INPUT_CHANGED => input_changed_of(alloc, end),
         OUTPUT_TOO_LARGE => output_too_large_of(end),
         SOURCE_FAULT => source_fault_of(alloc, end),
-        STOPPED => Ok(Cause::Stopped {
-            decision: Decision::Undecided,
-        }),
-        NO_MEMORY => Ok(Cause::NoMemory),
         _ => Err(ReplyFault::BadReply),
     }
 }

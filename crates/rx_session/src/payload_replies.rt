@@ -3,7 +3,7 @@
 ghost use Rattle.std.specs.Prelude.{◌≡◌};
 ghost use Rattle.rx_base.specs.Results.{Gives};
 ghost use Rattle.rx_session.specs.Replies.{origin_of};
-ghost use Rattle.rx_session.specs.ReplyReading.{all_failed_of, bad_request_of, blocked_of, cancelled_of, done_of, failures_of, first_fields_are, input_missing_of, last_fields_are, local_cause_of, not_remotable_of, one_failure, path_cause_of, place_fault_of, receipt_of, reply_by, reply_by_kind, reply_fields, reply_has_only, reply_input_changed_of, reply_source_fault_of, too_large_of, two_failures};
+ghost use Rattle.rx_session.specs.ReplyReading.{all_failed_of, bad_request_of, blocked_of, cancelled_of, done_of, failures_of, first_fields_are, input_missing_of, last_fields_are, not_remotable_of, one_failure, path_cause_of, place_fault_of, receipt_of, reply_by, reply_by_kind, reply_fields, reply_has_only, reply_input_changed_of, reply_local_cause_of, reply_source_fault_of, too_large_of, two_failures};
 ghost use Rattle.rx_session.specs.declared.reply_fault.ReplyFault.TheVariants.{NoMemory};
 
 use crate::bad::Bad;
@@ -146,9 +146,9 @@ fn path_cause_of(alloc: Global, message: &ReplyMessage) -> Result<LocalCause, Re
 }
 
 /// Reason 1 and a word, or reason 2 and a path.
-#[tactic(auto, unfolding(crate::specs::ReplyReading::local_cause_of))]
+#[tactic(auto, unfolding(crate::specs::ReplyReading::reply_local_cause_of))]
 pub(crate) fn local_cause_of(alloc: Global, message: ReplyMessage) -> Result<LocalCause, ReplyFault>
-    ensures { Gives NoMemory (λ cause. cause) result (local_cause_of message) }
+    ensures { Gives NoMemory (λ cause. cause) result (reply_local_cause_of message) }
 {
     match message.reason {
         WORD => Ok(LocalCause::Word { word: message.path }),

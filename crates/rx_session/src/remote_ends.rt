@@ -17,7 +17,7 @@ use crate::seen_values::{is_no_file, nothing_seen, read_changed};
 use crate::version_numbers::read_versions;
 use crate::version_text::versions_text;
 use rx_base::{Digest, NoMemory};
-use rx_world::{CallFault, Decision, RemoteCause, ResultFault, SemVer};
+use rx_world::{CallFault, RemoteCause, ResultFault, SemVer};
 use std::alloc::Global;
 
 /// A remote attempt.
@@ -146,6 +146,9 @@ pub(crate) fn remote_fields(cause: u64) -> &'static [u32]
 fn call_failed_of(alloc: Global, end: &EndMessage) -> Result<RemoteCause, ReplyFault>
     ensures { Gives NoMemory (λ cause. cause) result (call_failed_of end.now) }
 {
+    if end.faults.is_empty() {
+        return Err(ReplyFault::BadReply);
+    }
     let faults = read_faults(alloc, end.faults.as_slice())?;
     Ok(RemoteCause::CallFailed { faults })
 }
@@ -204,7 +207,7 @@ fn remote_source_fault_of(alloc: Global, end: &EndMessage) -> Result<RemoteCause
     Ok(RemoteCause::SourceFault { path })
 }
 
-/// Why a remote attempt has no outcome. Which decision stopped it isn't told.
+/// Why a remote attempt has no outcome. No reply has one that was stopped, or that had no memory.
 #[tactic(auto, unfolding(crate::specs::Ends::remote_cause_of))]
 pub(crate) fn remote_cause_of(alloc: Global, end: &EndMessage) -> Result<RemoteCause, ReplyFault>
     ensures { Gives NoMemory (λ cause. cause) result (remote_cause_of end.now) }
@@ -214,13 +217,9 @@ pub(crate) fn remote_cause_of(alloc: Global, end: &EndMessage) -> Result<RemoteC
         BAD_BLOB => bad_blob_of(end),
         BAD_RESULT => bad_result_of(end),
         OPERATIONS_SPENT => Ok(RemoteCause::OperationsSpent),
-        STOPPED => Ok(RemoteCause::Stopped {
-            decision: Decision::Undecided,
-        }),
         INPUT_CHANGED => remote_input_changed_of(alloc, end),
         WRONG_VERSION => wrong_version_of(alloc, end),
         SOURCE_FAULT => remote_source_fault_of(alloc, end),
-        NO_MEMORY => Ok(RemoteCause::NoMemory),
         _ => Err(ReplyFault::BadReply),
     }
 }

@@ -1,17 +1,20 @@
 //! What a session answers, and its payload.
 
-ghost use Rattle.std.specs.Prelude.{◌≡◌, IfOk, Ok};
+ghost use Rattle.std.specs.Prelude.{◌≡◌, IfOk, Ok, Result};
 ghost use Rattle.rx_base.specs.Results.{Gives};
 ghost use Rattle.rx_session.specs.Replies.{payload_of};
-ghost use Rattle.rx_session.specs.ReplyReading.{HasFields, reply_of};
+ghost use Rattle.rx_session.specs.Packed.{packed_checked};
+ghost use Rattle.rx_session.specs.ReplyReading.{HasFields, or_refusal, refusal_by, reply_of};
 ghost use Rattle.rx_session.specs.Told.{reply_is_readable, told};
 ghost use Rattle.rx_session.specs.Typed.{reply_is_typed};
 ghost use Rattle.rx_session.specs.declared.replies.Reply.{Reply};
+ghost use Rattle.rx_session.specs.declared.reply_fault.ReplyFault.{ReplyFault};
 ghost use Rattle.rx_session.specs.declared.reply_fault.ReplyFault.TheVariants.{NoMemory};
 
 use crate::bad::Bad;
 use crate::cancels::CancelReason;
 use crate::in_place::InPlaceCause;
+use crate::packed::check_packed;
 use crate::payload_replies::reply_by;
 use crate::payloads::message_of;
 use crate::reply_fault::ReplyFault;
@@ -99,7 +102,7 @@ impl Reply {
     }
 
     /// The reply in a payload. Of a fault of a call its digest and its place aren't told, and are
-    /// read as zeros; the decision that stopped an attempt isn't told, and is read as `Undecided`.
+    /// read as zeros. An end of an attempt that was stopped, or that had no memory, is refused.
     pub fn decode(alloc: Global, payload: &[u8]) -> Result<Reply, ReplyFault>
         ensures exact { Gives NoMemory (λ reply. reply) result (reply_of payload.now) }
         // Whatever has the fields of a reply is read as that reply, as far as it is told.
@@ -116,9 +119,32 @@ fn decode_exactly(alloc: Global, payload: &[u8]) -> Result<Reply, ReplyFault>
     ensures { Gives NoMemory (λ reply. reply) result (reply_of payload.now) }
 {
     match ReplyMessage::decode(alloc, payload) {
-        Ok(message) => reply_by(alloc, message),
+        Ok(message) => or_refusal(payload, reply_by(alloc, message)),
         Err(MessageFault::Wire(fault)) => Err(ReplyFault::Wire(fault)),
         Err(MessageFault::NoMemory) => Err(ReplyFault::NoMemory),
         Err(_) => Err(ReplyFault::BadReply),
+    }
+}
+
+/// Why a payload is no reply's: a packed number that is cut, or too long, is told by its place.
+fn refusal_in(payload: &[u8]) -> ReplyFault
+    ensures { result ≡ refusal_by (packed_checked payload.now) }
+{
+    match check_packed(payload) {
+        Ok(()) => ReplyFault::BadReply,
+        Err(fault) => ReplyFault::Wire(fault),
+    }
+}
+
+/// The reply of a payload, or why it is none.
+fn or_refusal(payload: &[u8], reply: Result<Reply, ReplyFault>) -> Result<Reply, ReplyFault>
+    ensures { (given : Result Reply ReplyFault) → Gives NoMemory (λ reply. reply) reply given →
+        Gives NoMemory (λ reply. reply) result (or_refusal payload.now given) }
+{
+    match reply {
+        Ok(reply) => Ok(reply),
+        Err(ReplyFault::BadReply) => Err(refusal_in(payload)),
+        Err(ReplyFault::Wire(fault)) => Err(ReplyFault::Wire(fault)),
+        Err(ReplyFault::NoMemory) => Err(ReplyFault::NoMemory),
     }
 }

@@ -11,7 +11,8 @@ use thiserror::Error;
 /// Why bytes are no reply's payload, or could not be read. What the wire format refuses comes first.
 #[derive(Clone, Copy, Debug, PartialEq, Eq, Error)]
 pub enum ReplyFault {
-    /// The bytes are no fields, or a text is not UTF-8. Offsets count in the payload.
+    /// The bytes are no fields, or a text is not UTF-8; or, in a payload that is no reply's, a packed
+    /// number is cut, or too long. Offsets count in the payload.
     #[error("{0}")]
     Wire(WireFault),
     /// No reply has these field values.

@@ -21,7 +21,8 @@ pub struct SeenMessage {
     /// The lower 64 bits of the stamp's mark.
     pub mark_low: u64,
     pub digest: Option<Digest>,
-    pub executable: bool,
+    /// 0 or 1.
+    pub executable: u64,
 }
 
 impl Shape for SeenMessage {
@@ -62,7 +63,7 @@ impl Message for SeenMessage {
             mark_high: list.number(seen::MARK_HIGH),
             mark_low: list.number(seen::MARK_LOW),
             digest,
-            executable: list.truth(seen::EXECUTABLE),
+            executable: list.number(seen::EXECUTABLE),
         })
     }
 
@@ -73,7 +74,7 @@ impl Message for SeenMessage {
         out.number(seen::MARK_HIGH, self.mark_high)?;
         out.number(seen::MARK_LOW, self.mark_low)?;
         out.message(alloc, seen::DIGEST, &self.digest)?;
-        out.truth(seen::EXECUTABLE, self.executable)
+        out.number(seen::EXECUTABLE, self.executable)
     }
 
     fn has_one_form(&self, alloc: Global, bytes: &[u8]) -> Result<bool, NoMemory> {

@@ -32,7 +32,7 @@ pub(crate) fn nothing_seen() -> SeenMessage
         mark_high: 0,
         mark_low: 0,
         digest: None,
-        executable: false,
+        executable: 0,
     }
 }
 
@@ -48,7 +48,7 @@ fn look_message(look: Look) -> SeenMessage
             mark_high: (stamp.mark / HALF_MARK) as u64,
             mark_low: (stamp.mark % HALF_MARK) as u64,
             digest: None,
-            executable,
+            executable: u64::from(executable),
         },
         Look::Dir => SeenMessage {
             kind: DIRECTORY,
@@ -76,21 +76,25 @@ pub(crate) fn seen_message(seen: &Seen) -> SeenMessage
 pub(crate) fn is_no_file(message: &SeenMessage) -> bool
     ensures { result ≡ is_no_file message.now }
 {
-    message.size == 0 && message.mark_high == 0 && message.mark_low == 0 && !message.executable
+    message.size == 0 && message.mark_high == 0 && message.mark_low == 0 && message.executable == 0
 }
 
-/// The file of a message.
-fn file_of(message: &SeenMessage) -> Look
+/// The file of a message, where executable is 0 or 1.
+#[tactic(auto, unfolding(crate::specs::Seen::file_of))]
+fn file_of(message: &SeenMessage) -> Result<Look, ReplyFault>
     ensures { result ≡ file_of message.now }
 {
+    if message.executable > 1 {
+        return Err(ReplyFault::BadReply);
+    }
     let stamp = Stamp {
         size: message.size,
         mark: u128::from(message.mark_high) * HALF_MARK + u128::from(message.mark_low),
     };
-    Look::File {
+    Ok(Look::File {
         stamp,
-        executable: message.executable,
-    }
+        executable: message.executable == 1,
+    })
 }
 
 /// The look of a message. Only a file has a size, a mark and a bit to be executed.
@@ -99,7 +103,7 @@ fn look_of(message: &SeenMessage) -> Result<Look, ReplyFault>
     ensures { result ≡ look_of message.now }
 {
     if message.kind == FILE {
-        return Ok(file_of(message));
+        return file_of(message);
     }
     if !is_no_file(message) {
         return Err(ReplyFault::BadReply);

@@ -1,6 +1,6 @@
 use Rattle.std.proofs.Common.{refl}
 use Rattle.std.proofs.lemmas.List.{append-nil}
-use Rattle.rx_codec.proofs.ContentLaws.{contents-append, contents-numbered, number_again, truth_again}
+use Rattle.rx_codec.proofs.ContentLaws.{contents-append, contents-numbered, number_again}
 use Rattle.rx_session.specs.ReplyMessages.{seen_message_fields, seen_message_from}
 use Rattle.rx_session.proofs.seen_message.SeenMessageMessage.write.Goals as goal
 
@@ -15,6 +15,6 @@ returns-clause-again c = λ ok can.
       number_again x.mark_high,
       number_again x.mark_low,
       c.in_ok-message.ensures.again refl can,
-      truth_again x.executable,
+      number_again x.executable,
     ) refl
     )
