@@ -1,19 +1,23 @@
--- What a client asks of the proxy.
-use Rattle.std.specs.Prelude.{ℕ, List, [], ◌∷◌, true, Option, Some, None, Result, Ok, Err, codes, if◌then◌else◌}
-use Rattle.std.specs.List.{filter_map, find}
-use Rattle.std.specs.Str.{bytes_eq}
+-- What a client is to do.
+use Rattle.std.specs.Prelude.{ℕ, List, [], ◌∷◌, Bool, true, not, ◌&&◌, Option, Some, None, Result, Ok, Err, codes, if◌then◌else◌}
 use Rattle.rx_base.specs.Results.{◌>>=◌}
 use Rattle.rx_session.specs.declared.requests.Request.{Request}
-use Rattle.rx_world.specs.declared.commands.Pair.{Pair}
+use Rattle.rx_wrap.specs.Called.{Called}
+use Rattle.rx_wrap.specs.Choices.{is_compile}
 use Rattle.rx_wrap.specs.Commas.{listed}
-use Rattle.rx_wrap.specs.Directories.{below}
+use Rattle.rx_wrap.specs.Directories.{below, trimmed}
 use Rattle.rx_wrap.specs.RelativePaths.{relative_words}
 use Rattle.rx_wrap.specs.Settings.{Setting, Settings, setting_of}
-use Rattle.rx_wrap.specs.Values.{or_fault, text_of, values_in}
+use Rattle.rx_wrap.specs.Values.{text_of, values_in}
+use Rattle.rx_wrap.specs.Variables.{environment_of}
 use Rattle.rx_wrap.specs.declared.asked.Asked.{Asked}
+use Rattle.rx_wrap.specs.declared.asked.Errand.{Errand}
 use Rattle.rx_wrap.specs.declared.asked.Errand.TheVariants.{Run, ShutDown}
 use Rattle.rx_wrap.specs.declared.flags.Flag.{Flag}
 use Rattle.rx_wrap.specs.declared.flags.Flag.TheVariants.{ExecRoot, Inputs, ToolchainInputs, OutputFiles, EnvironmentAllowlist}
+use Rattle.rx_wrap.specs.declared.jobs.Job.{Job}
+use Rattle.rx_wrap.specs.declared.jobs.Task.{Task}
+use Rattle.rx_wrap.specs.declared.jobs.Task.TheVariants.{Ask, RunInPlace}
 use Rattle.rx_wrap.specs.declared.usage_fault.UsageFault.{UsageFault}
 use Rattle.rx_wrap.specs.declared.usage_fault.UsageFault.TheVariants.{Word}
 use Rattle.rx_wrap.specs.declared.values.Values.{Values}
@@ -22,41 +26,38 @@ use Rattle.rx_wrap.specs.declared.values.Values.{Values}
 abbrev pub items_of : Flag → Settings → List (List ℕ)
 items_of flag settings = listed (text_of flag settings)
 
--- the first variable of a name
-abbrev pub variable_named : List Pair → List ℕ → Option Pair
-variable_named variables name = find (λ (variable : Pair). bytes_eq variable.name name) variables
-
--- the variables of these names, as far as they are set, in the order of the names
-abbrev pub variables_named : List Pair → List (List ℕ) → List Pair
-variables_named variables names = filter_map (variable_named variables) names
-
 -- there is a command
 abbrev pub command_in : List (List ℕ) → Result (List (List ℕ)) UsageFault
 command_in [] = Err (Word (codes "command"))
 command_in (word ∷ words) = Ok (word ∷ words)
 
+-- the root as it is compared and sent: as the system resolves it, or else its text without a slash at its end
+abbrev pub root_text : List ℕ → Option (List ℕ) → List ℕ
+root_text given (Some resolved) = resolved
+root_text given None = trimmed given
+
 -- the root is given
-abbrev pub root_by : Option Setting → Result (List ℕ) UsageFault
-root_by (Some given) = Ok given.value
-root_by None = Err (Word (codes "exec_root"))
+abbrev pub root_by : Option Setting → Option (List ℕ) → Result (List ℕ) UsageFault
+root_by (Some given) resolved = Ok (root_text given.value resolved)
+root_by None resolved = Err (Word (codes "exec_root"))
 
-abbrev pub root_in : Settings → Result (List ℕ) UsageFault
-root_in settings = root_by (setting_of ExecRoot settings)
+abbrev pub root_in : Settings → Option (List ℕ) → Result (List ℕ) UsageFault
+root_in settings resolved = root_by (setting_of ExecRoot settings) resolved
 
--- the working directory is the root, or below it
-abbrev pub directory_in : List ℕ → List ℕ → Result (List ℕ) UsageFault
-directory_in root directory = or_fault (codes "exec_root") (below root directory)
+-- a compile step that the proxy can't take runs in place
+abbrev pub runs_in_place : Values → Bool
+runs_in_place values = is_compile values.kind && values.in_place
 
 -- the words as they are sent
 abbrev pub words_of : Values → List ℕ → List ℕ → List (List ℕ) → List (List ℕ)
 words_of values root directory command =
     if values.relative_paths then relative_words root directory command else command
 
-abbrev pub request_of : Values → Settings → List (List ℕ) → List Pair → List ℕ → List ℕ → Request
-request_of values settings command variables root directory = record {
+abbrev pub request_of : Values → Settings → Called → List ℕ → List ℕ → Request
+request_of values settings called root directory = record {
   root = root;
-  words = words_of values root directory command;
-  environment = variables_named variables (items_of EnvironmentAllowlist settings);
+  words = words_of values root directory called.command;
+  environment = environment_of values.kind called.variables (items_of EnvironmentAllowlist settings);
   working_directory = directory;
   strategy = values.strategy;
   kind = values.kind;
@@ -67,29 +68,40 @@ request_of values settings command variables root directory = record {
   accept_cached = values.accept_cached;
   watch = true;
   timeout_seconds = values.timeout_seconds;
+  in_place = runs_in_place values;
 }
 
--- the request, or the first of: no command, no root, a working directory outside of it
-unfoldable pub request_by : Values → Settings → List (List ℕ) → List Pair → List ℕ → Result Request UsageFault
-request_by values settings command variables directory = do
-  words ← command_in command
-  root ← root_in settings
-  working_directory ← directory_in root directory
-  Ok (request_of values settings words variables root working_directory)
+-- the working directory isn't at or below the root
+abbrev pub task_outside : Values → Result Task UsageFault
+task_outside values = if runs_in_place values then Ok RunInPlace else Err (Word (codes "exec_root"))
 
-abbrev pub run_by : Values → Result Request UsageFault → Result Asked UsageFault
-run_by values request = do
-  request ← request
-  Ok (record { address = values.address; errand = Run request })
+abbrev pub asks : Values → Errand → Task
+asks values errand = Ask (record { address = values.address; errand = errand })
 
--- what is asked, after all values were read
-abbrev pub asked_by : Values → Settings → List (List ℕ) → List Pair → List ℕ → Result Asked UsageFault
-asked_by values settings command variables directory =
-    if values.shuts_down then Ok (record { address = values.address; errand = ShutDown })
-    else run_by values (request_by values settings command variables directory)
+abbrev pub task_in : Values → Settings → Called → List ℕ → Option (List ℕ) → Result Task UsageFault
+task_in values settings called root (Some directory) = Ok (asks values (Run (request_of values settings called root directory)))
+task_in values settings called root None = task_outside values
 
--- What a client asks for by its settings, its command, its environment and its working directory; or the word at fault.
-unfoldable pub asked_of : Settings → List (List ℕ) → List Pair → List ℕ → Result Asked UsageFault
-asked_of settings command variables directory = do
+-- the proxy is asked, unless the directory is outside of the root; or the first of: no command, no root, that directory
+unfoldable pub task_by : Values → Settings → Called → Result Task UsageFault
+task_by values settings called = do
+  words ← command_in called.command
+  root ← root_in settings called.root
+  task_in values settings called root (below root called.directory)
+
+-- the end of a proxy needs neither a command nor a root
+abbrev pub task_of : Values → Settings → Called → Result Task UsageFault
+task_of values settings called = if values.shuts_down then Ok (asks values ShutDown) else task_by values settings called
+
+-- What a client is to do by its settings, and by how it was called; or the word at fault.
+unfoldable pub job_of : Settings → Called → Result Job UsageFault
+job_of settings called = do
   values ← values_in settings
-  asked_by values settings command variables directory
+  task ← task_of values settings called
+  Ok (record {
+    task = task;
+    command = called.command;
+    directory = called.directory;
+    without_proxy = values.without_proxy && not values.shuts_down;
+    verbose = values.verbose;
+  })

@@ -32,9 +32,20 @@ truth_named word =
     else if bytes_eq word (codes "False") then Some false
     else None
 
+-- whether a command runs in place where there is no proxy
+unfoldable pub unproxied_named : List ℕ → Option Bool
+unproxied_named word =
+    if bytes_eq word (codes "refuse") then Some false
+    else if bytes_eq word (codes "in_place") then Some true
+    else None
+
 -- `type=compile`; every other type is a tool
 abbrev pub kind_named : List ℕ → Kind
 kind_named word = if bytes_eq word (codes "compile") then kinds.Compile else kinds.Tool
+
+abbrev pub is_compile : Kind → Bool
+is_compile kinds.Compile = true
+is_compile kinds.Tool = false
 
 -- the kind after one more label
 abbrev pub with_label : Kind → Pair → Kind

@@ -9,6 +9,10 @@ use Rattle.rx_wrap.specs.Cuts.{stripped}
 abbrev pub unslashed : List ℕ → List ℕ
 unslashed directory = strip_last 47 directory
 
+-- the same, but for the root of the system
+abbrev pub trimmed : List ℕ → List ℕ
+trimmed directory = if bytes_eq directory (codes "/") then directory else unslashed directory
+
 abbrev pub below_by : List ℕ → List ℕ → Option (List ℕ)
 below_by directory path =
     if bytes_eq path directory then Some []

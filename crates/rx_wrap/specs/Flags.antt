@@ -4,7 +4,7 @@ use Rattle.std.specs.Str.{bytes_eq}
 use denote.Enum.Bare.{sameb}
 use Rattle.rx_wrap.specs.contracts.flags.Flag.{the_type}
 use Rattle.rx_wrap.specs.declared.flags.Flag.{Flag}
-use Rattle.rx_wrap.specs.declared.flags.Flag.TheVariants.{Config, ServerAddress, ExecRoot, ExecStrategy, Labels, Inputs, ToolchainInputs, OutputFiles, Platform, EnvironmentAllowlist, AcceptCached, ExecTimeout, ShutdownProxy, RelativePaths}
+use Rattle.rx_wrap.specs.declared.flags.Flag.TheVariants.{Config, ServerAddress, ExecRoot, ExecStrategy, Labels, Inputs, ToolchainInputs, OutputFiles, Platform, EnvironmentAllowlist, AcceptCached, ExecTimeout, ShutdownProxy, RelativePaths, InPlace, WithoutProxy, Verbose}
 
 -- whether two flags are one
 abbrev pub is_same : Flag → Flag → Bool
@@ -26,6 +26,9 @@ flag_named name =
     else if bytes_eq name (codes "exec_timeout") then Some ExecTimeout
     else if bytes_eq name (codes "shutdown_proxy") then Some ShutdownProxy
     else if bytes_eq name (codes "relative_paths") then Some RelativePaths
+    else if bytes_eq name (codes "in_place") then Some InPlace
+    else if bytes_eq name (codes "without_proxy") then Some WithoutProxy
+    else if bytes_eq name (codes "verbose") then Some Verbose
     else None
 
 -- a switch alone is true, and takes a value only behind `=`
@@ -33,6 +36,8 @@ abbrev pub is_switch : Flag → Bool
 is_switch AcceptCached = true
 is_switch ShutdownProxy = true
 is_switch RelativePaths = true
+is_switch InPlace = true
+is_switch Verbose = true
 is_switch flag = false
 
 -- the text of a value that isn't given
@@ -44,4 +49,7 @@ default_of AcceptCached = codes "true"
 default_of ExecTimeout = codes "0"
 default_of ShutdownProxy = codes "false"
 default_of RelativePaths = codes "false"
+default_of InPlace = codes "true"
+default_of WithoutProxy = codes "refuse"
+default_of Verbose = codes "false"
 default_of flag = []

@@ -1,5 +1,6 @@
 pub mod Addresses
 pub mod Asking
+pub mod Called
 pub mod Choices
 pub mod Commas
 pub mod ConfigFile
@@ -12,4 +13,5 @@ pub mod Reading
 pub mod RelativePaths
 pub mod Settings
 pub mod Values
+pub mod Variables
 pub mod Words

@@ -3,13 +3,13 @@ use Rattle.std.specs.Prelude.{ℕ, List, [], Option, Some, None, Result, Ok, Err
 use Rattle.rx_base.specs.Results.{◌>>=◌}
 use Rattle.rx_world.specs.declared.commands.Pair.{Pair}
 use Rattle.rx_wrap.specs.Addresses.{address_of}
-use Rattle.rx_wrap.specs.Choices.{kind_of, strategy_named, truth_named}
+use Rattle.rx_wrap.specs.Choices.{kind_of, strategy_named, truth_named, unproxied_named}
 use Rattle.rx_wrap.specs.Commas.{listed, pairs_of}
 use Rattle.rx_wrap.specs.Flags.{default_of}
 use Rattle.rx_wrap.specs.Numbers.{seconds_in}
 use Rattle.rx_wrap.specs.Settings.{Setting, Settings, setting, setting_of}
 use Rattle.rx_wrap.specs.declared.flags.Flag.{Flag}
-use Rattle.rx_wrap.specs.declared.flags.Flag.TheVariants.{ServerAddress, ExecStrategy, Labels, Platform, AcceptCached, ExecTimeout, ShutdownProxy, RelativePaths}
+use Rattle.rx_wrap.specs.declared.flags.Flag.TheVariants.{ServerAddress, ExecStrategy, Labels, Platform, AcceptCached, ExecTimeout, ShutdownProxy, RelativePaths, InPlace, WithoutProxy, Verbose}
 use Rattle.rx_wrap.specs.declared.usage_fault.UsageFault.{UsageFault}
 use Rattle.rx_wrap.specs.declared.usage_fault.UsageFault.TheVariants.{Word}
 use Rattle.rx_wrap.specs.declared.values.Values.{Values}
@@ -48,6 +48,9 @@ values_in settings = do
   timeout_seconds ← value_in seconds_in ExecTimeout settings
   shuts_down ← value_in truth_named ShutdownProxy settings
   relative_paths ← value_in truth_named RelativePaths settings
+  in_place ← value_in truth_named InPlace settings
+  without_proxy ← value_in unproxied_named WithoutProxy settings
+  verbose ← value_in truth_named Verbose settings
   Ok (record {
     address = address;
     strategy = strategy;
@@ -57,4 +60,7 @@ values_in settings = do
     timeout_seconds = timeout_seconds;
     shuts_down = shuts_down;
     relative_paths = relative_paths;
+    in_place = in_place;
+    without_proxy = without_proxy;
+    verbose = verbose;
   })

@@ -1,7 +1,7 @@
 //! Values that are one of several words.
 
 ghost use Rattle.std.specs.Prelude.{◌≡◌};
-ghost use Rattle.rx_wrap.specs.Choices.{kind_named, kind_of, strategy_named, truth_named, with_label};
+ghost use Rattle.rx_wrap.specs.Choices.{is_compile, kind_named, kind_of, strategy_named, truth_named, unproxied_named, with_label};
 
 use rx_world::{Kind, Pair, Strategy};
 
@@ -28,6 +28,28 @@ pub(crate) fn truth_named(word: &str) -> Option<bool>
         "1" | "t" | "T" | "true" | "TRUE" | "True" => Some(true),
         "0" | "f" | "F" | "false" | "FALSE" | "False" => Some(false),
         _ => None,
+    }
+}
+
+/// Whether a command runs in place where there is no proxy.
+#[tactic(auto, unfolding(crate::specs::Choices::unproxied_named))]
+pub(crate) fn unproxied_named(word: &str) -> Option<bool>
+    ensures { result ≡ unproxied_named word.now }
+{
+    match word {
+        "refuse" => Some(false),
+        "in_place" => Some(true),
+        _ => None,
+    }
+}
+
+/// Whether it is a compile step.
+pub(crate) fn is_compile(kind: Kind) -> bool
+    ensures { result ≡ is_compile kind }
+{
+    match kind {
+        Kind::Compile => true,
+        Kind::Tool => false,
     }
 }
 

@@ -1,7 +1,7 @@
 //! Paths of the machine as paths below the root.
 
 ghost use Rattle.std.specs.Prelude.{◌≡◌, option_copied};
-ghost use Rattle.rx_wrap.specs.Directories.{below, below_by, unslashed};
+ghost use Rattle.rx_wrap.specs.Directories.{below, below_by, trimmed, unslashed};
 
 use crate::strips::stripped;
 
@@ -12,6 +12,16 @@ fn unslashed(directory: &str) -> &str
     match directory.strip_suffix('/') {
         Some(front) => front,
         None => directory,
+    }
+}
+
+/// The same, but for the root of the system.
+pub(crate) fn trimmed(directory: &str) -> &str
+    ensures { result.now ≡ trimmed directory.now }
+{
+    match directory {
+        "/" => directory,
+        _ => unslashed(directory),
     }
 }
 

@@ -34,6 +34,12 @@ pub enum Flag {
     ShutdownProxy,
     /// `relative_paths`: makes absolute paths below the root relative to the working directory.
     RelativePaths,
+    /// `in_place`: a compile step that the proxy can't take runs in place.
+    InPlace,
+    /// `without_proxy`: `refuse` or `in_place`, where there is no proxy.
+    WithoutProxy,
+    /// `verbose`: says why a command runs in place.
+    Verbose,
 }
 
 impl Flag {
@@ -64,6 +70,9 @@ impl Flag {
             "exec_timeout" => Some(Flag::ExecTimeout),
             "shutdown_proxy" => Some(Flag::ShutdownProxy),
             "relative_paths" => Some(Flag::RelativePaths),
+            "in_place" => Some(Flag::InPlace),
+            "without_proxy" => Some(Flag::WithoutProxy),
+            "verbose" => Some(Flag::Verbose),
             _ => None,
         }
     }
@@ -74,7 +83,11 @@ impl Flag {
     {
         matches!(
             self,
-            Flag::AcceptCached | Flag::ShutdownProxy | Flag::RelativePaths
+            Flag::AcceptCached
+                | Flag::ShutdownProxy
+                | Flag::RelativePaths
+                | Flag::InPlace
+                | Flag::Verbose
         )
     }
 
@@ -87,9 +100,10 @@ impl Flag {
             Flag::ServerAddress => "unix:///tmp/reproxy.sock",
             Flag::ExecStrategy => "remote",
             Flag::Labels => "type=tool",
-            Flag::AcceptCached => "true",
+            Flag::AcceptCached | Flag::InPlace => "true",
             Flag::ExecTimeout => "0",
-            Flag::ShutdownProxy | Flag::RelativePaths => "false",
+            Flag::ShutdownProxy | Flag::RelativePaths | Flag::Verbose => "false",
+            Flag::WithoutProxy => "refuse",
             _ => "",
         }
     }

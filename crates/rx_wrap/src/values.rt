@@ -3,14 +3,14 @@
 ghost use Rattle.std.specs.Prelude.{◌≡◌};
 ghost use Rattle.rx_base.specs.Results.{Gives};
 ghost use Rattle.rx_wrap.specs.Addresses.{address_of};
-ghost use Rattle.rx_wrap.specs.Choices.{strategy_named, truth_named};
+ghost use Rattle.rx_wrap.specs.Choices.{strategy_named, truth_named, unproxied_named};
 ghost use Rattle.rx_wrap.specs.Numbers.{seconds_in};
 ghost use Rattle.rx_wrap.specs.Values.{counting, or_fault, pairs_named, value_in, values_in};
-ghost use Rattle.rx_wrap.specs.declared.flags.Flag.TheVariants.{ServerAddress, ExecStrategy, ExecTimeout};
+ghost use Rattle.rx_wrap.specs.declared.flags.Flag.TheVariants.{ServerAddress, ExecStrategy, ExecTimeout, WithoutProxy};
 ghost use Rattle.rx_wrap.specs.declared.usage_fault.UsageFault.TheVariants.{NoMemory};
 
 use crate::addresses::{Address, address_of};
-use crate::choices::{kind_of, strategy_named, truth_named};
+use crate::choices::{kind_of, strategy_named, truth_named, unproxied_named};
 use crate::commas::pairs_in;
 use crate::flags::Flag;
 use crate::numbers::seconds_in;
@@ -31,6 +31,9 @@ pub(crate) struct Values {
     pub(crate) timeout_seconds: u32,
     pub(crate) shuts_down: bool,
     pub(crate) relative_paths: bool,
+    pub(crate) in_place: bool,
+    pub(crate) without_proxy: bool,
+    pub(crate) verbose: bool,
 }
 
 /// A flag's setting that counts, or its default, which stands nowhere.
@@ -93,6 +96,14 @@ fn truth_in(alloc: Global, settings: &Settings<'_>, flag: Flag) -> Result<bool, 
     or_fault(alloc, given.place, truth_named(given.value))
 }
 
+fn unproxied_in(alloc: Global, settings: &Settings<'_>) -> Result<bool, UsageFault>
+    ensures { Gives NoMemory (λ truth. truth) result
+        (value_in unproxied_named WithoutProxy settings.now) }
+{
+    let given = counting(settings, Flag::WithoutProxy);
+    or_fault(alloc, given.place, unproxied_named(given.value))
+}
+
 fn seconds_of(alloc: Global, settings: &Settings<'_>) -> Result<u32, UsageFault>
     ensures { Gives NoMemory (λ seconds. seconds) result
         (value_in seconds_in ExecTimeout settings.now) }
@@ -114,6 +125,9 @@ pub(crate) fn values_in(alloc: Global, settings: &Settings<'_>) -> Result<Values
     let timeout_seconds = seconds_of(alloc, settings)?;
     let shuts_down = truth_in(alloc, settings, Flag::ShutdownProxy)?;
     let relative_paths = truth_in(alloc, settings, Flag::RelativePaths)?;
+    let in_place = truth_in(alloc, settings, Flag::InPlace)?;
+    let without_proxy = unproxied_in(alloc, settings)?;
+    let verbose = truth_in(alloc, settings, Flag::Verbose)?;
     Ok(Values {
         address,
         strategy,
@@ -123,5 +137,8 @@ pub(crate) fn values_in(alloc: Global, settings: &Settings<'_>) -> Result<Values
         timeout_seconds,
         shuts_down,
         relative_paths,
+        in_place,
+        without_proxy,
+        verbose,
     })
 }

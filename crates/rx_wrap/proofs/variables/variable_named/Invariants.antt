@@ -1,6 +1,6 @@
 use Rattle.std.proofs.Common.{◌≡◌, drop}
-use Rattle.rx_wrap.specs.Asking.{variable_named}
-use Rattle.rx_wrap.proofs.asked.variable_named.Given as goal
+use Rattle.rx_wrap.specs.Variables.{variable_named}
+use Rattle.rx_wrap.proofs.variables.variable_named.Given as goal
 
 abbrev pub invariant-loop-variable : goal.invariant-loop-variable
 invariant-loop-variable l = variable_named (drop l.variable-index l.variables) l.name ≡ variable_named l.variables l.name
