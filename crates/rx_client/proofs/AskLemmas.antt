@@ -1,40 +1,84 @@
--- What is asked for, by the bytes of the file that is named.
-use Rattle.std.proofs.Common.{◌≡◌, ◌≢◌, ℕ, List, [], Option, Result, Ok, Err, refl}
+-- What is to be done, by the bytes of the file that is named, and the root as the system resolves its path.
+use Rattle.std.proofs.Common.{◌≡◌, ◌≢◌, ℕ, List, [], Option, None, Result, Ok, Err, refl}
+use Rattle.rx_wrap.specs.Asking.{job_of}
 use Rattle.rx_wrap.specs.Reading.{Words}
+use Rattle.rx_wrap.specs.Settings.{Settings, setting_of}
 use Rattle.rx_wrap.specs.Words.{nothing_read, words_in}
-use Rattle.rx_wrap.specs.declared.asked.Asked.{Asked}
+use Rattle.rx_wrap.specs.declared.flags.Flag.TheVariants.{ExecRoot as root_flag}
+use Rattle.rx_wrap.specs.declared.jobs.Job.{Job}
 use Rattle.rx_wrap.specs.declared.usage_fault.UsageFault.{UsageFault}
 use Rattle.rx_wrap.specs.declared.usage_fault.UsageFault.TheVariants as usages
-use Rattle.rx_client.specs.Asking.{AreBytesOf, Asks, IsAsked, asked_in, asked_with, file_named, first_settings, usage_fault_of}
+use Rattle.rx_client.specs.Asking.{AreBytesOf, Asks, FindsJob, IsAsked, IsJob, IsResolved, called_by, file_named, first_settings, job_by, job_with, settings_with, usage_fault_of}
 use Rattle.rx_client.specs.Invoked.{Invocation}
 
+-- ---- where the settings of words and environment are known
+
+-- lines at fault ask for nothing, whatever the root is
+pub settings_refused : (resolved : List ℕ → Option (Option (List ℕ))) (invocation : Invocation) (settings : Settings) (command : List (List ℕ)) (bytes : List ℕ) (fault : UsageFault)
+    → (fault ≢ usages.NoMemory → settings_with settings bytes ≡ Err fault) → FindsJob resolved invocation settings command bytes (Err fault)
+settings_refused resolved invocation settings command bytes (usages.Word word) h =
+    let refused : settings_with settings bytes ≡ Err (usages.Word word) = h (λ e. absurd (cc e)) in
+    record {
+      root = None;
+      root_is = rw refused tt;
+      job_is = rw refused refl;
+    }
+settings_refused resolved invocation settings command bytes usages.NoMemory h = tt
+
+job_known : (resolved : List ℕ → Option (Option (List ℕ))) (invocation : Invocation) (settings : Settings) (command : List (List ℕ)) (bytes : List ℕ) (all : Settings) (root : Option (List ℕ)) (job : Result Job UsageFault)
+    → settings_with settings bytes ≡ Ok all → IsResolved resolved (setting_of root_flag all) root → job_of all (called_by invocation command root) ≡ job
+    → IsJob resolved invocation settings command bytes job
+job_known resolved invocation settings command bytes all root job known is job_is = record {
+  root = root;
+  root_is = rw known is;
+  job_is = rw known job_is;
+}
+
+pub job_found : (resolved : List ℕ → Option (Option (List ℕ))) (invocation : Invocation) (settings : Settings) (command : List (List ℕ)) (bytes : List ℕ) (all : Settings) (root : Option (List ℕ)) (job : Job)
+    → settings_with settings bytes ≡ Ok all → IsResolved resolved (setting_of root_flag all) root → job_of all (called_by invocation command root) ≡ Ok job
+    → FindsJob resolved invocation settings command bytes (Ok job)
+job_found resolved invocation settings command bytes all root job known is job_is =
+    job_known resolved invocation settings command bytes all root (Ok job) known is job_is
+
+pub job_refused : (resolved : List ℕ → Option (Option (List ℕ))) (invocation : Invocation) (settings : Settings) (command : List (List ℕ)) (bytes : List ℕ) (all : Settings) (root : Option (List ℕ)) (fault : UsageFault)
+    → settings_with settings bytes ≡ Ok all → IsResolved resolved (setting_of root_flag all) root
+    → (fault ≢ usages.NoMemory → job_of all (called_by invocation command root) ≡ Err fault) → FindsJob resolved invocation settings command bytes (Err fault)
+job_refused resolved invocation settings command bytes all root (usages.Word word) known is h =
+    job_known resolved invocation settings command bytes all root (Err (usages.Word word)) known is (h (λ e. absurd (cc e)))
+job_refused resolved invocation settings command bytes all root usages.NoMemory known is h = tt
+
+-- ---- by the words
+
 -- words at fault ask for nothing, whatever the file holds
-pub words_refused : (held : List ℕ → Option (List ℕ)) (invocation : Invocation) (fault : UsageFault)
-    → (fault ≢ usages.NoMemory → words_in nothing_read invocation.words ≡ Err fault) → Asks held invocation (Err (usage_fault_of fault))
-unfolding asked_with
-words_refused held invocation (usages.Word word) h =
+pub words_refused : (held : List ℕ → Option (List ℕ)) (resolved : List ℕ → Option (Option (List ℕ))) (invocation : Invocation) (fault : UsageFault)
+    → (fault ≢ usages.NoMemory → words_in nothing_read invocation.words ≡ Err fault) → Asks held resolved invocation (Err (usage_fault_of fault))
+unfolding job_with
+words_refused held resolved invocation (usages.Word word) h =
     let refused : words_in nothing_read invocation.words ≡ Err (usages.Word word) = h (λ e. absurd (cc e)) in
     record {
       bytes = [];
+      root = None;
       file = rw refused tt;
-      asked_is = rw refused refl;
+      root_is = rw refused tt;
+      job_is = rw refused refl;
     }
-words_refused held invocation usages.NoMemory h = tt
+words_refused held resolved invocation usages.NoMemory h = tt
 
--- what is asked for by words that were read, and the bytes of the file that they name
-pub asked_read : (held : List ℕ → Option (List ℕ)) (invocation : Invocation) (bytes : List ℕ) (read : Words) (asked : Result Asked UsageFault)
+-- what is to be done by words that were read, and the bytes of the file that they name
+pub asked_read : (held : List ℕ → Option (List ℕ)) (resolved : List ℕ → Option (Option (List ℕ))) (invocation : Invocation) (bytes : List ℕ) (read : Words) (job : Result Job UsageFault)
     → words_in nothing_read invocation.words ≡ Ok read → AreBytesOf held (file_named (first_settings read.settings invocation.environment)) bytes
-    → asked_in invocation bytes read ≡ asked → IsAsked held invocation asked
-unfolding asked_with
-asked_read held invocation bytes read asked known file is = record {
+    → IsJob resolved invocation (first_settings read.settings invocation.environment) read.command bytes job → IsAsked held resolved invocation job
+unfolding job_with
+asked_read held resolved invocation bytes read job known file is = record {
   bytes = bytes;
+  root = is.root;
   file = rw known file;
-  asked_is = rw known is;
+  root_is = rw known is.root_is;
+  job_is = rw known is.job_is;
 }
 
-pub asked_refused : (held : List ℕ → Option (List ℕ)) (invocation : Invocation) (bytes : List ℕ) (read : Words) (fault : UsageFault)
+pub asked_refused : (held : List ℕ → Option (List ℕ)) (resolved : List ℕ → Option (Option (List ℕ))) (invocation : Invocation) (bytes : List ℕ) (read : Words) (fault : UsageFault)
     → words_in nothing_read invocation.words ≡ Ok read → AreBytesOf held (file_named (first_settings read.settings invocation.environment)) bytes
-    → (fault ≢ usages.NoMemory → asked_in invocation bytes read ≡ Err fault) → Asks held invocation (Err (usage_fault_of fault))
-asked_refused held invocation bytes read (usages.Word word) known file h =
-    asked_read held invocation bytes read (Err (usages.Word word)) known file (h (λ e. absurd (cc e)))
-asked_refused held invocation bytes read usages.NoMemory known file h = tt
+    → FindsJob resolved invocation (first_settings read.settings invocation.environment) read.command bytes (Err fault) → Asks held resolved invocation (Err (usage_fault_of fault))
+asked_refused held resolved invocation bytes read (usages.Word word) known file h = asked_read held resolved invocation bytes read (Err (usages.Word word)) known file h
+asked_refused held resolved invocation bytes read usages.NoMemory known file h = tt

@@ -8,7 +8,7 @@ use Rattle.rx_wrap.specs.declared.addresses.Address.{Address}
 use Rattle.rx_wrap.specs.declared.asked.Asked.{Asked}
 use Rattle.rx_wrap.specs.declared.asked.Errand.{Errand}
 use Rattle.rx_client.specs.declared.heard.Heard.{Heard}
-use Rattle.rx_client.specs.declared.heard.Heard.TheVariants.{Reply as a_reply, ShutDown}
+use Rattle.rx_client.specs.declared.heard.Heard.TheVariants.{Reply as a_reply, InPlace, ShutDown}
 use Rattle.rx_client.specs.declared.talk_fault.TalkFault.{TalkFault}
 use Rattle.rx_client.specs.declared.talk_fault.TalkFault.TheVariants.{BadReply, Conversation, NoMemory}
 use Rattle.rx_client.specs.Connections.{AreUntouched, Connections, Touches, Used, Uses, afters, befores}
@@ -117,6 +117,7 @@ talks_once i o errand result (first ∷ second ∷ more) h = absurd h
 
 has_once : (result : Result Heard TalkFault) → result ≢ Ok ShutDown → HasCalls result 1
 has_once (Ok (a_reply reply)) other = refl
+has_once (Ok (InPlace cause)) other = refl
 has_once (Ok ShutDown) other = absurd (other refl)
 has_once (Err BadReply) other = refl
 has_once (Err Conversation) other = refl

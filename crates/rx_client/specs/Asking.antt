@@ -5,14 +5,15 @@ use Rattle.rx_base.specs.Results.{◌>>=◌}
 use Rattle.rx_world.specs.declared.commands.Pair.{Pair}
 use Rattle.rx_world.specs.declared.failures.Refused.{Refused}
 use Rattle.rx_world.specs.declared.failures.Refused.TheVariants as refusals
-use Rattle.rx_wrap.specs.Asking.{asked_of}
+use Rattle.rx_wrap.specs.Called.{Called}
 use Rattle.rx_wrap.specs.ConfigFile.{lines, settings_in_lines}
 use Rattle.rx_wrap.specs.Environment.{settings_in}
+use Rattle.rx_wrap.specs.Asking.{job_of}
 use Rattle.rx_wrap.specs.Reading.{Words}
 use Rattle.rx_wrap.specs.Settings.{Setting, Settings, setting_of}
 use Rattle.rx_wrap.specs.Words.{nothing_read, words_in}
-use Rattle.rx_wrap.specs.declared.asked.Asked.{Asked}
-use Rattle.rx_wrap.specs.declared.flags.Flag.TheVariants.{Config as config_flag}
+use Rattle.rx_wrap.specs.declared.flags.Flag.TheVariants.{Config as config_flag, ExecRoot as root_flag}
+use Rattle.rx_wrap.specs.declared.jobs.Job.{Job}
 use Rattle.rx_wrap.specs.declared.usage_fault.UsageFault.{UsageFault}
 use Rattle.rx_wrap.specs.declared.usage_fault.UsageFault.TheVariants as usages
 use Rattle.rx_client.specs.declared.ask_fault.AskFault.{AskFault}
@@ -65,20 +66,51 @@ first_settings settings environment = record { command_line = settings; environm
 abbrev pub with_file : Settings → List Setting → Settings
 with_file settings file = record settings { file = file }
 
--- where the settings of words and environment are known, and the file that they name holds these bytes
-unfoldable pub asked_by : Invocation → Settings → List (List ℕ) → List ℕ → Result Asked UsageFault
-asked_by invocation settings command bytes = do
+-- all settings, where those of words and environment are known, and the file that they name holds these bytes
+unfoldable pub settings_with : Settings → List ℕ → Result Settings UsageFault
+settings_with settings bytes = do
   file ← settings_by (file_named settings) bytes
-  asked_of (with_file settings file) command invocation.environment invocation.directory
+  Ok (with_file settings file)
 
-abbrev pub asked_in : Invocation → List ℕ → Words → Result Asked UsageFault
-asked_in invocation bytes read = asked_by invocation (first_settings read.settings invocation.environment) read.command bytes
+-- how a command was called, where this is the root as the system resolves its path
+abbrev pub called_by : Invocation → List (List ℕ) → Option (List ℕ) → Called
+called_by invocation command root = record {
+  command = command;
+  variables = invocation.environment;
+  directory = invocation.directory;
+  root = root;
+}
 
--- What is asked for where the configuration file holds these bytes; or the word at fault.
-unfoldable pub asked_with : Invocation → List ℕ → Result Asked UsageFault
-asked_with invocation bytes = do
+abbrev pub job_by : Invocation → Settings → List (List ℕ) → List ℕ → Option (List ℕ) → Result Job UsageFault
+job_by invocation settings command bytes root = do
+  all ← settings_with settings bytes
+  job_of all (called_by invocation command root)
+
+abbrev pub job_in : Invocation → List ℕ → Option (List ℕ) → Words → Result Job UsageFault
+job_in invocation bytes root read =
+    job_by invocation (first_settings read.settings invocation.environment) read.command bytes root
+
+-- What is to be done where the configuration file holds these bytes, and this is the root as the system resolves it; or the word at fault.
+unfoldable pub job_with : Invocation → List ℕ → Option (List ℕ) → Result Job UsageFault
+job_with invocation bytes root = do
   read ← words_in nothing_read invocation.words
-  asked_in invocation bytes read
+  job_in invocation bytes root read
+
+-- ---- the root, as the system resolves its path
+
+-- the root that is given is resolved to this, where that is told
+abbrev pub IsResolved : (List ℕ → Option (Option (List ℕ))) → Option Setting → Option (List ℕ) → Type 0
+IsResolved resolved None root = Unit {0}
+IsResolved resolved (Some given) root = IfSome (resolved given.value) (λ told. root ≡ told)
+
+abbrev pub RootBy : (List ℕ → Option (Option (List ℕ))) → Result Settings UsageFault → Option (List ℕ) → Type 0
+RootBy resolved (Ok settings) root = IsResolved resolved (setting_of root_flag settings) root
+RootBy resolved (Err fault) root = Unit {0}
+
+abbrev pub all_settings : Invocation → List ℕ → Result Settings UsageFault
+all_settings invocation bytes = do
+  read ← words_in nothing_read invocation.words
+  settings_with (first_settings read.settings invocation.environment) bytes
 
 -- ---- the bytes of the file that is named
 
@@ -94,15 +126,32 @@ AreBytesOf held (Some named) bytes = IfSome (held named.value) (λ told. bytes �
 abbrev pub HoldsFile : (List ℕ → Option (List ℕ)) → Invocation → List ℕ → Type 0
 HoldsFile held invocation bytes = AreBytesOf held (named_in invocation (words_in nothing_read invocation.words)) bytes
 
--- for some bytes of the file, this is asked for
-pub record IsAsked (held : List ℕ → Option (List ℕ)) (invocation : Invocation) (asked : Result Asked UsageFault) : Type 0 where
+-- for some bytes of the file, and some root, this is to be done
+pub record IsAsked (held : List ℕ → Option (List ℕ)) (resolved : List ℕ → Option (Option (List ℕ))) (invocation : Invocation)
+    (job : Result Job UsageFault) : Type 0 where
   pub bytes : List ℕ
+  pub root : Option (List ℕ)
   pub file : HoldsFile held invocation bytes
-  pub asked_is : asked_with invocation bytes ≡ asked
+  pub root_is : RootBy resolved (all_settings invocation bytes) root
+  pub job_is : job_with invocation bytes root ≡ job
 
--- What was answered is what is asked for, unless the file is lost or memory ran out.
-abbrev pub Asks : (List ℕ → Option (List ℕ)) → Invocation → Result Asked AskFault → Type 0
-Asks held invocation (Ok asked) = IsAsked held invocation (Ok asked)
-Asks held invocation (Err (Usage word)) = IsAsked held invocation (Err (usages.Word word))
-Asks held invocation (Err Config) = Unit {0}
-Asks held invocation (Err NoMemory) = Unit {0}
+-- What was answered is what is to be done, unless the file is lost or memory ran out.
+abbrev pub Asks : (List ℕ → Option (List ℕ)) → (List ℕ → Option (Option (List ℕ))) → Invocation → Result Job AskFault → Type 0
+Asks held resolved invocation (Ok job) = IsAsked held resolved invocation (Ok job)
+Asks held resolved invocation (Err (Usage word)) = IsAsked held resolved invocation (Err (usages.Word word))
+Asks held resolved invocation (Err Config) = Unit {0}
+Asks held resolved invocation (Err NoMemory) = Unit {0}
+
+-- ---- a part of it, where the settings of words and environment are known
+
+pub record IsJob (resolved : List ℕ → Option (Option (List ℕ))) (invocation : Invocation) (settings : Settings)
+    (command : List (List ℕ)) (bytes : List ℕ) (job : Result Job UsageFault) : Type 0 where
+  pub root : Option (List ℕ)
+  pub root_is : RootBy resolved (settings_with settings bytes) root
+  pub job_is : job_by invocation settings command bytes root ≡ job
+
+abbrev pub FindsJob : (List ℕ → Option (Option (List ℕ))) → Invocation → Settings → List (List ℕ) → List ℕ → Result Job UsageFault → Type 0
+FindsJob resolved invocation settings command bytes (Ok job) = IsJob resolved invocation settings command bytes (Ok job)
+FindsJob resolved invocation settings command bytes (Err (usages.Word word)) =
+    IsJob resolved invocation settings command bytes (Err (usages.Word word))
+FindsJob resolved invocation settings command bytes (Err usages.NoMemory) = Unit {0}

@@ -1,6 +1,7 @@
 -- A conversation with the proxy: the frame of an errand goes out, and a frame comes in.
-use Rattle.std.specs.Prelude.{◌≡◌, ◌≤◌, ◌⊎◌, ℕ, List, [], ◌∷◌, Bool, true, false, IsTrue, option_map, Option, Some, None, Result, Ok, Err, if◌then◌else◌}
+use Rattle.std.specs.Prelude.{◌≡◌, ◌≤◌, ◌⊎◌, ℕ, List, [], ◌∷◌, Bool, true, false, IsTrue, Option, Some, None, Result, Ok, Err, if◌then◌else◌}
 use Rattle.std.specs.Io.KnownBytes.{Consumes}
+use Rattle.std.specs.Option.{option_and_then}
 use Rattle.rx_world.specs.Causes.{Rose}
 use Rattle.rx_world.specs.declared.streams.Sink as sink_of
 use Rattle.rx_world.specs.declared.streams.Source as source_of
@@ -12,7 +13,7 @@ use Rattle.rx_wrap.specs.declared.asked.Asked.{Asked}
 use Rattle.rx_wrap.specs.declared.asked.Errand.{Errand}
 use Rattle.rx_wrap.specs.declared.asked.Errand.TheVariants as errands
 use Rattle.rx_client.specs.declared.heard.Heard.{Heard}
-use Rattle.rx_client.specs.declared.heard.Heard.TheVariants.{Reply as a_reply, ShutDown}
+use Rattle.rx_client.specs.declared.heard.Heard.TheVariants.{Reply as a_reply, InPlace, ShutDown}
 use Rattle.rx_client.specs.declared.talk_fault.TalkFault.{TalkFault}
 use Rattle.rx_client.specs.declared.talk_fault.TalkFault.TheVariants.{Conversation, BadReply, NoMemory}
 use Rattle.rx_client.specs.Connections.{Connections, Used, Uses}
@@ -26,9 +27,14 @@ abbrev pub frame_for : Errand → List ℕ
 frame_for (errands.Run request) = frame 1 (request_payload request)
 frame_for errands.ShutDown = shutdown
 
+-- that a command is to run in place is heard only where the request lets it
+abbrev pub heard_of : Bool → Reply → Option Heard
+heard_of in_place (replies.InPlace cause) = if in_place then Some (InPlace cause) else None
+heard_of in_place reply = Some (a_reply reply)
+
 -- what is heard for an errand where bytes come in: the frame that they begin with
 abbrev pub heard_in : Errand → List ℕ → Option Heard
-heard_in (errands.Run request) text = option_map a_reply (first_reply text)
+heard_in (errands.Run request) text = option_and_then (heard_of request.in_place) (first_reply text)
 heard_in errands.ShutDown text = if is_shutdown_done text then Some ShutDown else None
 
 abbrev pub is_done : Reply → Bool
@@ -38,6 +44,7 @@ is_done reply = false
 -- It isn't taken unless the errand's frame went out whole: no proxy says so of a part of a request. A refusal may come early.
 abbrev pub needs_all : Heard → Bool
 needs_all (a_reply reply) = is_done reply
+needs_all (InPlace cause) = true
 needs_all ShutDown = true
 
 -- ---- over one connection
@@ -98,6 +105,7 @@ TalksBy i o errand result (first ∷ second ∷ third ∷ more) = ⊥
 -- So often its address was called: once, and once more where the proxy ends. Without memory it may not be called.
 abbrev pub HasCalls : Result Heard TalkFault → ℕ → Type 0
 HasCalls (Ok (a_reply reply)) calls = calls ≡ 1
+HasCalls (Ok (InPlace cause)) calls = calls ≡ 1
 HasCalls (Ok ShutDown) calls = calls ≡ 2
 HasCalls (Err BadReply) calls = calls ≡ 1
 HasCalls (Err Conversation) calls = calls ≡ 1

@@ -2,10 +2,14 @@ pub mod Answering
 pub mod Asking
 pub mod Connections
 pub mod Conversing
+pub mod FailureTexts
 pub mod Heard
 pub mod Invoked
 pub mod Lines
+pub mod Running
+pub mod Runs
 pub mod Said
+pub mod Settling
 pub mod StillTold
 pub mod Telling
 pub mod Wrapping

@@ -1,5 +1,5 @@
 -- What a client writes to its standard output and its standard error, and its answer.
-use Rattle.std.specs.Prelude.{◌≡◌, ◌⊎◌, ℕ, ℤ, List, Result, Ok, Err}
+use Rattle.std.specs.Prelude.{◌≡◌, ◌⊎◌, ℕ, ℤ, List}
 use Rattle.rx_world.specs.Causes.{Rose}
 use Rattle.rx_session.specs.declared.replies.Reply.{Reply}
 use Rattle.rx_session.specs.declared.replies.Reply.TheVariants as replies
@@ -7,11 +7,7 @@ use Rattle.rx_client.specs.declared.answers.Answer.{Answer}
 use Rattle.rx_client.specs.declared.answers.Answer.TheVariants as answers
 use Rattle.rx_client.specs.declared.ask_fault.AskFault.{AskFault}
 use Rattle.rx_client.specs.declared.ask_fault.AskFault.TheVariants as asks
-use Rattle.rx_client.specs.declared.heard.Heard.{Heard}
-use Rattle.rx_client.specs.declared.heard.Heard.TheVariants as heards
-use Rattle.rx_client.specs.declared.talk_fault.TalkFault.{TalkFault}
-use Rattle.rx_client.specs.declared.talk_fault.TalkFault.TheVariants as talks
-use Rattle.rx_client.specs.Lines.{bad_flag_line, bad_reply_line, no_config_line, no_proxy_line, number_of, refusal_line}
+use Rattle.rx_client.specs.Lines.{bad_flag_line, no_config_line, number_of, refusal_line}
 use Rattle.rx_client.specs.Said.{IsSilent, Said, Says, SaysWhole}
 
 -- nothing was written to either
@@ -50,14 +46,7 @@ TellsReply (replies.PlaceFault receipt placed) out err answer = TellsRefusal (re
 TellsReply replies.JournalFull out err answer = TellsRefusal replies.JournalFull out err answer
 TellsReply replies.NoMemory out err answer = TellsRefusal replies.NoMemory out err answer
 TellsReply (replies.Blocked path) out err answer = TellsRefusal (replies.Blocked path) out err answer
-
--- what was heard
-abbrev pub Tells : Result Heard TalkFault → Said → Said → Answer → Type 0
-Tells (Ok (heards.Reply reply)) out err answer = TellsReply reply out err answer
-Tells (Ok heards.ShutDown) out err answer = (answer ≡ answers.ShutDown) × AreSilent out err
-Tells (Err talks.Conversation) out err answer = TellsLine answers.Conversation no_proxy_line out err answer
-Tells (Err talks.BadReply) out err answer = TellsLine answers.BadReply bad_reply_line out err answer
-Tells (Err talks.NoMemory) out err answer = (answer ≡ answers.Memory) × AreSilent out err
+TellsReply (replies.InPlace cause) out err answer = TellsRefusal (replies.InPlace cause) out err answer
 
 -- why nothing is asked for
 abbrev pub TellsFault : AskFault → Said → Said → Answer → Type 0

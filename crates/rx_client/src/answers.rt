@@ -3,11 +3,15 @@
 ghost use Rattle.std.specs.Prelude.{◌≡◌};
 ghost use Rattle.rx_client.specs.Answering.{exit_status, low_bits, or_one, status_of};
 
+use crate::ran::{Ran, ran_status};
+
 /// What became of an errand. It tells all of these apart, whatever the status is.
 #[derive(Clone, Copy, Debug, PartialEq, Eq)]
 pub enum Answer {
     /// The command ran and ended with this code. Its texts were written.
     Done(i32),
+    /// The command ran in place, by what this program was called with, and ended so.
+    RanHere(Ran),
     /// The proxy ends.
     ShutDown,
     /// The words, the environment or the configuration file can't be read.
@@ -48,7 +52,7 @@ fn or_one(low: u8) -> u8
 
 /// A code from 0 to 255 as it is, and another one's low eight bits, or 1 where these are 0: a
 /// command that failed is never told as one that didn't.
-fn exit_status(exit: i32) -> u8
+pub(crate) fn exit_status(exit: i32) -> u8
     ensures { result ≡ exit_status exit }
 {
     if 0 <= exit && exit < 256 {
@@ -63,6 +67,7 @@ pub(crate) fn status_of(answer: Answer) -> u8
 {
     match answer {
         Answer::Done(exit) => exit_status(exit),
+        Answer::RanHere(ran) => ran_status(ran),
         Answer::ShutDown => 0,
         Answer::Usage => 100,
         Answer::Config => 101,

@@ -3,18 +3,19 @@
 ghost use Rattle.std.specs.Prelude.{◌≡◌, IfOk};
 ghost use Rattle.rx_base.specs.Results.{Gives};
 ghost use Rattle.rx_world.specs.Causes.{HasCauseOf};
-ghost use Rattle.rx_wrap.specs.Settings.{Setting};
+ghost use Rattle.rx_wrap.specs.Settings.{Setting, setting_of};
+ghost use Rattle.rx_wrap.specs.declared.flags.Flag.TheVariants.{ExecRoot as root_flag};
 ghost use Rattle.rx_wrap.specs.declared.usage_fault.UsageFault.TheVariants.{NoMemory as no_memory};
-ghost use Rattle.rx_client.specs.Asking.{AreBytesOf, Asks, asked_by, file_named, settings_by, settings_in_bytes};
+ghost use Rattle.rx_client.specs.Asking.{AreBytesOf, Asks, FindsJob, IsResolved, file_named, settings_by, settings_in_bytes, settings_with};
 ghost use Rattle.rx_client.specs.declared.ask_fault.AskFault.TheVariants.{Config as config_lost};
 
 use crate::ask_fault::AskFault;
 use crate::invocation::Invocation;
-use crate::outside::Configs;
-use rx_base::Text;
+use crate::outside::{Configs, Machine};
+use rx_base::{NoMemory, Text};
 use rx_world::Refused;
 use rx_wrap::{
-    Asked, Flag, Setting, Settings, UsageFault, Words, asked_of, read_words,
+    Called, Flag, Job, Setting, Settings, UsageFault, Words, job_of, read_words,
     settings_in_environment, settings_in_file,
 };
 use std::alloc::Global;
@@ -78,17 +79,14 @@ fn settings_by<'a>(
     }
 }
 
-/// What is asked for, where the file holds these bytes.
-#[tactic(auto, unfolding(crate::specs::Asking::asked_by))]
-fn asked_by<'a>(
+/// All settings, where the file holds these bytes.
+#[tactic(auto, unfolding(crate::specs::Asking::settings_with))]
+fn settings_with<'a>(
     alloc: Global,
-    invocation: &Invocation<'a>,
     settings: Settings<'a>,
-    command: &'a [Text],
     bytes: &'a [u8],
-) -> Result<Asked, UsageFault>
-    ensures { Gives no_memory (λ asked. asked) result
-        (asked_by invocation.now settings.entry command.now bytes.now) }
+) -> Result<Settings<'a>, UsageFault>
+    ensures { Gives no_memory (λ s. s) result (settings_with settings.entry bytes.now) }
 {
     let named = file_named(&settings);
     let file = settings_by(alloc, &named, bytes)?;
@@ -97,28 +95,55 @@ fn asked_by<'a>(
         environment,
         ..
     } = settings;
-    let all = Settings {
+    Ok(Settings {
         command_line,
         environment,
         file,
-    };
-    asked_of(
-        alloc,
-        &all,
-        command,
-        invocation.environment,
-        invocation.directory,
-    )
+    })
 }
 
-/// What is asked for by an invocation. The faults come in this order: of the words from left to
+/// The root that is given, as the machine resolves its path.
+fn resolved_root<M: Machine>(machine: &M, settings: &Settings<'_>) -> Result<Option<Text>, NoMemory>
+    ensures { IfOk result (λ root. IsResolved (M.resolved machine.now)
+        (setting_of root_flag settings.now) root) }
+{
+    match settings.setting(Flag::ExecRoot) {
+        Some(given) => machine.resolve(given.value),
+        None => Ok(None),
+    }
+}
+
+/// What is to be done, where the file holds these bytes.
+fn job_by<'a, M: Machine>(
+    alloc: Global,
+    invocation: &Invocation<'a>,
+    machine: &M,
+    settings: Settings<'a>,
+    command: &'a [Text],
+    bytes: &'a [u8],
+) -> Result<Job, UsageFault>
+    ensures { FindsJob (M.resolved machine.now) invocation.now settings.entry command.now bytes.now
+        result }
+{
+    let settings = settings_with(alloc, settings, bytes)?;
+    let called = Called {
+        command,
+        variables: invocation.environment,
+        directory: invocation.directory,
+        root: resolved_root(machine, &settings)?,
+    };
+    job_of(alloc, &settings, &called)
+}
+
+/// What is to be done by an invocation. The faults come in this order: of the words from left to
 /// right; of the read of the file that they or the environment name; of its lines; of the values.
-pub(crate) fn ask<G: Configs>(
+pub(crate) fn ask<G: Configs, M: Machine>(
     alloc: Global,
     invocation: &Invocation<'_>,
     configs: &mut G,
-) -> Result<Asked, AskFault>
-    ensures asks { Asks (G.held configs.old) invocation.now result }
+    machine: &M,
+) -> Result<Job, AskFault>
+    ensures asks { Asks (G.held configs.old) (M.resolved machine.now) invocation.now result }
     ensures cause { HasCauseOf config_lost (G.faults configs.old) (G.faults configs.new) result }
 {
     let Words { settings, command } = read_words(alloc, invocation.words)?;
@@ -129,5 +154,5 @@ pub(crate) fn ask<G: Configs>(
     };
     let named = file_named(&settings);
     let bytes = read_file(alloc, configs, &named)?;
-    Ok(asked_by(alloc, invocation, settings, command, &bytes)?)
+    Ok(job_by(alloc, invocation, machine, settings, command, &bytes)?)
 }

@@ -60,6 +60,7 @@ pub(crate) fn converse<C: Connect>(
     let heard = converse_once(alloc, connect, asked, &frame)?;
     match heard {
         Heard::Reply(reply) => Ok(Heard::Reply(reply)),
+        Heard::InPlace(cause) => Ok(Heard::InPlace(cause)),
         Heard::ShutDown => {
             touch(connect, &asked.address);
             Ok(Heard::ShutDown)

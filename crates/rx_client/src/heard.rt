@@ -3,14 +3,14 @@
 ghost use Rattle.std.specs.Prelude.{◌≡◌};
 ghost use Rattle.std.specs.Io.KnownBytes.{Consumes};
 ghost use Rattle.rx_world.specs.Causes.{HasCauseOf};
-ghost use Rattle.rx_client.specs.Conversing.{heard_in, is_done, needs_all};
+ghost use Rattle.rx_client.specs.Conversing.{heard_in, heard_of, is_done, needs_all};
 ghost use Rattle.rx_client.specs.Heard.{Hears, given_by};
 ghost use Rattle.rx_client.specs.declared.hear_fault.HearFault.TheVariants.{Lost as lost};
 
 use crate::endings::read_shutdown_done;
 use crate::hear_fault::HearFault;
 use crate::replies::read_reply;
-use rx_session::Reply;
+use rx_session::{InPlaceCause, Reply};
 use rx_world::Source;
 use rx_wrap::Errand;
 use std::alloc::Global;
@@ -19,6 +19,8 @@ use std::alloc::Global;
 #[derive(Debug, Drop)]
 pub(crate) enum Heard {
     Reply(Reply),
+    /// That the command is to run in place, which the request lets it.
+    InPlace(InPlaceCause),
     /// That it ends.
     ShutDown,
 }
@@ -36,7 +38,23 @@ pub(crate) fn needs_all(heard: &Heard) -> bool
 {
     match heard {
         Heard::Reply(reply) => is_done(reply),
+        Heard::InPlace(_) => true,
         Heard::ShutDown => true,
+    }
+}
+
+/// What a reply says. That a command is to run in place is heard only where the request lets it.
+fn heard_of(in_place: bool, reply: Reply) -> Result<Heard, HearFault>
+    ensures { Hears result (heard_of in_place reply) }
+{
+    match reply {
+        Reply::InPlace { cause } => {
+            if in_place {
+                return Ok(Heard::InPlace(cause));
+            }
+            Err(HearFault::NoFrame)
+        }
+        other => Ok(Heard::Reply(other)),
     }
 }
 
@@ -54,8 +72,8 @@ pub(crate) fn hear<S: Source>(
     ensures cause { HasCauseOf lost (S.faults source.old) (S.faults source.new) result }
 {
     match errand {
-        Errand::Run(_) => match read_reply(alloc, source, read) {
-            Ok(reply) => Ok(Heard::Reply(reply)),
+        Errand::Run(request) => match read_reply(alloc, source, read) {
+            Ok(reply) => heard_of(request.in_place, reply),
             Err(fault) => Err(fault),
         },
         Errand::ShutDown => match read_shutdown_done(source, read) {

@@ -1,11 +1,14 @@
 //! What a client needs of the outside, beside the streams that it writes to.
 
 ghost use Rattle.std.specs.Prelude.{◌≡◌, ◌≤◌, ◌<◌, ◌++◌, ◌∷◌, [], ℕ, List, Option, IfOk, IfSome, OnErr};
+ghost use Rattle.rx_client.specs.Runs.{Run, Runs, RunsNone, RunsOnce};
 ghost use Rattle.rx_client.specs.StillTold.{StillTold};
 ghost use Rattle.rx_wrap.specs.declared.addresses.Address.{Address};
 ghost use Rattle.rx_world.specs.Causes.{HasCause, HasCauseOf, Rose};
 ghost use Rattle.rx_world.specs.declared.failures.Refused.TheVariants.{Failed as failed};
 
+use crate::ran::Ran;
+use rx_base::{NoMemory, Text};
 use rx_world::{Failed, Refused, Sink, Source};
 use rx_wrap::Address;
 
@@ -64,4 +67,26 @@ pub trait Connect {
         ensures later { faults self.old ≤ faults self.new }
         ensures input { 0 < Self.In.faults input → Rose (faults self.old) (faults self.new) }
         ensures output { 0 < Self.Out.faults output → Rose (faults self.old) (faults self.new) };
+}
+
+/// The machine on which a client is called.
+pub trait Machine {
+    /// What a path is once the system has resolved its links, where told; nothing where it can't be.
+    ghost resolved: { Self → List ℕ → Option (Option (List ℕ)) };
+
+    /// The commands that were run, in order, where told.
+    ghost runs: { Self → Runs };
+
+    /// The path with its links resolved; none where the system can't.
+    fn resolve(&self, path: &str) -> Result<Option<Text>, NoMemory>
+        ensures told { IfOk result (λ found.
+            IfSome (resolved self.now path.now) (λ told. found ≡ told)) };
+
+    /// Runs a command in a directory, with the environment and the standard streams of this program,
+    /// and answers how it ended.
+    fn run(&mut self, words: &[Text], directory: &str) -> Result<Ran, NoMemory>
+        ensures ran { IfOk result (λ ended. RunsOnce
+            (record { words = words.now; directory = directory.now; ended = ended })
+            (runs self.old) (runs self.new)) }
+        ensures none { OnErr result (RunsNone (runs self.old) (runs self.new)) };
 }

@@ -4,11 +4,12 @@ ghost use Rattle.std.specs.Prelude.{◌≡◌, ◌++◌, IfOk, OnOk, string_byte
 ghost use Rattle.std.specs.Fmt.{decimal};
 ghost use Rattle.rx_session.specs.Bad.{reason_number};
 ghost use Rattle.rx_session.specs.Replies.{limit_number};
-ghost use Rattle.rx_client.specs.Lines.{behind, cancel_text, cause_text, detail_of, limit_text, number_of, refusal_line};
+ghost use Rattle.rx_client.specs.Lines.{behind, cancel_text, cause_text, detail_of, in_place_text, limit_text, number_of, refusal_line};
 
-use itoa::Buffer;
+use crate::failure_texts::push_failures;
+use crate::joins::push_number;
 use rx_base::NoMemory;
-use rx_session::{BadReason, CancelReason, Reply};
+use rx_session::{BadReason, CancelReason, InPlaceCause, Reply};
 use rx_world::{Limit, LocalCause};
 use std::alloc::Global;
 
@@ -30,6 +31,7 @@ pub(crate) fn number_of(reply: &Reply) -> u8
         Reply::JournalFull => 10,
         Reply::NoMemory => 11,
         Reply::Blocked { .. } => 12,
+        Reply::InPlace { .. } => 13,
     }
 }
 
@@ -73,13 +75,6 @@ fn cancel_text(reason: CancelReason) -> &'static str
     }
 }
 
-fn push_number(out: &mut String, number: u8) -> Result<(), NoMemory>
-    ensures { OnOk result (string_bytes out.new ≡ string_bytes out.old ++ decimal number) }
-{
-    let mut buffer = Buffer::new();
-    out.push_str(buffer.format(number))
-}
-
 /// A space and a text.
 fn push_behind(out: &mut String, text: &str) -> Result<(), NoMemory>
     ensures { OnOk result (string_bytes out.new ≡ string_bytes out.old ++ behind text.now) }
@@ -97,8 +92,36 @@ fn push_number_behind(out: &mut String, number: u8) -> Result<(), NoMemory>
     push_number(out, number)
 }
 
-/// The path or the text that a reply has, else its reason.
-fn push_detail(out: &mut String, reply: &Reply) -> Result<(), NoMemory>
+/// Adds the word or the path for which a command is to run in place, or the limit.
+pub(crate) fn push_in_place(out: &mut String, cause: &InPlaceCause) -> Result<(), NoMemory>
+    ensures { OnOk result
+        (string_bytes out.new ≡ string_bytes out.old ++ in_place_text cause.now) }
+{
+    match cause {
+        InPlaceCause::Kept {
+            cause: LocalCause::Word { word },
+        } => out.push_str(word.as_str()),
+        InPlaceCause::Kept {
+            cause: LocalCause::Path { path },
+        } => out.push_str(path.as_str()),
+        InPlaceCause::TooLarge { limit } => {
+            out.push_str("limit ")?;
+            push_number(out, limit_number(*limit))
+        }
+    }
+}
+
+/// A space, and the same.
+fn push_in_place_behind(out: &mut String, cause: &InPlaceCause) -> Result<(), NoMemory>
+    ensures { OnOk result
+        (string_bytes out.new ≡ string_bytes out.old ++ behind (in_place_text cause.now)) }
+{
+    out.push_str(" ")?;
+    push_in_place(out, cause)
+}
+
+/// The path or the text that a reply has, or the attempts that failed, else its reason.
+fn push_detail(alloc: Global, out: &mut String, reply: &Reply) -> Result<(), NoMemory>
     ensures { OnOk result
         (string_bytes out.new ≡ string_bytes out.old ++ detail_of reply.now) }
 {
@@ -124,11 +147,14 @@ fn push_detail(out: &mut String, reply: &Reply) -> Result<(), NoMemory>
         } => push_number_behind(out, limit_number(*limit)),
         Reply::Cancelled { reason } => push_behind(out, cancel_text(*reason)),
         Reply::Blocked { path } => push_behind(out, path.as_str()),
-        Reply::Done { .. }
-        | Reply::AllFailed { .. }
-        | Reply::PlaceFault { .. }
-        | Reply::JournalFull
-        | Reply::NoMemory => Ok(()),
+        Reply::InPlace { cause } => push_in_place_behind(out, cause),
+        Reply::AllFailed { failures } => {
+            out.push_str(" ")?;
+            push_failures(alloc, out, failures.as_slice())
+        }
+        Reply::Done { .. } | Reply::PlaceFault { .. } | Reply::JournalFull | Reply::NoMemory => Ok(
+            (),
+        ),
     }
 }
 
@@ -138,7 +164,7 @@ pub(crate) fn refusal_line(alloc: Global, reply: &Reply) -> Result<String, NoMem
 {
     let mut line = String::from_str(alloc, "rewrapper: refused ")?;
     push_number(&mut line, number_of(reply))?;
-    push_detail(&mut line, reply)?;
+    push_detail(alloc, &mut line, reply)?;
     line.push_str("\n")?;
     Ok(line)
 }

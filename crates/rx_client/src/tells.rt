@@ -3,13 +3,11 @@
 ghost use Rattle.std.specs.Prelude.{◌≡◌, ◌≤◌, IfOk, string_bytes};
 ghost use Rattle.rx_client.specs.Lines.{bad_flag_line};
 ghost use Rattle.rx_client.specs.Said.{Says, said};
-ghost use Rattle.rx_client.specs.Telling.{Tells, TellsDone, TellsFault, TellsReply};
+ghost use Rattle.rx_client.specs.Telling.{TellsDone, TellsFault, TellsReply};
 
 use crate::answers::Answer;
 use crate::ask_fault::AskFault;
-use crate::heard::Heard;
 use crate::refusals::{number_of, refusal_line};
-use crate::talk_fault::TalkFault;
 use rx_base::NoMemory;
 use rx_session::{Reply, write_frame};
 use rx_world::Sink;
@@ -38,14 +36,19 @@ fn tell_texts<O: Sink, E: Sink>(
 }
 
 /// Writes a line. Where it can't be written the answer stays.
-fn tell_line<E: Sink>(line: &[u8], err: &mut E)
+pub(crate) fn tell_line<E: Sink>(line: &[u8], err: &mut E)
     ensures { Says (said E.Sink err.old err.new) line.now }
 {
     let _ = write_frame(err, line);
 }
 
 /// Tells a reply.
-fn tell_reply<O: Sink, E: Sink>(alloc: Global, reply: &Reply, out: &mut O, err: &mut E) -> Answer
+pub(crate) fn tell_reply<O: Sink, E: Sink>(
+    alloc: Global,
+    reply: &Reply,
+    out: &mut O,
+    err: &mut E,
+) -> Answer
     ensures { TellsReply reply.now
         (said O.Sink out.old out.new) (said E.Sink err.old err.new) result }
 {
@@ -64,30 +67,6 @@ fn tell_reply<O: Sink, E: Sink>(alloc: Global, reply: &Reply, out: &mut O, err: 
             Answer::Refused(number_of(reply))
         }
         Err(_) => Answer::Memory,
-    }
-}
-
-/// Tells what was heard.
-pub(crate) fn tell<O: Sink, E: Sink>(
-    alloc: Global,
-    heard: Result<Heard, TalkFault>,
-    out: &mut O,
-    err: &mut E,
-) -> Answer
-    ensures { Tells heard (said O.Sink out.old out.new) (said E.Sink err.old err.new) result }
-{
-    match heard {
-        Ok(Heard::Reply(reply)) => tell_reply(alloc, &reply, out, err),
-        Ok(Heard::ShutDown) => Answer::ShutDown,
-        Err(TalkFault::Conversation) => {
-            tell_line(b"rewrapper: no proxy\n", err);
-            Answer::Conversation
-        }
-        Err(TalkFault::BadReply) => {
-            tell_line(b"rewrapper: bad reply\n", err);
-            Answer::BadReply
-        }
-        Err(TalkFault::NoMemory) => Answer::Memory,
     }
 }
 

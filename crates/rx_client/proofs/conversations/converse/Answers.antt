@@ -22,3 +22,8 @@ pub returns-in-Reply-clause-converses : goal.returns-in-Reply-clause-converses
 returns-in-Reply-clause-converses g c =
     let once = rw c.in-Reply.is at c.in_ok-heard.ensures.converses in
     converses_once _ _ _ _ _ _ (λ e. absurd (cc e)) once
+
+pub returns-in-InPlace-clause-converses : goal.returns-in-InPlace-clause-converses
+returns-in-InPlace-clause-converses g c =
+    let once = rw c.in-InPlace.is at c.in_ok-heard.ensures.converses in
+    converses_once _ _ _ _ _ _ (λ e. absurd (cc e)) once
