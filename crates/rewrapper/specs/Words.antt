@@ -1,8 +1,8 @@
--- The words of the command line that ask for help.
-use Rattle.std.specs.Prelude.{ℕ, Bool, false, List, [], ◌∷◌, codes}
+-- The words of the command line that ask for help or for the version.
+use Rattle.std.specs.Prelude.{ℕ, Bool, false, List, [], ◌∷◌}
 use Rattle.std.specs.Str.{bytes_eq}
 
--- the words are `--help` alone
-abbrev pub is_help : List (List ℕ) → Bool
-is_help (word ∷ []) = bytes_eq word (codes "--help")
-is_help words = false
+-- the words are this one alone
+abbrev pub are_alone : List ℕ → List (List ℕ) → Bool
+are_alone alone (word ∷ []) = bytes_eq word alone
+are_alone alone words = false

@@ -6,18 +6,21 @@ use rx_client::Connect;
 use rx_streams::{Faults, Socket, SocketSink, SocketSource, ends_of};
 use rx_world::Failed;
 use rx_wrap::Address;
+use std::alloc::{AllocError, Global};
 use std::io;
 use std::io::Eprint;
 use std::net::{Net, TcpStream};
 
-/// Connects to Unix sockets and to ports of 127.0.0.1. Nothing is told of connections. Why the first
-/// can't be made, or that one failed, is told on standard error. There is no limit of time: a command
-/// may run for as long as it needs, and a proxy that ends closes its connections. Both directions stay
-/// open until the connection is handed back, since the end of what comes from here cancels the session.
+/// Connects to Unix sockets and to ports of 127.0.0.1. Nothing is told of connections. There is no
+/// limit of time: a command may run for as long as it needs, and a proxy that ends closes its
+/// connections. Both directions stay open until the connection is handed back, since the end of what
+/// comes from here cancels the session.
 #[derive(Drop)]
 pub(crate) struct HostConnect<R> {
     rt: R,
     has_connected: bool,
+    /// Why the first connection couldn't be made, or that one failed.
+    cause: Option<String>,
     faults: Faults,
 }
 
@@ -26,7 +29,17 @@ impl<R> HostConnect<R> {
         HostConnect {
             rt,
             has_connected: false,
+            cause: None,
             faults: Faults::new(),
+        }
+    }
+}
+
+impl<R: Eprint> HostConnect<R> {
+    /// Tells why there was no conversation, on standard error.
+    pub(crate) fn tell(&self) {
+        if let Some(cause) = &self.cause {
+            let _ = eprintln!(self.rt; "rewrapper: {cause}");
         }
     }
 }
@@ -45,18 +58,18 @@ fn connect_to<R: Net<Stream = TcpStream>>(
     ends_of(socket)
 }
 
-/// Tells why there is no connection.
-fn tell(rt: &impl Eprint, address: &Address, error: &io::Error) {
-    let _ = match address {
+/// Why there is no connection, in words.
+fn cause_of(alloc: Global, address: &Address, error: &io::Error) -> Result<String, AllocError> {
+    match address {
         Address::Unix(path) => {
             let path = path.as_str();
-            eprintln!(rt; "rewrapper: unix://{path}: {error}")
+            format!(in alloc; "unix://{path}: {error}")
         }
-        Address::Port(port) => eprintln!(rt; "rewrapper: 127.0.0.1:{port}: {error}"),
-    };
+        Address::Port(port) => format!(in alloc; "127.0.0.1:{port}: {error}"),
+    }
 }
 
-impl<R: Net<Stream = TcpStream> + Eprint> Connect for HostConnect<R> {
+impl<R: Net<Stream = TcpStream> + AllocGlobal> Connect for HostConnect<R> {
     type In = SocketSource;
 
     type Out = SocketSink;
@@ -77,7 +90,7 @@ impl<R: Net<Stream = TcpStream> + Eprint> Connect for HostConnect<R> {
             }
             Err(error) => {
                 if !self.has_connected {
-                    tell(&self.rt, address, &error);
+                    self.cause = cause_of(self.rt.alloc(), address, &error).ok();
                 }
                 Err(self.faults.failed(error))
             }
@@ -86,7 +99,7 @@ impl<R: Net<Stream = TcpStream> + Eprint> Connect for HostConnect<R> {
 
     fn done(&mut self, input: SocketSource, output: SocketSink) {
         if input.has_failed() || output.has_failed() {
-            let _ = eprintln!(self.rt; "rewrapper: the connection failed");
+            self.cause = String::from_str(self.rt.alloc(), "the connection failed").ok();
             self.faults.raise();
         }
     }

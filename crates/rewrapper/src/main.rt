@@ -4,16 +4,18 @@
 
 mod configs;
 mod connect;
+mod machine;
 mod run;
 mod surroundings;
 mod words;
 
 use crate::configs::HostConfigs;
 use crate::connect::HostConnect;
+use crate::machine::HostMachine;
 use crate::run::run;
 use crate::surroundings::{Surroundings, Unread, read_surroundings};
-use crate::words::{USAGE, is_help};
-use rx_client::Invocation;
+use crate::words::{USAGE, VERSION, are_alone};
+use rx_client::{Answer, Invocation, Standard};
 use rx_streams::HostSink;
 use std::process::ExitCode;
 
@@ -22,7 +24,8 @@ const NO_MEMORY: u8 = 105;
 
 fn main(rt: HostRuntime) -> ExitCode {
     match read_surroundings(&rt) {
-        Ok(read) if is_help(&read.words) => help(&rt),
+        Ok(read) if are_alone("--help", &read.words) => print_text(&rt, USAGE),
+        Ok(read) if are_alone("--version", &read.words) => print_text(&rt, VERSION),
         Ok(read) => ExitCode::from(serve(rt, &read)),
         Err(Unread::NoMemory) => ExitCode::from(NO_MEMORY),
         Err(fault) => {
@@ -41,22 +44,28 @@ fn serve(rt: HostRuntime, read: &Surroundings) -> u8 {
     };
     let mut configs = HostConfigs::new(rt);
     let mut connect = HostConnect::new(rt);
-    let mut out = HostSink::new(rt.stdout());
-    let mut err = HostSink::new(rt.stderr());
-    run(
+    let mut machine = HostMachine::new(rt);
+    let mut standard = Standard {
+        out: HostSink::new(rt.stdout()),
+        err: HostSink::new(rt.stderr()),
+    };
+    let wrapped = run(
         rt.alloc(),
         &invocation,
         &mut configs,
         &mut connect,
-        &mut out,
-        &mut err,
-    )
-    .status
+        &mut machine,
+        &mut standard,
+    );
+    if let Answer::Conversation = wrapped.answer {
+        connect.tell();
+    }
+    wrapped.status
 }
 
-/// Prints the usage.
-fn help(rt: &HostRuntime) -> ExitCode {
-    match print!(rt; "{USAGE}") {
+/// Prints a text.
+fn print_text(rt: &HostRuntime, text: &str) -> ExitCode {
+    match print!(rt; "{text}") {
         Ok(()) => ExitCode::SUCCESS,
         Err(_) => ExitCode::FAILURE,
     }

@@ -1,7 +1,7 @@
-//! The words that ask for help, and what is printed then.
+//! The words that ask for help or for the version, and what is printed then.
 
 ghost use Rattle.std.specs.Prelude.{◌≡◌};
-ghost use Rattle.rewrapper.specs.Words.{is_help};
+ghost use Rattle.rewrapper.specs.Words.{are_alone};
 
 use rx_base::Text;
 
@@ -13,7 +13,7 @@ variable RBE_name, and by a line name=value of the configuration file.
   -cfg=PATH                 the configuration file
   -server_address=ADDRESS   where reproxy listens: unix://PATH or 127.0.0.1:PORT
                             (unix:///tmp/reproxy.sock)
-  -exec_root=PATH           the root that reproxy serves; the working directory has to be in it
+  -exec_root=PATH           the root that reproxy serves; commands are called in it
   -exec_strategy=NAME       local, remote, remote_local_fallback or racing (remote)
   -labels=NAME=VALUE,..     type=compile for a compile step, whose inputs are found (type=tool)
   -inputs=PATH,..           files and directories that the command may read, relative to exec_root
@@ -24,15 +24,21 @@ variable RBE_name, and by a line name=value of the configuration file.
   -remote_accept_cache[=TRUTH]  whether a result that the farm keeps will do (true)
   -exec_timeout=TIME        how long the farm may run it: seconds, or digits and s, m or h
   -relative_paths[=TRUTH]   makes absolute paths below exec_root in the words relative (false)
+  -in_place[=TRUTH]         runs a compile step that reproxy can't take itself, as it was given (true)
+  -without_proxy=NAME       where there is no reproxy: refuse, or in_place to run the command (refuse)
+  -verbose[=TRUTH]          says why a command is run in place (false)
   -shutdown_proxy[=TRUTH]   asks reproxy to end, and runs nothing (false)
 ";
 
-/// Whether the words are `--help` alone.
-pub(crate) fn is_help(words: &[Text]) -> bool
-    ensures { result ≡ is_help words.now }
+/// What `--version` prints. The version is the one that calls on a farm tell.
+pub(crate) const VERSION: &str = "rewrapper 0.1\n";
+
+/// Whether the words are this one alone.
+pub(crate) fn are_alone(alone: &str, words: &[Text]) -> bool
+    ensures { result ≡ are_alone alone.now words.now }
 {
     match words {
-        [word] => word.as_str() == "--help",
+        [word] => word.as_str() == alone,
         _ => false,
     }
 }
