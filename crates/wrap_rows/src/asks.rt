@@ -6,31 +6,34 @@ use rx_base::Text;
 use rx_rows::{Answer, Row, RowFault};
 use rx_session::Request;
 use rx_world::Pair;
-use rx_wrap::{Address, Asked, Errand, UsageFault, asked_of};
+use rx_wrap::{Address, Called, Errand, Job, Task, UsageFault, job_of};
 use std::alloc::{AllocError, Global};
 
 /// What a row asks by: the text of a file, variables, the working directory and the words.
-fn read_asked(alloc: Global, row: &mut Row<'_>) -> Result<Result<Asked, UsageFault>, RowFault> {
+fn read_job(alloc: Global, row: &mut Row<'_>) -> Result<Result<Job, UsageFault>, RowFault> {
     let file = read_text(alloc, row)?;
     let variables = read_variables(alloc, row)?;
     let directory = read_text(alloc, row)?;
     let words = read_texts(alloc, row)?;
     let (settings, command) = settings_of(alloc, &words, &variables, file.as_str())?;
-    Ok(asked_of(alloc, &settings, command, &variables, directory.as_str()))
+    let called = Called {
+        command,
+        variables: &variables,
+        directory: directory.as_str(),
+        root: None,
+    };
+    Ok(job_of(alloc, &settings, &called))
 }
 
 /// `asked FILE COUNT NAME VALUE .. DIRECTORY WORD ..`: the address, and the request in words, but
-/// for what is empty.
+/// for what is empty; or `here`. The system resolves no root.
 pub(crate) fn answer_asked(
     alloc: Global,
     row: &mut Row<'_>,
     answer: &mut Answer,
 ) -> Result<(), RowFault> {
-    match read_asked(alloc, row)? {
-        Ok(asked) => {
-            write_address(&asked.address, answer)?;
-            write_errand(&asked.errand, answer)?;
-        }
+    match read_job(alloc, row)? {
+        Ok(job) => write_job(&job, answer)?,
         Err(fault) => write_fault(&fault, answer)?,
     }
     Ok(())
@@ -42,18 +45,46 @@ pub(crate) fn answer_payload(
     row: &mut Row<'_>,
     answer: &mut Answer,
 ) -> Result<(), RowFault> {
-    match read_asked(alloc, row)? {
-        Ok(asked) => write_payload(alloc, &asked.errand, answer)?,
+    match read_job(alloc, row)? {
+        Ok(job) => write_payload(alloc, &job.task, answer)?,
         Err(fault) => write_fault(&fault, answer)?,
     }
     Ok(())
 }
 
-fn write_payload(alloc: Global, errand: &Errand, answer: &mut Answer) -> Result<(), AllocError> {
-    match errand {
-        Errand::Run(request) => answer.bytes(&request.encode(alloc)?),
-        Errand::ShutDown => answer.word("shutdown"),
+fn write_payload(alloc: Global, task: &Task, answer: &mut Answer) -> Result<(), AllocError> {
+    match task {
+        Task::Ask(asked) => match &asked.errand {
+            Errand::Run(request) => answer.bytes(&request.encode(alloc)?),
+            Errand::ShutDown => answer.word("shutdown"),
+        },
+        Task::RunInPlace => answer.word("here"),
     }
+}
+
+/// What is to be done, and the switches that are set for a command that runs in place.
+fn write_job(job: &Job, answer: &mut Answer) -> Result<(), AllocError> {
+    write_task(&job.task, answer)?;
+    write_set("without_proxy", job.without_proxy, answer)?;
+    write_set("verbose", job.verbose, answer)
+}
+
+fn write_task(task: &Task, answer: &mut Answer) -> Result<(), AllocError> {
+    match task {
+        Task::Ask(asked) => {
+            write_address(&asked.address, answer)?;
+            write_errand(&asked.errand, answer)
+        }
+        Task::RunInPlace => answer.word("here"),
+    }
+}
+
+/// The name of what is set.
+fn write_set(name: &str, is_set: bool, answer: &mut Answer) -> Result<(), AllocError> {
+    if is_set {
+        return answer.word(name);
+    }
+    Ok(())
 }
 
 fn write_errand(errand: &Errand, answer: &mut Answer) -> Result<(), AllocError> {
@@ -76,7 +107,8 @@ pub(crate) fn write_address(address: &Address, answer: &mut Answer) -> Result<()
     }
 }
 
-/// The fields of a request in the order of their numbers; lists only where they have items.
+/// The fields of a request in the order of their numbers; lists only where they have items, and
+/// `in_place` only where it is set.
 fn write_request(request: &Request, answer: &mut Answer) -> Result<(), AllocError> {
     answer.text(request.root.as_str().as_bytes())?;
     write_texts("words", request.words.as_slice(), answer)?;
@@ -91,7 +123,8 @@ fn write_request(request: &Request, answer: &mut Answer) -> Result<(), AllocErro
     write_pairs("platform", request.platform.as_slice(), answer)?;
     answer.value(&request.accept_cached)?;
     answer.value(&request.watch)?;
-    answer.number(u64::from(request.timeout_seconds))
+    answer.number(u64::from(request.timeout_seconds))?;
+    write_set("in_place", request.in_place, answer)
 }
 
 fn write_texts(name: &str, texts: &[Text], answer: &mut Answer) -> Result<(), AllocError> {

@@ -2,9 +2,9 @@
 
 use crate::arguments::{read_text, read_texts, read_variables};
 use crate::asks::write_address;
-use crate::outside::{MemoryConfigs, MemoryConnect, Proxy};
+use crate::outside::{MemoryConfigs, MemoryConnect, MemoryMachine, Proxy};
 use rx_base::{Bytes, Text};
-use rx_client::{Invocation, Wrapped, wrap};
+use rx_client::{Invocation, Ran, Standard, Wrapped, wrap};
 use rx_fakes::{MemorySink, Script};
 use rx_rows::{Answer, Row, RowFault};
 use std::alloc::{AllocError, Global};
@@ -19,10 +19,12 @@ pub(crate) struct Scene {
     proxies: VecDeque<Proxy>,
     out_fails: Vec<u64>,
     err_fails: Vec<u64>,
+    link: Option<(Text, Text)>,
+    end: Ran,
 }
 
 impl Scene {
-    /// No file and no proxy; the streams take all.
+    /// No file, no proxy and no link; the streams take all, and what runs in place ends well.
     pub(crate) fn new(alloc: Global) -> Scene {
         Scene {
             alloc,
@@ -30,6 +32,8 @@ impl Scene {
             proxies: VecDeque::new(alloc),
             out_fails: Vec::new(alloc),
             err_fails: Vec::new(alloc),
+            link: None,
+            end: Ran::Exited(0),
         }
     }
 
@@ -74,8 +78,27 @@ impl Scene {
         Ok(answer.word("met")?)
     }
 
+    /// `link FROM TO`: what the next client's machine resolves a path to. It resolves no other.
+    pub(crate) fn link(&mut self, row: &mut Row<'_>, answer: &mut Answer) -> Result<(), RowFault> {
+        self.link = Some((read_text(self.alloc, row)?, read_text(self.alloc, row)?));
+        Ok(answer.word("met")?)
+    }
+
+    /// `ends exited CODE|killed SIGNAL|missing|barred`: how what the next client runs in place ends.
+    pub(crate) fn ends(&mut self, row: &mut Row<'_>, answer: &mut Answer) -> Result<(), RowFault> {
+        self.end = match row.word()? {
+            "exited" => Ran::Exited(i32::from(read_byte(row)?)),
+            "killed" => Ran::Killed(read_byte(row)?),
+            "missing" => Ran::NotFound,
+            "barred" => Ran::NotStarted,
+            _ => return Err(RowFault::BadCall),
+        };
+        Ok(answer.word("met")?)
+    }
+
     /// `client DIRECTORY COUNT NAME VALUE .. WORD ..`: its status and answer, what it wrote, the
-    /// addresses that it called and what it said on each connection. The scene is empty then.
+    /// addresses that it called, what it said on each connection, and what it ran in place. The scene
+    /// is empty then.
     pub(crate) fn client(
         &mut self,
         row: &mut Row<'_>,
@@ -95,13 +118,18 @@ impl Scene {
     }
 }
 
+/// The next word, a number below 256.
+fn read_byte(row: &mut Row<'_>) -> Result<u8, RowFault> {
+    u8::try_from(row.number()?).map_err(|_| RowFault::BadNumber)
+}
+
 /// The outside of one client.
 #[derive(Debug, Drop)]
 struct Outside {
     configs: MemoryConfigs,
     connect: MemoryConnect,
-    out: MemorySink,
-    err: MemorySink,
+    machine: MemoryMachine,
+    standard: Standard<MemorySink, MemorySink>,
 }
 
 /// The outside that a scene makes.
@@ -112,10 +140,16 @@ fn outside_of(scene: Scene) -> Outside {
         proxies,
         out_fails,
         err_fails,
+        link,
+        end,
     } = scene;
     let (path, bytes) = match file {
         Some(file) => file,
         None => (Text::new(alloc), Bytes::new(alloc)),
+    };
+    let (from, to) = match link {
+        Some(link) => link,
+        None => (Text::new(alloc), Text::new(alloc)),
     };
     Outside {
         configs: MemoryConfigs {
@@ -131,8 +165,17 @@ fn outside_of(scene: Scene) -> Outside {
             called: Some(Vec::new(alloc)),
             script: Script::empty(alloc),
         },
-        out: MemorySink::new(alloc, Script::new(out_fails)),
-        err: MemorySink::new(alloc, Script::new(err_fails)),
+        machine: MemoryMachine {
+            alloc,
+            from,
+            to,
+            end,
+            runs: Some(Vec::new(alloc)),
+        },
+        standard: Standard {
+            out: MemorySink::new(alloc, Script::new(out_fails)),
+            err: MemorySink::new(alloc, Script::new(err_fails)),
+        },
     }
 }
 
@@ -145,26 +188,25 @@ fn run(scene: Scene, invocation: &Invocation<'_>, answer: &mut Answer) -> Result
         invocation,
         &mut outside.configs,
         &mut outside.connect,
-        &mut outside.out,
-        &mut outside.err,
+        &mut outside.machine,
+        &mut outside.standard,
     );
-    write_wrapped(&wrapped, &outside.out, &outside.err, answer)?;
+    write_wrapped(&wrapped, &outside.standard, answer)?;
     write_connections(&outside.connect, answer)?;
-    Ok(())
+    write_runs(&outside.machine, answer)
 }
 
 fn write_wrapped(
     wrapped: &Wrapped,
-    out: &MemorySink,
-    err: &MemorySink,
+    standard: &Standard<MemorySink, MemorySink>,
     answer: &mut Answer,
 ) -> Result<(), AllocError> {
     answer.number(u64::from(wrapped.status))?;
     answer.value(&wrapped.answer)?;
     answer.word("out")?;
-    answer.text(&out.bytes)?;
+    answer.text(&standard.out.bytes)?;
     answer.word("err")?;
-    answer.text(&err.bytes)
+    answer.text(&standard.err.bytes)
 }
 
 fn write_connections(connect: &MemoryConnect, answer: &mut Answer) -> Result<(), RowFault> {
@@ -178,6 +220,26 @@ fn write_connections(connect: &MemoryConnect, answer: &mut Answer) -> Result<(),
     for (_, output) in back {
         answer.word("said")?;
         answer.bytes(&output.bytes)?;
+    }
+    Ok(())
+}
+
+/// `ran DIRECTORY WORD ..` of each command that was run in place.
+fn write_runs(machine: &MemoryMachine, answer: &mut Answer) -> Result<(), RowFault> {
+    let Some(runs) = &machine.runs else {
+        return Err(RowFault::NoMemory);
+    };
+    for run in runs {
+        answer.word("ran")?;
+        answer.text(run.directory.as_str().as_bytes())?;
+        write_words(run.words.as_slice(), answer)?;
+    }
+    Ok(())
+}
+
+fn write_words(words: &[Text], answer: &mut Answer) -> Result<(), AllocError> {
+    for word in words {
+        answer.text(word.as_str().as_bytes())?;
     }
     Ok(())
 }

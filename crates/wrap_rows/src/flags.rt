@@ -11,7 +11,7 @@ use rx_wrap::{
 use std::alloc::{AllocError, Global};
 
 /// The flags in the order of their table.
-const FLAGS: [Flag; 14] = [
+const FLAGS: [Flag; 17] = [
     Flag::Config,
     Flag::ServerAddress,
     Flag::ExecRoot,
@@ -26,6 +26,9 @@ const FLAGS: [Flag; 14] = [
     Flag::ExecTimeout,
     Flag::ShutdownProxy,
     Flag::RelativePaths,
+    Flag::InPlace,
+    Flag::WithoutProxy,
+    Flag::Verbose,
 ];
 
 /// `words WORD ..`: the settings in order, and the command behind them.

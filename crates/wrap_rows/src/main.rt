@@ -33,6 +33,8 @@ impl Calls for Wraps {
             "config" => self.scene.config(row, answer),
             "proxy" => self.scene.proxy(row, answer),
             "full" => self.scene.full(row, answer),
+            "link" => self.scene.link(row, answer),
+            "ends" => self.scene.ends(row, answer),
             "client" => self.scene.client(row, answer),
             _ => Err(RowFault::NoCall),
         }

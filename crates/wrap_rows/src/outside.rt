@@ -1,16 +1,19 @@
-//! The outside of a client in memory: a configuration file, and connections to a proxy.
+//! The outside of a client in memory: a configuration file, connections to a proxy, and a machine.
 
-ghost use Rattle.std.specs.Prelude.{◌≡◌, ◌++◌, ◌∷◌, [], IfOk, None, Some, option_map};
+ghost use Rattle.std.specs.Prelude.{◌≡◌, ◌++◌, ◌∷◌, [], IfOk, None, Some, if◌then◌else◌, option_map};
+ghost use Rattle.std.specs.Str.{bytes_eq};
+ghost use Rattle.rx_client.specs.Runs.{Run, RunsOnce};
 ghost use Rattle.rx_client.specs.StillTold.{StillTold};
 ghost use Rattle.rx_wrap.specs.declared.addresses.Address.{Address};
 
-use rx_base::{Bytes, NoMemory, Text, TryClone};
-use rx_client::{Configs, Connect};
+use rx_base::{Bytes, Items, NoMemory, Text, TryClone};
+use rx_client::{Configs, Connect, Machine, Ran};
 use rx_fakes::{MemorySink, MemorySource, Script};
 use rx_world::{Failed, Refused};
 use rx_wrap::Address;
 use std::alloc::Global;
 use std::collections::VecDeque;
+use std::marker::Model;
 
 /// One configuration file. A read of another path is a counted fault.
 #[derive(Debug, Drop)]
@@ -138,5 +141,80 @@ impl Connect for MemoryConnect {
             let _ = self.script.fault();
         }
         self.back = with_item(self.back.take(), (input, output));
+    }
+}
+
+/// A command that was run.
+#[derive(Debug, Drop)]
+pub(crate) struct Done {
+    pub(crate) words: Items<Text>,
+    pub(crate) directory: Text,
+    pub(crate) ended: Ran,
+}
+
+impl Model for Done {
+    ghost use Rattle.rx_client.specs.Runs.{Run};
+
+    ghost Value = { Run };
+
+    ghost view = { λ d. record { words = d.words; directory = d.directory; ended = d.ended } };
+}
+
+/// A machine with one link, on which each command ends alike. What was run is told as long as there
+/// is memory for it.
+#[derive(Debug, Drop)]
+pub(crate) struct MemoryMachine {
+    pub(crate) alloc: Global,
+    /// The path of the link, and what it is resolved to.
+    pub(crate) from: Text,
+    pub(crate) to: Text,
+    pub(crate) end: Ran,
+    pub(crate) runs: Option<Vec<Done>>,
+}
+
+/// The record of a run.
+fn done_of(alloc: Global, words: &[Text], directory: &str, ended: Ran) -> Result<Done, NoMemory>
+    ensures { IfOk result (λ done. done
+        ≡ record { words = words.now; directory = directory.now; ended = ended }) }
+{
+    Ok(Done {
+        words: Items::copy_of(alloc, words)?,
+        directory: Text::copy_of(alloc, directory)?,
+        ended,
+    })
+}
+
+/// The runs, with one more.
+fn with_run(
+    alloc: Global,
+    runs: Option<Vec<Done>>,
+    words: &[Text],
+    directory: &str,
+    ended: Ran,
+) -> Option<Vec<Done>>
+    ensures { RunsOnce (record { words = words.now; directory = directory.now; ended = ended })
+        (option_map (λ v. v.items) runs) (option_map (λ v. v.items) result) }
+{
+    match done_of(alloc, words, directory, ended) {
+        Ok(done) => with_item(runs, done),
+        Err(_) => None,
+    }
+}
+
+impl Machine for MemoryMachine {
+    ghost resolved = { λ m path. Some (if bytes_eq path m.from then Some m.to else None) };
+
+    ghost runs = { λ m. option_map (λ v. v.items) m.runs };
+
+    fn resolve(&self, path: &str) -> Result<Option<Text>, NoMemory> {
+        if path == self.from.as_str() {
+            return Ok(Some(self.to.try_clone(self.alloc)?));
+        }
+        Ok(None)
+    }
+
+    fn run(&mut self, words: &[Text], directory: &str) -> Result<Ran, NoMemory> {
+        self.runs = with_run(self.alloc, self.runs.take(), words, directory, self.end);
+        Ok(self.end)
     }
 }
