@@ -22,6 +22,8 @@ pub struct HostLink {
     rt: HostRuntime,
     stream: TcpStream,
     halting: Halting,
+    /// Whether anything came.
+    is_heard: bool,
     pub(crate) ended: bool,
     pub(crate) faults: Faults,
 }
@@ -40,6 +42,7 @@ impl HostLink {
             rt,
             stream,
             halting,
+            is_heard: false,
             ended: false,
             faults: Faults::new(),
         })
@@ -50,6 +53,32 @@ impl HostLink {
         if !self.halting.is_farm_halted() {
             tell(&self.rt, tried, "the farm", error);
         }
+    }
+
+    /// Tells where the first bytes that come are of another protocol than HTTP/2 without TLS.
+    fn hear(&mut self, bytes: &[u8])
+        ensures ended { self.new.ended ≡ self.old.ended }
+        ensures faults { self.new.faults ≡ self.old.faults }
+    {
+        if self.is_heard || bytes.is_empty() {
+            return;
+        }
+        self.is_heard = true;
+        if let Some(protocol) = other_protocol(bytes) {
+            let _ = eprintln!(self.rt;
+                "reproxy: the farm speaks {protocol}, and not HTTP/2 without TLS"
+            );
+        }
+    }
+}
+
+/// The protocol that a server's first bytes are of, where it isn't HTTP/2. A record of TLS begins with its type, here an alert
+/// (21) or a handshake (22), and the version's first byte, 3 (RFC 8446, 5.1).
+fn other_protocol(bytes: &[u8]) -> Option<&'static str> {
+    match bytes {
+        [21 | 22, 3, ..] => Some("TLS"),
+        _ if bytes.starts_with(b"HTTP/1.") => Some("HTTP/1.1"),
+        _ => None,
     }
 }
 
@@ -75,6 +104,7 @@ impl Link for HostLink {
     fn receive(&mut self, into: &mut [u8]) -> Result<usize, Failed> {
         match read_some(&mut self.stream, into) {
             Ok(count) => {
+                self.hear(into.get(..count).unwrap_or(&[]));
                 self.ended = self.ended || count == 0 && !into.is_empty();
                 Ok(count)
             }
