@@ -64,6 +64,7 @@ impl<H: Hands> Calls for Machine<H> {
             "move" => self.tree.move_it(row, answer),
             "overwrite" => self.tree.overwrite(row, answer),
             "rest" => self.tree.rest(answer),
+            "clear" => self.tree.clear(answer),
             "session" => self.tree.begin_session(answer),
             "look" => self.tree.look(row, answer),
             "read" => self.tree.read(row, answer),

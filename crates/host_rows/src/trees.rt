@@ -1,7 +1,7 @@
 //! The files below a directory of this process.
 
 use crate::answers::{write_done, write_refused};
-use rx_host::{Contents, HostPlace, HostSources};
+use rx_host::{Contents, HostPlace, HostSources, remove_left_sandboxes};
 use rx_row_values::{read_path, read_string};
 use rx_rows::{Answer, Row, RowFault};
 use rx_world::{Look, Place, Sources};
@@ -108,6 +108,12 @@ impl Tree {
     pub(crate) fn rest(&self, answer: &mut Answer) -> Result<(), RowFault> {
         thread::sleep(&self.rt, Duration::from_millis(REST_MILLIS));
         answer.word("ok")?;
+        Ok(())
+    }
+
+    /// `clear`: removes the sandboxes that were left in the directory, and tells how many.
+    pub(crate) fn clear(&self, answer: &mut Answer) -> Result<(), RowFault> {
+        answer.number(remove_left_sandboxes(&self.rt, self.root.as_str()))?;
         Ok(())
     }
 

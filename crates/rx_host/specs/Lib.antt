@@ -1,3 +1,4 @@
 pub mod Clients
 pub mod Farms
 pub mod Looks
+pub mod Names

@@ -74,7 +74,7 @@ impl<H: Hands> HostBenches<H> {
         let halting = self.halting.share()?;
         let children = self.children.share()?;
         let root = make_root(&self.rt, self.scratch.as_str(), &mut self.names)?;
-        let staged = Staged::new(root.clone()?);
+        let staged = Staged::new(&self.rt, root.clone()?);
         let runner = Runner {
             rt: self.rt,
             hands: self.hands,

@@ -5,9 +5,9 @@ ghost use Rattle.std.specs.Prelude.{◌≡◌, ◌+◌, ◌*◌};
 use std::fs;
 use std::fs::Files;
 
-/// How many files a session may have open: three handles of its client's connection, two of the farm's, the two streams of a
-/// program, and two for what is read and written of files.
-const FILES_OF_SESSION: u64 = 9;
+/// How many files a session may have open: three handles of its client's connection, two of the farm's, its sandbox, the two
+/// streams of a program, and two for what is read and written of files.
+const FILES_OF_SESSION: u64 = 10;
 
 /// How many a process may have open beside its sessions: its own streams, the socket that listens, and what a program takes for a
 /// moment as it starts.
@@ -15,7 +15,7 @@ const FILES_BESIDE: u64 = 16;
 
 /// How many files so many sessions may have open at once.
 pub fn open_files_of(sessions: u16) -> u64
-    ensures { result ≡ 16 + 9 * sessions }
+    ensures { result ≡ 16 + 10 * sessions }
 {
     FILES_BESIDE + FILES_OF_SESSION * u64::from(sessions)
 }

@@ -3,6 +3,7 @@
 ghost use Rattle.std.specs.Prelude.{◌≡◌, None};
 
 use crate::below::Below;
+use crate::left_files::Swept;
 use crate::made::MadeDirs;
 use crate::modes::Modes;
 use crate::names::FreshNames;
@@ -18,22 +19,26 @@ use std::{fs, io};
 const WRITE_TRIES: u32 = 4096;
 
 /// The files below a root directory. A new file is written beside its target, with mode 0755 or
-/// 0644, and renamed, so that its path has the old file or the new one at any time.
+/// 0644, and renamed, so that its path has the old file or the new one at any time. What a proxy that was killed left in a
+/// directory, as it wrote a file there, is removed before the first file is put there.
 #[derive(Drop)]
 pub struct HostPlace<R> {
     tree: Below<R>,
     names: FreshNames,
+    swept: Swept,
     faults: Faults,
 }
 
-impl<R: Files + AllocGlobal + Eprint> HostPlace<R> {
+impl<R: Files + AllocGlobal + Eprint + Clone + Drop> HostPlace<R> {
     /// The files below this directory, for the process with this number.
     pub fn new(rt: R, root: String, process: u32) -> HostPlace<R>
         ensures { ⟦<HostPlace<R> as Place>⟧.faults result ≡ 0 }
     {
+        let swept = Swept::new(rt.alloc());
         HostPlace {
             tree: Below::new(rt, root),
             names: FreshNames::new(process),
+            swept,
             faults: Faults::new(),
         }
     }
@@ -41,9 +46,10 @@ impl<R: Files + AllocGlobal + Eprint> HostPlace<R> {
 
 /// Makes the directories above a path, and puts the file there. Where a step fails no new file is
 /// left.
-fn put<R: Files + AllocGlobal>(
+fn put<R: Files + AllocGlobal + Clone + Drop>(
     tree: &Below<R>,
     names: &mut FreshNames,
+    swept: &mut Swept,
     path: &RelPath,
     bytes: &[u8],
     executable: bool,
@@ -54,6 +60,7 @@ fn put<R: Files + AllocGlobal>(
     // (others change the output tree too, so no directory of an earlier file is relied on)
     let mut made = MadeDirs::new(tree.runtime().alloc());
     let directory = tree.make_parent(&mut made, path)?;
+    swept.sweep(tree.runtime(), directory.as_str());
     let target = tree.text_of(path.as_str())?;
     let beside = write_beside(tree, names, directory.as_str(), bytes, executable)?;
     let renamed = fs::rename(tree.runtime(), beside.as_str(), target.as_str());
@@ -84,7 +91,7 @@ fn write_beside<R: Files + AllocGlobal>(
     Err(Error::from(ErrorKind::AlreadyExists))
 }
 
-impl<R: Files + AllocGlobal + Eprint> Place for HostPlace<R> {
+impl<R: Files + AllocGlobal + Eprint + Clone + Drop> Place for HostPlace<R> {
     ghost contents = { λ s. None };
 
     ghost opening = { λ s. None };
@@ -92,7 +99,8 @@ impl<R: Files + AllocGlobal + Eprint> Place for HostPlace<R> {
     ghost faults = { λ s. s.faults.count };
 
     fn place(&mut self, path: &RelPath, bytes: &[u8], executable: bool) -> Result<(), Failed> {
-        match put(&self.tree, &mut self.names, path, bytes, executable) {
+        let (names, swept) = (&mut self.names, &mut self.swept);
+        match put(&self.tree, names, swept, path, bytes, executable) {
             Ok(()) => Ok(()),
             Err(error) => {
                 tell(self.tree.runtime(), "place", path.as_str(), &error);

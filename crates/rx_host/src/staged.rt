@@ -3,21 +3,33 @@
 use crate::children::Children;
 use crate::tells::tell;
 use std::alloc::Global;
-use std::fs::Files;
+use std::fs::{File, Files};
 use std::io::Eprint;
 use std::sync::Arc;
 use std::{fs, io};
 
-/// A directory in which a bench's programs run. Its bench uses it, and so does each program that runs there.
+/// A directory in which a bench's programs run. Its bench uses it, and so does each program that runs there. A lock tells
+/// other proxies that somebody does, also those that count their processes apart from this one.
 #[derive(Drop)]
 pub(crate) struct Staged {
     root: String,
+    /// The directory, locked, where the system has such locks.
+    _lock: Option<File>,
 }
 
 impl Staged {
-    pub(crate) fn new(root: String) -> Staged {
-        Staged { root }
+    /// The use of a directory that is there.
+    pub(crate) fn new<R: Files<File = File>>(rt: &R, root: String) -> Staged {
+        let lock = lock_of(rt, root.as_str());
+        Staged { root, _lock: lock }
     }
+}
+
+/// Locks a directory, until its handle is dropped.
+fn lock_of<R: Files<File = File>>(rt: &R, root: &str) -> Option<File> {
+    let directory = fs::open(rt, root).ok()?;
+    directory.try_lock_shared().ok()?;
+    Some(directory)
 }
 
 /// Gives one use of a directory up. With the last one the directory is removed, with all that is in it.
