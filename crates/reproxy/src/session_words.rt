@@ -4,7 +4,8 @@
 use crate::local_words::local_in_words;
 use crate::remote_words::remote_in_words;
 use rx_engine::{Ending, Log, Transcript};
-use rx_world::{Cause, End, Ended, RemoteCause};
+use rx_session::Reply;
+use rx_world::{BenchStep, Cause, End, Ended, RemoteCause};
 use std::alloc::{AllocError, Global};
 
 /// Tells of each session as it ends.
@@ -29,14 +30,45 @@ pub(crate) fn tell_sessions(rt: &HostRuntime, transcripts: &[Transcript]) {
 /// Tells why attempts of a session failed, and how it ended where its client got no reply.
 fn tell_session(rt: &HostRuntime, transcript: &Transcript) {
     let number = transcript.number;
+    let is_given_up = is_local_given_up(transcript);
     for ended in transcript.ends.as_slice() {
+        if is_given_up && is_run_fault(ended) {
+            continue;
+        }
         if let Ok(Some(words)) = end_in_words(rt.alloc(), ended) {
             let _ = eprintln!(rt; "reproxy: session {number}: {words}");
         }
     }
-    if let Some(words) = ending_in_words(transcript.ending) {
+    if let Some(words) = ending_in_words(transcript) {
         let _ = eprintln!(rt; "reproxy: session {number}: {words}");
     }
+}
+
+/// Whether nobody waits for the local attempt any more: the remote one won before it ended, or the client gave its request up.
+fn is_local_given_up(transcript: &Transcript) -> bool {
+    if let Some(Reply::Cancelled { reason: _ }) = &transcript.reply {
+        return true;
+    }
+    matches!(
+        transcript.ends.as_slice().first(),
+        Some(Ended::Remote {
+            end: End::Done { .. },
+        },)
+    )
+}
+
+/// Whether a local attempt failed as its command ran, as it does where the wait for the command is ended.
+fn is_run_fault(ended: &Ended) -> bool {
+    matches!(
+        ended,
+        Ended::Local {
+            end: End::Failed {
+                cause: Cause::BenchFault {
+                    step: BenchStep::Run,
+                },
+            },
+        }
+    )
 }
 
 /// Why an attempt failed. One that was stopped, since the other one won or nobody wants it any more,
@@ -73,10 +105,12 @@ fn told(
     Ok(Some(format!(in alloc; "{place}: {words}")?))
 }
 
-/// How a session ended whose client got no reply, or not all of it.
-fn ending_in_words(ending: Ending) -> Option<&'static str> {
-    match ending {
+/// How a session ended whose client got no reply, or not all of it. A client that said nothing, and went, misses none: so does
+/// one that only ends the wait for the next client, once the run is to end.
+fn ending_in_words(transcript: &Transcript) -> Option<&'static str> {
+    match transcript.ending {
         Ending::Replied | Ending::ShutDown => None,
+        Ending::SinkLost if transcript.read.as_slice().is_empty() => None,
         Ending::SourceLost => Some("its request couldn't be read"),
         Ending::SinkLost => Some("its reply couldn't be written"),
         Ending::NoMemory => Some("memory ran out for its reply"),
