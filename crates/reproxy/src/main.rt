@@ -1,6 +1,7 @@
 //! The proxy program: it reads its words, makes the parts of the outside and serves.
 #![tactic(auto)]
 
+mod bad_words;
 mod clients;
 mod desk;
 mod farm;
@@ -10,16 +11,20 @@ mod local_words;
 mod remote_words;
 mod serve;
 mod session_words;
+mod settled;
 mod words;
 
+use crate::bad_words::bad_word;
 use crate::desk::Host;
 use crate::listen::listen;
 use crate::serve::serve;
 use crate::session_words::tell_sessions;
-use crate::words::{USAGE, is_help};
+use crate::settled::{resolved, settled, slots_of};
+use crate::words::{Page, page_in};
 use rx_engine::{Options, options_in};
 use rx_host::{
     Children, Contents, Hands, HostListener, draw_seed, open_files_limit, open_files_of,
+    remove_left_aside,
 };
 use std::alloc::AllocError;
 use std::io::ErrorKind;
@@ -29,33 +34,76 @@ use std::{env, io, process};
 /// The status of a command line that the program doesn't take.
 const BAD_WORDS: u8 = 2;
 
-/// The status where no client can connect.
+/// The status where no client can connect, or there is no directory to serve.
 const FRONT_LOST: u8 = 3;
 
 /// The status where memory runs out outside a session, or the machine has no random numbers.
 const NO_MEMORY: u8 = 4;
 
 fn main(rt: HostRuntime) -> ExitCode {
-    let status = match read_words(&rt) {
-        Ok(words) if is_help(&words) => return help(&rt),
-        Ok(words) => run_words(rt, rt, &words),
-        Err(error) if error.kind() == ErrorKind::OutOfMemory => NO_MEMORY,
-        Err(_) => BAD_WORDS,
-    };
-    if status == BAD_WORDS {
-        let _ = eprintln!(rt; "reproxy: bad command line");
+    match read_words(&rt) {
+        Ok(words) => match page_in(&words) {
+            Some(page) => print_page(&rt, page),
+            None => ExitCode::from(run_words(rt, rt, &words)),
+        },
+        Err(error) if error.kind() == ErrorKind::OutOfMemory => ExitCode::from(NO_MEMORY),
+        Err(_) => {
+            let _ = eprintln!(rt; "reproxy: bad command line: a word isn't UTF-8");
+            ExitCode::from(BAD_WORDS)
+        }
     }
-    ExitCode::from(status)
 }
 
-/// Serves what the words ask for, and waits for the programs that still run. The answer is the program's status.
+/// Serves what the words ask for, or tells which of them is wrong.
 fn run_words<H: Hands + Send + Sync>(rt: HostRuntime, hands: H, words: &[String]) -> u8 {
-    let Ok(host) = host_of(rt, hands) else {
+    match options_in(words) {
+        Some(options) => run_options(rt, hands, words, &options),
+        None => {
+            if let Ok(word) = bad_word(rt.alloc(), words) {
+                let _ = eprintln!(rt; "reproxy: bad command line: {word}");
+            }
+            BAD_WORDS
+        }
+    }
+}
+
+/// Serves what these options ask for, and waits for the programs that still run. The answer is the program's status.
+fn run_options<H: Hands + Send + Sync>(
+    rt: HostRuntime,
+    hands: H,
+    words: &[String],
+    options: &Options<'_>,
+) -> u8 {
+    let Some(root) = root_of(&rt, options) else {
+        return FRONT_LOST;
+    };
+    let (Ok(host), Ok(scratch)) = (
+        host_of(rt, hands),
+        String::from_str(rt.alloc(), options.scratch),
+    ) else {
         return NO_MEMORY;
     };
-    let status = run_all(&host, words);
+    if let Ok(children) = host.children.share() {
+        remove_left_aside(rt, &hands, scratch, children);
+    }
+    let status = match options.listen {
+        Some(_) => run_settled(&host, words, options, root.as_str()),
+        None => run_one(&host, words),
+    };
     host.children.wait_for_all(&hands);
     status
+}
+
+/// The root, resolved. Where it is no directory, a line tells so.
+fn root_of(rt: &HostRuntime, options: &Options<'_>) -> Option<String> {
+    let root = options.root;
+    match resolved(rt, root) {
+        Ok(path) => Some(path),
+        Err(error) => {
+            let _ = eprintln!(rt; "reproxy: can't serve {root}: {error}");
+            None
+        }
+    }
 }
 
 /// What the desks of the run share.
@@ -68,14 +116,23 @@ fn host_of<H: Hands>(rt: HostRuntime, hands: H) -> Result<Host<H>, AllocError> {
     })
 }
 
-/// Serves one request, or the clients of a socket.
-fn run_all<H: Hands + Send + Sync>(host: &Host<H>, words: &[String]) -> u8 {
-    match options_in(words) {
+/// Serves clients by the words that are settled with the machine.
+fn run_settled<H: Hands + Send + Sync>(
+    host: &Host<H>,
+    words: &[String],
+    options: &Options<'_>,
+    root: &str,
+) -> u8 {
+    let slots = slots_of(&host.hands, words, options);
+    let Ok(words) = settled(host.rt.alloc(), options, root, slots) else {
+        return NO_MEMORY;
+    };
+    match options_in(&words) {
         Some(options) => match options.listen {
-            Some(address) => run_clients(host, words, options, address),
-            None => run_one(host, words),
+            Some(address) => run_clients(host, &words, options, address),
+            None => BAD_WORDS,
         },
-        None => run_one(host, words),
+        None => BAD_WORDS,
     }
 }
 
@@ -143,9 +200,10 @@ fn read_words(rt: &HostRuntime) -> io::Result<Vec<String>> {
     Ok(env::args(rt)?.skip(1).collect(rt.alloc())?)
 }
 
-/// Prints the usage.
-fn help(rt: &HostRuntime) -> ExitCode {
-    match print!(rt; "{USAGE}") {
+/// Prints a text that the words ask for.
+fn print_page(rt: &HostRuntime, page: Page) -> ExitCode {
+    let text = page.text();
+    match print!(rt; "{text}") {
         Ok(()) => ExitCode::SUCCESS,
         Err(_) => ExitCode::FAILURE,
     }
