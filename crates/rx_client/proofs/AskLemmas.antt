@@ -1,14 +1,14 @@
 -- What is to be done, by the bytes of the file that is named, and the root as the system resolves its path.
-use Rattle.std.proofs.Common.{◌≡◌, ◌≢◌, ℕ, List, [], Option, None, Result, Ok, Err, refl}
+use Rattle.std.proofs.Common.{◌≡◌, ◌≢◌, ℕ, List, [], Option, None, Result, Ok, Err, refl, subst}
 use Rattle.rx_wrap.specs.Asking.{job_of}
 use Rattle.rx_wrap.specs.Reading.{Words}
-use Rattle.rx_wrap.specs.Settings.{Settings, setting_of}
+use Rattle.rx_wrap.specs.Settings.{Setting, Settings, setting_of}
 use Rattle.rx_wrap.specs.Words.{nothing_read, words_in}
 use Rattle.rx_wrap.specs.declared.flags.Flag.TheVariants.{ExecRoot as root_flag}
 use Rattle.rx_wrap.specs.declared.jobs.Job.{Job}
 use Rattle.rx_wrap.specs.declared.usage_fault.UsageFault.{UsageFault}
 use Rattle.rx_wrap.specs.declared.usage_fault.UsageFault.TheVariants as usages
-use Rattle.rx_client.specs.Asking.{AreBytesOf, Asks, FindsJob, IsAsked, IsJob, IsResolved, called_by, file_named, first_settings, job_by, job_with, settings_with, usage_fault_of}
+use Rattle.rx_client.specs.Asking.{AreBytesOf, Asks, FindsJob, IsAsked, IsJob, IsResolved, called_by, file_named, first_settings, job_with, settings_with, usage_fault_of}
 use Rattle.rx_client.specs.Invoked.{Invocation}
 
 -- ---- where the settings of words and environment are known
@@ -46,6 +46,17 @@ pub job_refused : (resolved : List ℕ → Option (Option (List ℕ))) (invocati
 job_refused resolved invocation settings command bytes all root (usages.Word word) known is h =
     job_known resolved invocation settings command bytes all root (Err (usages.Word word)) known is (h (λ e. absurd (cc e)))
 job_refused resolved invocation settings command bytes all root usages.NoMemory known is h = tt
+
+-- the same job, by the same values
+pub job_moved : (resolved : List ℕ → Option (Option (List ℕ))) (invocation invocation' : Invocation) (first environment environment' file file' : List Setting) (command : List (List ℕ)) (bytes bytes' : List ℕ) (job : Result Job UsageFault)
+    → invocation ≡ invocation' → environment ≡ environment' → file ≡ file' → bytes ≡ bytes'
+    → FindsJob resolved invocation (record { command_line = first; environment = environment; file = file }) command bytes job
+    → FindsJob resolved invocation' (record { command_line = first; environment = environment'; file = file' }) command bytes' job
+job_moved resolved invocation invocation' first environment environment' file file' command bytes bytes' job a b c d h =
+    let over_bytes = subst (λ (x : List ℕ). FindsJob resolved invocation (record { command_line = first; environment = environment; file = file }) command x job) d h in
+    let over_file = subst (λ (x : List Setting). FindsJob resolved invocation (record { command_line = first; environment = environment; file = x }) command bytes' job) c over_bytes in
+    let over_environment = subst (λ (x : List Setting). FindsJob resolved invocation (record { command_line = first; environment = x; file = file' }) command bytes' job) b over_file in
+    subst (λ (x : Invocation). FindsJob resolved x (record { command_line = first; environment = environment'; file = file' }) command bytes' job) a over_environment
 
 -- ---- by the words
 

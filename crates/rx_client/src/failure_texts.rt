@@ -1,10 +1,12 @@
 //! The ends of attempts that failed, in words.
 
 ghost use Rattle.std.specs.Prelude.{◌≡◌, ◌++◌, IfOk, OnOk, map, string_bytes};
+ghost use Rattle.std.specs.Fmt.{signed_decimal};
 ghost use Rattle.rx_client.specs.FailureTexts.{failure_text, failures_text, local_text, output_limit_text, remote_text, result_text, step_text};
 
 use crate::fault_texts::push_calls;
-use crate::joins::{push_joined, push_number};
+use crate::joins::push_joined;
+use itoa::Buffer;
 use rx_base::{NoMemory, RelPath, Text};
 use rx_world::{BenchStep, Cause, Failure, OutputLimit, RemoteCause, ResultFault};
 use std::alloc::Global;
@@ -84,6 +86,16 @@ fn push_remote(alloc: Global, out: &mut String, cause: &RemoteCause) -> Result<(
     }
 }
 
+/// Adds a text and the code that a command ended with.
+fn push_exit(out: &mut String, text: &str, exit: &i32) -> Result<(), NoMemory>
+    ensures { OnOk result
+        (string_bytes out.new ≡ string_bytes out.old ++ (text.now ++ signed_decimal exit.now)) }
+{
+    let mut buffer = Buffer::new();
+    out.push_str(text)?;
+    out.push_str(buffer.format(*exit))
+}
+
 /// Adds how one attempt failed.
 fn push_failure(alloc: Global, out: &mut String, failure: &Failure) -> Result<(), NoMemory>
     ensures { OnOk result
@@ -98,10 +110,7 @@ fn push_failure(alloc: Global, out: &mut String, failure: &Failure) -> Result<()
             out.push_str("remote: ")?;
             push_remote(alloc, out, cause)
         }
-        Failure::NonZero { exit } => {
-            out.push_str("remote: exit ")?;
-            push_number(out, *exit)
-        }
+        Failure::NonZero { exit } => push_exit(out, "remote: exit ", exit),
     }
 }
 

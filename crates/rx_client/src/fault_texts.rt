@@ -5,7 +5,7 @@ ghost use Rattle.std.specs.List.{list_all};
 ghost use Rattle.std.specs.Str.{bytes_eq};
 ghost use Rattle.rx_client.specs.FailureTexts.{are_repeated, calls_text, fault_text, fault_texts, repeated, status_text};
 
-use crate::joins::{push_joined, push_number};
+use crate::joins::{push_joined, push_number, push_with_number};
 use rx_base::{NoMemory, Text};
 use rx_world::CallFault;
 use std::alloc::Global;
@@ -39,6 +39,15 @@ fn push_status(out: &mut String, status: u32) -> Result<(), NoMemory>
     }
 }
 
+/// Adds a text and the name of a status.
+fn push_with_status(out: &mut String, text: &str, status: u32) -> Result<(), NoMemory>
+    ensures { OnOk result
+        (string_bytes out.new ≡ string_bytes out.old ++ (text.now ++ status_text status)) }
+{
+    out.push_str(text)?;
+    push_status(out, status)
+}
+
 /// Adds a fault.
 fn push_fault(out: &mut String, fault: &CallFault) -> Result<(), NoMemory>
     ensures { OnOk result (string_bytes out.new ≡ string_bytes out.old ++ fault_text fault.now) }
@@ -46,19 +55,13 @@ fn push_fault(out: &mut String, fault: &CallFault) -> Result<(), NoMemory>
     match fault {
         CallFault::Status(status) => push_status(out, *status),
         CallFault::Link => out.push_str("the connection failed"),
-        CallFault::Protocol(error) => {
-            out.push_str("HTTP/2 error ")?;
-            push_number(out, *error)
-        }
+        CallFault::Protocol(error) => push_with_number(out, "HTTP/2 error ", *error),
         CallFault::Compressed => out.push_str("a compressed message"),
         CallFault::TooLarge => out.push_str("a message too large"),
         CallFault::NoStatus => out.push_str("no status"),
         CallFault::BadMessage(_) => out.push_str("a bad message"),
         CallFault::Cut => out.push_str("the operation was cut"),
-        CallFault::BlobRefused(_, status) => {
-            out.push_str("a blob refused: ")?;
-            push_status(out, *status)
-        }
+        CallFault::BlobRefused(_, status) => push_with_status(out, "a blob refused: ", *status),
         CallFault::NoMemory => out.push_str("out of memory"),
     }
 }

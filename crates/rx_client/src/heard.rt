@@ -44,17 +44,17 @@ pub(crate) fn needs_all(heard: &Heard) -> bool
 }
 
 /// What a reply says. That a command is to run in place is heard only where the request lets it.
-fn heard_of(in_place: bool, reply: Reply) -> Result<Heard, HearFault>
-    ensures { Hears result (heard_of in_place reply) }
+fn heard_of(in_place: bool, reply: Reply) -> Option<Heard>
+    ensures { result ≡ heard_of in_place reply }
 {
     match reply {
         Reply::InPlace { cause } => {
             if in_place {
-                return Ok(Heard::InPlace(cause));
+                return Some(Heard::InPlace(cause));
             }
-            Err(HearFault::NoFrame)
+            None
         }
-        other => Ok(Heard::Reply(other)),
+        other => Some(Heard::Reply(other)),
     }
 }
 
@@ -73,7 +73,10 @@ pub(crate) fn hear<S: Source>(
 {
     match errand {
         Errand::Run(request) => match read_reply(alloc, source, read) {
-            Ok(reply) => heard_of(request.in_place, reply),
+            Ok(reply) => match heard_of(request.in_place, reply) {
+                Some(heard) => Ok(heard),
+                None => Err(HearFault::NoFrame),
+            },
             Err(fault) => Err(fault),
         },
         Errand::ShutDown => match read_shutdown_done(source, read) {

@@ -15,6 +15,19 @@ pub(crate) fn push_number<I: Integer>(out: &mut String, number: I) -> Result<(),
     out.push_str(buffer.format(number))
 }
 
+/// Adds a text and a number.
+pub(crate) fn push_with_number<I: Integer>(
+    out: &mut String,
+    text: &str,
+    number: I,
+) -> Result<(), NoMemory>
+    ensures { OnOk result
+        (string_bytes out.new ≡ string_bytes out.old ++ (text.now ++ I.text number)) }
+{
+    out.push_str(text)?;
+    push_number(out, number)
+}
+
 /// Adds texts, each behind another one.
 fn push_behind_each(out: &mut String, between: &str, texts: &[Text]) -> Result<(), NoMemory>
     ensures { OnOk result (string_bytes out.new

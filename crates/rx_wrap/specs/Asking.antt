@@ -10,7 +10,6 @@ use Rattle.rx_wrap.specs.RelativePaths.{relative_words}
 use Rattle.rx_wrap.specs.Settings.{Setting, Settings, setting_of}
 use Rattle.rx_wrap.specs.Values.{text_of, values_in}
 use Rattle.rx_wrap.specs.Variables.{environment_of}
-use Rattle.rx_wrap.specs.declared.asked.Asked.{Asked}
 use Rattle.rx_wrap.specs.declared.asked.Errand.{Errand}
 use Rattle.rx_wrap.specs.declared.asked.Errand.TheVariants.{Run, ShutDown}
 use Rattle.rx_wrap.specs.declared.flags.Flag.{Flag}

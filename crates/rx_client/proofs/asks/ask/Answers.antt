@@ -4,9 +4,9 @@ use Rattle.rx_wrap.specs.Reading.{Words}
 use Rattle.rx_wrap.specs.Words.{nothing_read, words_in}
 use Rattle.rx_wrap.specs.declared.jobs.Job.{Job}
 use Rattle.rx_wrap.specs.declared.usage_fault.UsageFault.{UsageFault}
-use Rattle.rx_client.specs.Asking.{AreBytesOf, Asks, IsAsked, file_named, first_settings, usage_fault_of}
+use Rattle.rx_client.specs.Asking.{AreBytesOf, Asks, FindsJob, IsAsked, file_named, first_settings, usage_fault_of}
 use Rattle.rx_client.specs.Invoked.{Invocation}
-use Rattle.rx_client.proofs.AskLemmas.{asked_read, asked_refused, words_refused}
+use Rattle.rx_client.proofs.AskLemmas.{asked_read, asked_refused, job_moved, words_refused}
 use Rattle.rx_client.proofs.asks.ask.Goals as goal
 
 pub returns-in_err-settings-clause-asks : goal.returns-in_err-settings-clause-asks
@@ -39,7 +39,10 @@ returns-in_err-job_by-clause-asks g c =
     c.file_named-named.ensures ∙ rw (c.in_ok-settings_in_environment.ensures, c.new.ensures.items) refl in
     let file : AreBytesOf held (file_named (first_settings read.settings inv.environment)) c.in_ok-bytes.bytes.items = rw named at c.in_ok-bytes.ensures.bytes in
     let fault : UsageFault = c.in_err-job_by.field-0.0 in
-    let told = rw (c.deref.ensures.value, c.in_ok-settings_in_environment.ensures, c.new.ensures.items, ← c.invocation.view_is) at c.in_err-job_by.ensures in
+    let found : FindsJob resolved c.args.invocation.now
+    (record { command_line = read.settings; environment = c.in_ok-settings_in_environment.field-0.items; file = c.new.result.items })
+    read.command c.deref.result.now (Err fault) = c.in_err-job_by.ensures in
+    let told = job_moved resolved _ inv read.settings _ _ _ _ read.command _ _ (Err fault) (sym c.invocation.view_is) c.in_ok-settings_in_environment.ensures c.new.ensures.items c.deref.ensures.value found in
     rw (p.1, p.2) (subst (λ (i : Invocation). Asks held resolved i (Err (usage_fault_of fault))) c.invocation.view_is
     (asked_refused held resolved inv c.in_ok-bytes.bytes.items read fault known file told))
 
