@@ -1,5 +1,5 @@
 -- From the steps of an answer to the whole of it.
-use Rattle.std.proofs.Common.{◌≡◌, ◌∙◌, ℕ, Bool, List, [], inl, inr, refl, sym, subst}
+use Rattle.std.proofs.Common.{◌≡◌, ◌∙◌, ℕ, Bool, true, false, List, [], inl, inr, refl, sym, subst}
 use Rattle.std.proofs.lemmas.Bool.{true_from_ne_false}
 use Rattle.std.proofs.lemmas.List.Elements.{All-nil, All-weaker}
 use Rattle.std.specs.Prelude.{Err, IfOk, IfSome, None, Ok, Option, Result, Some, All, is_some}
@@ -8,6 +8,7 @@ use Rattle.rx_race.specs.declared.slips.Slip.TheVariants.{Told}
 use Rattle.rx_scan.specs.declared.gather_fault.GatherFault.{GatherFault}
 use Rattle.rx_scan.specs.declared.gather_fault.GatherFault.TheVariants as fault
 use Rattle.rx_scan.specs.declared.gathering.Gathered.{Gathered}
+use Rattle.rx_scan.specs.declared.plans.Choice.{Choice}
 use Rattle.rx_reach.specs.Explored.{HaveDigests}
 use Rattle.rx_scan.specs.Digests.{IsAsListed as IsAsSeen}
 use Rattle.rx_scan.specs.Gathering.{Asked, BlamesGather, Gathers, IsGatheredBy, IsOrderly}
@@ -42,6 +43,7 @@ use Rattle.rx_engine.specs.declared.transcripts.Tally.{Tally}
 use Rattle.rx_engine.specs.Answered.{AnswersFault, IsPlain, IsUnpublishedEnd, TellsPublication, reply_no_memory}
 use Rattle.rx_engine.specs.Answers.{Answers, Grounds, HasRun, HasWon, IsUnrun, MayHaveRun, asked_of, grounds, stretch_of}
 use Rattle.rx_engine.specs.Attempts.{HasAttempts, HasMade, IsIdle, no_tally, winner}
+use Rattle.rx_engine.specs.Choices.{choice_of, client_runs}
 use Rattle.rx_engine.specs.Gathers.{AnswersMade, HasGatheredFor, HasNotGathered}
 use Rattle.rx_engine.specs.Meanings.{Meanings, meanings}
 use Rattle.rx_engine.specs.Pending.{HasAnswered, HasTried}
@@ -67,9 +69,9 @@ pub gathers-none : {T W : Type 0} (w : world.Ghosts W) (s : sources.Ghosts T W) 
 gathers-none w s tree asked = record { answers = []; lists = []; view = []; tells = tells-none w s tree; outcome = tt }
 
 -- what is asked of the gathering is what the request asks for
-pub asked-is : (command : Command) (paths : List (List ℕ)) (request : Request) → command ≡ command_of request → paths ≡ declared_of request
-    → record { command = command; kind = request.kind; inputs = paths; strategy = request.strategy } ≡ asked_of request
-asked-is command paths request c p = rw (c, p) refl
+pub asked-is : (command : Command) (paths : List (List ℕ)) (choice : Choice) (request : Request) → command ≡ command_of request → paths ≡ declared_of request → choice ≡ choice_of request
+    → record { command = command; kind = request.kind; inputs = paths; choice = choice } ≡ asked_of request
+asked-is command paths choice request c p h = rw (c, p, h) refl
 
 -- each file that is as the gathering says it is listed
 as-listed : (told : Option (List SourceEntry)) (files : List InputFile) → IfSome told (λ entries. All (IsAsSeen entries) files) → IfSome told (λ entries. All (IsAsListed entries) files)
@@ -104,6 +106,7 @@ module _ {P W B : Type 0} (m : Meanings P W B) (g : Grounds P) (request : Reques
   publication-answers won a (reply.SourceFault path) h tells = absurd tells
   publication-answers won a (reply.TooLarge limit n path) h tells = absurd tells
   publication-answers won a (reply.Blocked path) h tells = absurd tells
+  publication-answers won a (reply.InPlace cause) h tells = absurd tells
   publication-answers won a (reply.BadRequest bad) h tells = absurd tells
   publication-answers won a reply.NoMemory h tells = absurd tells
 
@@ -130,25 +133,27 @@ module _ {P W B : Type 0} (m : Meanings P W B) (g : Grounds P) (request : Reques
 
   -- ---- the replies to a refused gathering
 
-  refusal-answers : (why : GatherFault) (a : Answered) → IsUnrun m g tally → BlamesGather (asked_of request) why (stretch_of m g)
-      → AnswersFault why a → (a.frame.items ≡ frame_of a.reply) × Answers m g request a.receipt tally a.reply
-  refusal-answers (fault.NotRemotable cause) a u blame h = (h.frame, rw h.reply_is (record { cause = blame; unrun = u; receipt_is = h.receipt_is }))
-  refusal-answers (fault.InputMissing path) a u blame h = (h.frame, rw h.reply_is (record { cause = blame; unrun = u; receipt_is = h.receipt_is }))
-  refusal-answers (fault.InputChanged input) a u blame h = (h.frame, rw h.reply_is (record { cause = blame; unrun = u; receipt_is = h.receipt_is }))
-  refusal-answers (fault.SourceFault path) a u blame h = (h.frame, rw h.reply_is (record { cause = blame; unrun = u; receipt_is = h.receipt_is }))
-  refusal-answers (fault.TooLarge limit n path) a u blame h = (h.frame, rw h.reply_is (record { cause = blame; unrun = u; receipt_is = h.receipt_is }))
-  refusal-answers (fault.Blocked path) a u blame h = (h.frame, rw h.reply_is (record { cause = blame; unrun = u; receipt_is = h.receipt_is }))
-  refusal-answers fault.NoMemory a u blame h = absurd h
+  refusal-answers : (why : GatherFault) (by_client : Bool) (a : Answered) → client_runs request ≡ by_client → IsUnrun m g tally → BlamesGather (asked_of request) why (stretch_of m g)
+      → AnswersFault why by_client a → (a.frame.items ≡ frame_of a.reply) × Answers m g request a.receipt tally a.reply
+  refusal-answers (fault.NotRemotable cause) true a is u blame h = (h.frame, rw h.reply_is (is, record { cause = blame; unrun = u; receipt_is = h.receipt_is }))
+  refusal-answers (fault.NotRemotable cause) false a is u blame h = (h.frame, rw h.reply_is (is, record { cause = blame; unrun = u; receipt_is = h.receipt_is }))
+  refusal-answers (fault.TooLarge limit n path) true a is u blame h = (h.frame, rw h.reply_is (is, n, path, record { cause = blame; unrun = u; receipt_is = h.receipt_is }))
+  refusal-answers (fault.TooLarge limit n path) false a is u blame h = (h.frame, rw h.reply_is (is, record { cause = blame; unrun = u; receipt_is = h.receipt_is }))
+  refusal-answers (fault.InputMissing path) by_client a is u blame h = (h.frame, rw h.reply_is (record { cause = blame; unrun = u; receipt_is = h.receipt_is }))
+  refusal-answers (fault.InputChanged input) by_client a is u blame h = (h.frame, rw h.reply_is (record { cause = blame; unrun = u; receipt_is = h.receipt_is }))
+  refusal-answers (fault.SourceFault path) by_client a is u blame h = (h.frame, rw h.reply_is (record { cause = blame; unrun = u; receipt_is = h.receipt_is }))
+  refusal-answers (fault.Blocked path) by_client a is u blame h = (h.frame, rw h.reply_is (record { cause = blame; unrun = u; receipt_is = h.receipt_is }))
+  refusal-answers fault.NoMemory by_client a is u blame h = absurd h
 
   given-up-answers : (answered : Option Answered) → IsUnrun m g tally → IfSome answered (IsPlain reply_no_memory) → AnswersAs m g request tally answered
   given-up-answers None u h = inl u
   given-up-answers (Some a) u h = (h.frame, no-memory-answers a (inl u) h)
 
-  refused-answers : {E : Type 0} (why : GatherFault) (made : Result Answered E) (answered : Option Answered) → IsUnrun m g tally
+  refused-answers : {E : Type 0} (why : GatherFault) (by_client : Bool) (made : Result Answered E) (answered : Option Answered) → client_runs request ≡ by_client → IsUnrun m g tally
       → BlamesGather (asked_of request) why (stretch_of m g)
-      → IfOk made (AnswersFault why) → IsOrGivenUp made answered → AnswersAs m g request tally answered
-  refused-answers why (Ok a) answered u blame h o = rw o (refusal-answers why a u blame h)
-  refused-answers why (Err e) answered u blame h o = given-up-answers answered u o
+      → IfOk made (AnswersFault why by_client) → IsOrGivenUp made answered → AnswersAs m g request tally answered
+  refused-answers why by_client (Ok a) answered is u blame h o = rw o (refusal-answers why by_client a is u blame h)
+  refused-answers why by_client (Err e) answered is u blame h o = given-up-answers answered u o
 
 -- the answer to attempts that were made
 pub tried-answers : {P W B : Type 0} (m : Meanings P W B) (g : Grounds P) (request : Request) (attempted : Attempted) (answered : Option Answered) → HasTried m g request attempted
@@ -202,11 +207,11 @@ module _ {W I O T L M B R C : Type 0} (w : world.Ghosts W) (i : inputs.Ghosts I)
       }
 
   -- nothing was gathered
-  pub answered-refused : {E : Type 0} (p q : Parts I O T L M R C) (request : Request) (why : GatherFault) (made : Result Answered E) (answered : Option Answered)
+  pub answered-refused : {E : Type 0} (p q : Parts I O T L M R C) (request : Request) (why : GatherFault) (by_client : Bool) (made : Result Answered E) (answered : Option Answered)
       → IsSame p q → HasNotGathered (meanings w i o t l k b v z) request p q why
-      → IfOk made (AnswersFault why) → IsOrGivenUp made answered
+      → client_runs request ≡ by_client → IfOk made (AnswersFault why by_client) → IsOrGivenUp made answered
       → HasAnswered (meanings w i o t l k b v z) request p q (stages.Refused answered)
-  answered-refused p q request why made answered same h answers given =
+  answered-refused p q request why by_client made answered same h is answers given =
       let idle : IsIdle (meanings w i o t l k b v z) p q = idle-move w i o t l k b v z p p p q (same-none p) same (idle-none w i o t l k b v z p) in
       record {
         answers = h.answers;
@@ -215,8 +220,8 @@ module _ {W I O T L M B R C : Type 0} (w : world.Ghosts W) (i : inputs.Ghosts I)
         looked = h.looked;
         stage_is = (
           refused-answers (meanings w i o t l k b v z) (grounds p q h.answers h.lists h.view) request no_tally
-              why made answered (record { idle = idle; tally_is = refl }) h.cause answers given,
-          refused why made answered answers given,
+              why by_client made answered is (record { idle = idle; tally_is = refl }) h.cause answers given,
+          refused why by_client made answered answers given,
         );
       }
 

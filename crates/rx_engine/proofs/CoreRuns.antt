@@ -13,6 +13,7 @@ use Rattle.rx_core.specs.Steps.{Step}
 use Rattle.rx_core.proofs.Following.{Follows}
 use Rattle.rx_core.proofs.Reaching.{after-append, run-append}
 use Rattle.rx_remote.specs.Marks.{Turn}
+use Rattle.rx_session.specs.declared.in_place.InPlaceCause.TheVariants as in_place
 use Rattle.rx_session.specs.declared.replies.Reply.{Reply}
 use Rattle.rx_session.specs.declared.replies.Reply.TheVariants as reply
 use Rattle.rx_session.specs.declared.requests.Request.{Request}
@@ -120,12 +121,14 @@ module _ {P W B : Type 0} (m : Meanings P W B) (root : List ℕ) (g : Grounds P)
       (rw passes at a.0.cancelled) in
       led way.0 way.1 way.2
   answered asked reply.NoMemory is told a = handled (Some asked) (Some CoreReply.NoMemory) is a.1 (inr refl) (ap in_core told) a.0
-  answered asked (reply.NotRemotable why) is told a = unrun a.receipt_is a.unrun.tally_is
+  answered asked (reply.NotRemotable why) is told a = unrun a.1.receipt_is a.1.unrun.tally_is
   answered asked (reply.InputMissing path) is told a = unrun a.receipt_is a.unrun.tally_is
   answered asked (reply.InputChanged input) is told a = unrun a.receipt_is a.unrun.tally_is
   answered asked (reply.SourceFault path) is told a = unrun a.receipt_is a.unrun.tally_is
-  answered asked (reply.TooLarge limit n path) is told a = unrun a.receipt_is a.unrun.tally_is
+  answered asked (reply.TooLarge limit n path) is told a = unrun a.1.receipt_is a.1.unrun.tally_is
   answered asked (reply.Blocked path) is told a = unrun a.receipt_is a.unrun.tally_is
+  answered asked (reply.InPlace (in_place.Kept why)) is told a = unrun a.1.receipt_is a.1.unrun.tally_is
+  answered asked (reply.InPlace (in_place.TooLarge limit)) is told a = unrun a.3.receipt_is a.3.unrun.tally_is
   answered asked (reply.BadRequest bad) is told a = absurd a
 
   to : (answer : Reply) → t.reply ≡ Some answer → RepliesTo m root g t.read t.request t.receipt (tally_in t) answer → Here
@@ -145,6 +148,7 @@ module _ {P W B : Type 0} (m : Meanings P W B) (root : List ℕ) (g : Grounds P)
   replied (reply.Cancelled reason) told h = to (reply.Cancelled reason) told h.0
   replied reply.JournalFull told h = to reply.JournalFull told h
   replied (reply.Blocked path) told h = to (reply.Blocked path) told h
+  replied (reply.InPlace cause) told h = to (reply.InPlace cause) told h
 
   -- however it ended
   ended : (ending : Ending) → IsCourse m root g t ending → Here

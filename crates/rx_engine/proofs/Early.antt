@@ -5,12 +5,12 @@ use Rattle.std.specs.Int.{from_be_bytes, w32}
 use Rattle.std.proofs.lemmas.List.{drop-append-le, take-append-le}
 use Rattle.rx_base.specs.Results.{◌>>=◌}
 use Rattle.rx_session.specs.declared.bad.Bad.{Bad}
-use Rattle.rx_session.specs.declared.bad.BadReason.TheVariants.{BadKind, BadMessage, CutShort, TooLong}
+use Rattle.rx_session.specs.declared.bad.BadReason.TheVariants.{BadKind, CutShort, TooLong}
 use Rattle.rx_session.specs.declared.frames.Incoming.{Incoming}
 use Rattle.rx_session.specs.declared.frames.Incoming.TheVariants as incomings
 use Rattle.rx_session.specs.declared.requests.Request.{Request}
 use Rattle.rx_session.specs.Bad.{bad}
-use Rattle.rx_session.specs.Frames.{IsRequest, alone, begins, head_by, head_in, incoming_by, incoming_of, length_in, longest_payload, or_request, payload_request, request_within, shutdown}
+use Rattle.rx_session.specs.Frames.{IsRequest, alone, begins, head_by, head_in, incoming_by, incoming_of, length_in, longest_payload, or_request, payload_request, request_within, shutdown, shutdown_within}
 
 lt-false : (a b : ℕ) → b ≤ a → nat_lt a b ≡ false
 lt-false a b h = grind (arith, h)
@@ -94,37 +94,37 @@ found-asked (Ok request) asked h = cc
 found-asked (Err fault) asked h = absurd (cc h)
 
 -- what a header tells, by its kind and length
-by-asked : (root text : List ℕ) (kind len : ℕ) → (kind == 1) ≡ true → (head_by kind len >>= incoming_by root text) ≡ or_request (request_within root len text)
+by-asked : (root text : List ℕ) (kind len : ℕ) → (kind == 1) ≡ true → incoming_by root text (head_by kind len) ≡ or_request (request_within root len text)
 by-asked root text kind len e = rw e refl
 
-by-refused : (root text : List ℕ) (kind len : ℕ) → (kind == 1) ≡ false → nat_lt 0 len ≡ true → (head_by kind len >>= incoming_by root text) ≡ Err (bad BadMessage 1)
-by-refused root text kind len e f = rw (e, f) refl
-
-by-ended : (root text : List ℕ) (kind len : ℕ) → (kind == 1) ≡ false → nat_lt 0 len ≡ false → (head_by kind len >>= incoming_by root text) ≡ Ok incomings.Shutdown
-by-ended root text kind len e f = rw (e, f) refl
+by-ended : (root text : List ℕ) (kind len : ℕ) → (kind == 1) ≡ false → incoming_by root text (head_by kind len) ≡ shutdown_within len text
+by-ended root text kind len e = rw e refl
 
 pub err-in : (a : Bad) (asked : Request) → errs a ≡ Ok (incomings.Request asked) → ⊥
 err-in a asked h = cc
 
-end-in : (asked : Request) → Ok incomings.Shutdown ≡ oks (incomings.Request asked) → ⊥
-end-in asked h = cc
+-- a Shutdown's frame is none that asks
+no-asked : (short some : Bool) (x y : Bad) (asked : Request) → (if short then Err x else if some then Err y else Ok incomings.Shutdown) ≡ oks (incomings.Request asked) → ⊥
+no-asked true some x y asked h = cc
+no-asked false true x y asked h = cc
+no-asked false false x y asked h = cc
 
-head-late : (root text more : List ℕ) (why : Bad) (asked : Request) (kind len : ℕ) (d z : Bool) → (kind == 1) ≡ d → nat_lt 0 len ≡ z
-    → (head_by kind len >>= incoming_by root text) ≡ Err why → (why.reason ≡ CutShort → ⊥)
-    → (head_by kind len >>= incoming_by root (text ++ more)) ≡ Ok (incomings.Request asked) → ⊥
-head-late root text more why asked kind len true z e f h n k =
+head-late : (root text more : List ℕ) (why : Bad) (asked : Request) (kind len : ℕ) (d : Bool) → (kind == 1) ≡ d
+    → incoming_by root text (head_by kind len) ≡ Err why → (why.reason ≡ CutShort → ⊥)
+    → incoming_by root (text ++ more) (head_by kind len) ≡ Ok (incomings.Request asked) → ⊥
+head-late root text more why asked kind len true e h n k =
     within-late root len text more why asked (nat_lt (length text) (5 + len)) refl
     (found-refused (request_within root len text) why (sym (by-asked root text kind len e) ∙ h)) n
     (found-asked (request_within root len (text ++ more)) asked (sym (by-asked root (text ++ more) kind len e) ∙ k))
-head-late root text more why asked kind len false true e f h n k = err-in (bad BadMessage 1) asked (sym (by-refused root (text ++ more) kind len e f) ∙ k)
-head-late root text more why asked kind len false false e f h n k = end-in asked (sym (by-ended root (text ++ more) kind len e f) ∙ k)
+head-late root text more why asked kind len false e h n k =
+    no-asked (nat_lt (length (text ++ more)) (5 + len)) (nat_lt 0 len) _ _ asked (sym (by-ended root (text ++ more) kind len e) ∙ k)
 
 tests-late : (root text more : List ℕ) (why x y : Bad) (asked : Request) (kind len : ℕ) (b l : Bool)
-    → ((if not b then Err x else if l then Err y else head_by kind len) >>= incoming_by root text) ≡ Err why → (why.reason ≡ CutShort → ⊥)
-    → ((if not b then Err x else if l then Err y else head_by kind len) >>= incoming_by root (text ++ more)) ≡ Ok (incomings.Request asked) → ⊥
+    → ((if not b then Err x else if l then Err y else Ok (head_by kind len)) >>= incoming_by root text) ≡ Err why → (why.reason ≡ CutShort → ⊥)
+    → ((if not b then Err x else if l then Err y else Ok (head_by kind len)) >>= incoming_by root (text ++ more)) ≡ Ok (incomings.Request asked) → ⊥
 tests-late root text more why x y asked kind len false l h n k = err-in x asked k
 tests-late root text more why x y asked kind len true true h n k = err-in y asked k
-tests-late root text more why x y asked kind len true false h n k = head-late root text more why asked kind len (kind == 1) (nat_lt 0 len) refl refl h n k
+tests-late root text more why x y asked kind len true false h n k = head-late root text more why asked kind len (kind == 1) refl h n k
 
 early-at : (root : List ℕ) (text more : List ℕ) (why : Bad) (asked : Request) (c : Bool) → nat_lt (length text) 5 ≡ c
     → incoming_of root text ≡ Err why → (why.reason ≡ CutShort → ⊥) → IsRequest root (text ++ more) asked → ⊥
@@ -144,8 +144,16 @@ pub early : (root : List ℕ) (text more : List ℕ) (why : Bad) (asked : Reques
 early root text more why asked h n k = early-at root text more why asked (nat_lt (length text) 5) refl h n k
 
 -- bytes that begin with a Shutdown are no request
+ended-late : (root text : List ℕ) (x y z : Bad) (asked : Request) (kind len : ℕ) (c b l : Bool) → (kind == 1) ≡ false
+    → ((if c then Err x else if not b then Err y else if l then Err z else Ok (head_by kind len)) >>= incoming_by root text) ≡ Ok (incomings.Request asked) → ⊥
+ended-late root text x y z asked kind len true b l e k = err-in x asked k
+ended-late root text x y z asked kind len false false l e k = err-in y asked k
+ended-late root text x y z asked kind len false true true e k = err-in z asked k
+ended-late root text x y z asked kind len false true false e k = no-asked (nat_lt (length text) (5 + len)) (nat_lt 0 len) _ _ asked (sym (by-ended root text kind len e) ∙ k)
+
 pub no-request : (root more : List ℕ) (asked : Request) → IsRequest root (shutdown ++ more) asked → ⊥
 unfolding incoming_of head_in
 no-request root more asked k =
-    let longer : nat_lt (length (shutdown ++ more)) 5 ≡ false = lt-false (length (shutdown ++ more)) 5 (omega (arith, length-append shutdown more)) in
-    end-in asked (rw longer at k)
+    let text = shutdown ++ more in
+    ended-late root text (bad CutShort (length text)) (bad BadKind 0) (bad TooLong (length_in text)) asked (slice_index text 0) (length_in text) (nat_lt (length text) 5) (begins (slice_index text 0))
+    (nat_lt longest_payload (length_in text)) refl k

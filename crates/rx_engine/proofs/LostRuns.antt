@@ -1,5 +1,5 @@
 -- Which failures a calm session may tell.
-use Rattle.std.proofs.Common.{◌≡◌, ◌≢◌, ◌≤◌, ℕ, true, false, List, [], ◌++◌, refl, ap, subst, sym, ◌∙◌, arith, length, inl, inr}
+use Rattle.std.proofs.Common.{◌≡◌, ◌≢◌, ◌≤◌, ℕ, Bool, true, false, List, [], ◌++◌, refl, ap, subst, sym, ◌∙◌, arith, length, inl, inr}
 use Rattle.std.specs.List.{flat_map}
 use Rattle.std.specs.Prelude.{All, None, Option, Some, if◌then◌else◌, is_some}
 use Rattle.std.proofs.lemmas.Bool.{or_right}
@@ -42,6 +42,7 @@ use Rattle.rx_engine.specs.declared.attempts.Won.{Won}
 use Rattle.rx_engine.specs.declared.transcripts.Tally.{Tally}
 use Rattle.rx_engine.specs.Answers.{Grounds, HasGathered, HasLost, asked_of}
 use Rattle.rx_engine.specs.Attempts.{AreTellable, HasLocal, HasRemote, IsTellable, failure_of, first_of, first_won, in_order, kept_of, listed_local, listed_remote, outcome_of, unless_cancelled, won_by, won_remote}
+use Rattle.rx_engine.specs.Choices.{choice_of}
 use Rattle.rx_engine.specs.Meanings.{Meanings}
 use Rattle.rx_engine.specs.Plans.{has_both, has_local, has_remote}
 use Rattle.rx_engine.specs.Quiet.{IsFarmCause, IsQuietThere, MayFail}
@@ -76,15 +77,17 @@ IsPlanOf strategies.Local plan = has_local plan ≡ true
 IsPlanOf strategies.RemoteLocalFallback plan = has_local plan ≡ true
 IsPlanOf strategies.Racing plan = has_local plan ≡ true
 
-plan-by : (strategy : Strategy) (cause : Option LocalCause) (plan : Plan) → plan_of strategy cause ≡ Some plan → IsPlanOf strategy plan
-plan-by strategies.Remote None plan h = sym (some-is h)
-plan-by strategies.Remote (Some cause) plan h = absurd (none-some h)
-plan-by strategies.Local None plan h = ap has_local (sym (some-is h))
-plan-by strategies.Local (Some cause) plan h = ap has_local (sym (some-is h))
-plan-by strategies.RemoteLocalFallback None plan h = ap has_local (sym (some-is h))
-plan-by strategies.RemoteLocalFallback (Some cause) plan h = ap has_local (sym (some-is h))
-plan-by strategies.Racing None plan h = ap has_local (sym (some-is h))
-plan-by strategies.Racing (Some cause) plan h = ap has_local (sym (some-is h))
+plan-by : (strategy : Strategy) (in_place : Bool) (cause : Option LocalCause) (plan : Plan) → plan_of (record { strategy = strategy; in_place = in_place }) cause ≡ Some plan
+    → IsPlanOf strategy plan
+plan-by strategies.Remote in_place None plan h = sym (some-is h)
+plan-by strategies.Local in_place None plan h = ap has_local (sym (some-is h))
+plan-by strategies.RemoteLocalFallback in_place None plan h = ap has_local (sym (some-is h))
+plan-by strategies.Racing in_place None plan h = ap has_local (sym (some-is h))
+plan-by strategies.Remote false (Some cause) plan h = absurd (none-some h)
+plan-by strategies.Local false (Some cause) plan h = ap has_local (sym (some-is h))
+plan-by strategies.RemoteLocalFallback false (Some cause) plan h = ap has_local (sym (some-is h))
+plan-by strategies.Racing false (Some cause) plan h = ap has_local (sym (some-is h))
+plan-by strategy true (Some cause) plan h = absurd (none-some h)
 
 -- nothing is published of a race that wasn't cancelled only where nothing won
 unless-none : (cancel : Slip) (made : Option Won) → is_cancelled cancel ≡ false → unless_cancelled cancel made ≡ None → made ≡ None
@@ -208,4 +211,4 @@ module _ {P W B : Type 0} (m : Meanings P W B) (entries : List SourceEntry) (g :
   pub fails : (tally : Tally) → HasLost m g asked tally → MayFail asked.strategy (flat_map failure_of tally.ends)
   fails tally h =
       let planned = h.run.inputs.orderly.planned in
-      fails-by asked.strategy tally refl h (plan-by asked.strategy planned.0 h.run.gathered.plan planned.2)
+      fails-by asked.strategy tally refl h (plan-by asked.strategy (choice_of asked).in_place planned.0 h.run.gathered.plan planned.2)

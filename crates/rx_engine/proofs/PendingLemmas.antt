@@ -74,6 +74,7 @@ module _ {P W B : Type 0} (m : Meanings P W B) (root : List ℕ) (g : Grounds P)
   replies-asked asked receipt tally (reply.Cancelled reason) i heard a = ((asked, i, a), heard reason refl)
   replies-asked asked receipt tally reply.JournalFull i heard a = (asked, i, a)
   replies-asked asked receipt tally (reply.Blocked path) i heard a = (asked, i, a)
+  replies-asked asked receipt tally (reply.InPlace cause) i heard a = (asked, i, a)
   replies-asked asked receipt tally (reply.BadRequest bad) i heard a = absurd a
   replies-asked asked receipt tally reply.NoMemory i heard a = (i.decoded, a.0, a.1)
 

@@ -7,6 +7,7 @@ use Rattle.rx_core.proofs.Cases.{none-some, some-is}
 use Rattle.rx_scan.specs.declared.gather_fault.GatherFault.TheVariants as fault
 use Rattle.rx_session.specs.declared.bad.Bad.{Bad}
 use Rattle.rx_session.specs.declared.bad.BadReason.TheVariants.{CutShort}
+use Rattle.rx_session.specs.declared.in_place.InPlaceCause.TheVariants as in_place
 use Rattle.rx_session.specs.declared.replies.Reply.{Reply}
 use Rattle.rx_session.specs.declared.replies.Reply.TheVariants as reply
 use Rattle.rx_session.specs.declared.requests.Request.{Request}
@@ -63,12 +64,14 @@ module _ {P W B : Type 0} (m : Meanings P W B) (entries : List SourceEntry) (g :
   done-to limit old new pb pn t reply.JournalFull j h e a = h.room (j.full e)
   done-to limit old new pb pn t (reply.AllFailed failures) j h e a = subst (MayFail asked.strategy) (sym a.1) (fails m entries g asked c (tally_in t) a.0)
   done-to limit old new pb pn t (reply.Cancelled reason) j h e a = a.0.watched
-  done-to limit old new pb pn t (reply.NotRemotable why) j h e a = not-refused-by m entries g asked c t.receipt (tally_in t) (fault.NotRemotable why) a (λ n. cc)
+  done-to limit old new pb pn t (reply.NotRemotable why) j h e a = not-refused-by m entries g asked c t.receipt (tally_in t) (fault.NotRemotable why) a.1 (λ n. cc)
   done-to limit old new pb pn t (reply.InputMissing path) j h e a = not-refused-by m entries g asked c t.receipt (tally_in t) (fault.InputMissing path) a (λ n. cc)
   done-to limit old new pb pn t (reply.InputChanged input) j h e a = not-refused-by m entries g asked c t.receipt (tally_in t) (fault.InputChanged input) a (λ n. cc)
   done-to limit old new pb pn t (reply.SourceFault path) j h e a = not-refused-by m entries g asked c t.receipt (tally_in t) (fault.SourceFault path) a (λ n. cc)
-  done-to limit old new pb pn t (reply.TooLarge limit_passed count path) j h e a = not-refused-by m entries g asked c t.receipt (tally_in t) (fault.TooLarge limit_passed count path) a (λ n. cc)
+  done-to limit old new pb pn t (reply.TooLarge limit_passed count path) j h e a = not-refused-by m entries g asked c t.receipt (tally_in t) (fault.TooLarge limit_passed count path) a.1 (λ n. cc)
   done-to limit old new pb pn t (reply.Blocked path) j h e a = not-refused-by m entries g asked c t.receipt (tally_in t) (fault.Blocked path) a (λ n. cc)
+  done-to limit old new pb pn t (reply.InPlace (in_place.Kept why)) j h e a = not-refused-by m entries g asked c t.receipt (tally_in t) (fault.NotRemotable why) a.1 (λ n. cc)
+  done-to limit old new pb pn t (reply.InPlace (in_place.TooLarge limit_passed)) j h e a = not-refused-by m entries g asked c t.receipt (tally_in t) (fault.TooLarge limit_passed a.1 a.2) a.3 (λ n. cc)
   done-to limit old new pb pn t (reply.BadRequest bad) j h e a = absurd a
 
 module _ {P W B : Type 0} (m : Meanings P W B) (root : List ℕ) (before after : P) (limit : ℕ) (old new : List Entry) (pb pn : ℕ) (t : Transcript) (bytes : List ℕ) (asked : Request)
@@ -94,6 +97,7 @@ module _ {P W B : Type 0} (m : Meanings P W B) (root : List ℕ) (before after :
   done-at (reply.Cancelled reason) e a = to-asked (reply.Cancelled reason) e a.0
   done-at reply.JournalFull e a = to-asked reply.JournalFull e a
   done-at (reply.Blocked path) e a = to-asked (reply.Blocked path) e a
+  done-at (reply.InPlace cause) e a = to-asked (reply.InPlace cause) e a
 
   ended : WasAskedToEnd m (grounds_of m root before after t s) t → ⊥
   ended h = not-ended root (m.input.left before) (m.input.left after) bytes t.read asked q.steady.told s.read h.read_is q.steady.valid

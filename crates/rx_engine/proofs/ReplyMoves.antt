@@ -9,6 +9,7 @@ use Rattle.rx_scan.specs.declared.gathering.Gathered.{Gathered}
 use Rattle.rx_scan.specs.Gathering.{BlamesGather}
 use Rattle.rx_scan.specs.Lists.{Listing, stretch}
 use Rattle.rx_session.specs.declared.cancels.CancelReason.{CancelReason}
+use Rattle.rx_session.specs.declared.in_place.InPlaceCause.TheVariants as in_place
 use Rattle.rx_session.specs.declared.replies.Reply.{Reply}
 use Rattle.rx_session.specs.declared.replies.Reply.TheVariants as reply
 use Rattle.rx_session.specs.declared.requests.Request.{Request}
@@ -105,12 +106,14 @@ module _ {W I O T L M B R C : Type 0} (w : world.Ghosts W) (i : inputs.Ghosts I)
       (record { run = run-move request tally h.0.run; none_won = h.0.none_won; uncancelled = h.0.uncancelled; tellable = h.0.tellable }, h.1, h.2)
   answers-move request receipt tally (reply.Cancelled reason) h =
       (record { run = run-move request tally h.0.run; cancelled = h.0.cancelled; watched = h.0.watched }, h.1)
-  answers-move request receipt tally (reply.NotRemotable why) h = refused-move request receipt tally (fault.NotRemotable why) h
+  answers-move request receipt tally (reply.NotRemotable why) h = (h.0, refused-move request receipt tally (fault.NotRemotable why) h.1)
   answers-move request receipt tally (reply.InputMissing path) h = refused-move request receipt tally (fault.InputMissing path) h
   answers-move request receipt tally (reply.InputChanged input) h = refused-move request receipt tally (fault.InputChanged input) h
   answers-move request receipt tally (reply.SourceFault path) h = refused-move request receipt tally (fault.SourceFault path) h
-  answers-move request receipt tally (reply.TooLarge limit n path) h = refused-move request receipt tally (fault.TooLarge limit n path) h
+  answers-move request receipt tally (reply.TooLarge limit n path) h = (h.0, refused-move request receipt tally (fault.TooLarge limit n path) h.1)
   answers-move request receipt tally (reply.Blocked path) h = refused-move request receipt tally (fault.Blocked path) h
+  answers-move request receipt tally (reply.InPlace (in_place.Kept why)) h = (h.0, refused-move request receipt tally (fault.NotRemotable why) h.1)
+  answers-move request receipt tally (reply.InPlace (in_place.TooLarge limit)) h = (h.0, h.1, h.2, refused-move request receipt tally (fault.TooLarge limit h.1 h.2) h.3)
   answers-move request receipt tally (reply.BadRequest bad) h = absurd h
   answers-move request receipt tally reply.NoMemory h = (may-move request tally h.0, h.1)
 
@@ -146,6 +149,7 @@ module _ {W I O T L M B R C : Type 0} (w : world.Ghosts W) (i : inputs.Ghosts I)
       (to-move root read request receipt tally (reply.Cancelled reason) h.0, cancel-move first read reason h.1)
   replies-move first root read request receipt tally reply.JournalFull h = to-move root read request receipt tally reply.JournalFull h
   replies-move first root read request receipt tally (reply.Blocked path) h = to-move root read request receipt tally (reply.Blocked path) h
+  replies-move first root read request receipt tally (reply.InPlace cause) h = to-move root read request receipt tally (reply.InPlace cause) h
 
   pub ready-move : r.input ≡ p.input → (root read : List ℕ) (request : Option Request) (tally : Tally) (answered : Option Answered) → IsReadyAs (meanings w i o t l k b v z) root (grounds p q xs ls vs) read request tally answered → IsReadyAs (meanings w i o t l k b v z) root (grounds r s xs ls vs) read request tally answered
   ready-move first root read request tally None h = (h.0, handled-move request tally h.1)

@@ -1,8 +1,9 @@
 -- Replies with their frames, as they are made ready.
-use Rattle.std.specs.Prelude.{◌≡◌, ◌≢◌, ◌<◌, Option, None, Some, List, length}
+use Rattle.std.specs.Prelude.{◌≡◌, ◌≢◌, ◌<◌, Bool, true, false, Option, None, Some, List, length}
 use Rattle.std.specs.List.{flat_map}
 use Rattle.rx_session.specs.declared.bad.Bad.{Bad}
 use Rattle.rx_session.specs.declared.cancels.CancelReason.{CancelReason}
+use Rattle.rx_session.specs.declared.in_place.InPlaceCause.TheVariants as in_place
 use Rattle.rx_session.specs.declared.replies.Reply.{Reply}
 use Rattle.rx_session.specs.declared.replies.Reply.TheVariants as reply
 use Rattle.rx_session.specs.Replies.{frame_of}
@@ -31,15 +32,17 @@ pub record IsUnpublished (answered : Answered) : Type 0 where
   pub receipt_is : answered.receipt ≡ None
   pub not_full : answered.reply ≢ reply.JournalFull
 
--- the reply where nothing was gathered
-abbrev pub AnswersFault : GatherFault → Answered → Type 0
-AnswersFault (NotRemotable cause) answered = IsPlain (reply.NotRemotable cause) answered
-AnswersFault (InputMissing path) answered = IsPlain (reply.InputMissing path) answered
-AnswersFault (InputChanged input) answered = IsPlain (reply.InputChanged input) answered
-AnswersFault (SourceFault path) answered = IsPlain (reply.SourceFault path) answered
-AnswersFault (TooLarge limit n path) answered = IsPlain (reply.TooLarge limit n path) answered
-AnswersFault (Blocked path) answered = IsPlain (reply.Blocked path) answered
-AnswersFault NoMemory answered = ⊥
+-- the reply where nothing was gathered, by whether the client itself runs what can't be taken
+abbrev pub AnswersFault : GatherFault → Bool → Answered → Type 0
+AnswersFault (NotRemotable cause) true answered = IsPlain (reply.InPlace (in_place.Kept cause)) answered
+AnswersFault (NotRemotable cause) false answered = IsPlain (reply.NotRemotable cause) answered
+AnswersFault (TooLarge limit n path) true answered = IsPlain (reply.InPlace (in_place.TooLarge limit)) answered
+AnswersFault (TooLarge limit n path) false answered = IsPlain (reply.TooLarge limit n path) answered
+AnswersFault (InputMissing path) by_client answered = IsPlain (reply.InputMissing path) answered
+AnswersFault (InputChanged input) by_client answered = IsPlain (reply.InputChanged input) answered
+AnswersFault (SourceFault path) by_client answered = IsPlain (reply.SourceFault path) answered
+AnswersFault (Blocked path) by_client answered = IsPlain (reply.Blocked path) answered
+AnswersFault NoMemory by_client answered = ⊥
 
 -- the reply where no attempt has an outcome that is published
 pub record IsFailure (ends : List Ended) (answered : Answered) : Type 0 where
@@ -68,6 +71,7 @@ TellsPublication won answered (reply.AllFailed failures) = ⊥
 TellsPublication won answered (reply.Cancelled reason) = ⊥
 TellsPublication won answered reply.NoMemory = ⊥
 TellsPublication won answered (reply.Blocked path) = ⊥
+TellsPublication won answered (reply.InPlace cause) = ⊥
 
 pub record IsPublication (won : Won) (answered : Answered) : Type 0 where
   pub tells : TellsPublication won answered answered.reply

@@ -5,6 +5,8 @@ use Rattle.rx_action.specs.OutputPaths.{AreBelow}
 use Rattle.rx_board.specs.declared.journal.Receipt.{Receipt}
 use Rattle.rx_race.specs.declared.events.Verdict.TheVariants.{Won as won_race}
 use Rattle.rx_race.specs.declared.slips.Slip.TheVariants.{Told, Unused}
+use Rattle.rx_session.specs.declared.in_place.InPlaceCause.{InPlaceCause}
+use Rattle.rx_session.specs.declared.in_place.InPlaceCause.TheVariants as in_place
 use Rattle.rx_session.specs.declared.replies.Reply.{Reply}
 use Rattle.rx_session.specs.declared.replies.Reply.TheVariants as reply
 use Rattle.rx_session.specs.declared.requests.Request.{Request}
@@ -21,6 +23,7 @@ use Rattle.rx_world.specs.Inputs.{IsAsListed}
 use Rattle.rx_engine.specs.declared.attempts.Won.{Won}
 use Rattle.rx_engine.specs.declared.transcripts.Tally.{Tally}
 use Rattle.rx_engine.specs.Attempts.{AreTellable, Attempts, HasAttempts, IsIdle, failure_of, no_tally, tally_of, winner}
+use Rattle.rx_engine.specs.Choices.{choice_of, client_runs}
 use Rattle.rx_engine.specs.Meanings.{Meanings}
 use Rattle.rx_engine.specs.Racing.{is_cancelled}
 
@@ -43,14 +46,14 @@ stretch_of m g = stretch [] g.view (m.tree.faults g.before) (m.tree.faults g.aft
 
 -- what is asked of the gathering
 abbrev pub asked_of : Request → Asked
-asked_of request = record { command = command_of request; kind = request.kind; inputs = declared_of request; strategy = request.strategy }
+asked_of request = record { command = command_of request; kind = request.kind; inputs = declared_of request; choice = choice_of request }
 
 -- the outputs of its command are below the working directory, as those of each request are that was read
 abbrev pub HasOutputsBelow : Request → Type 0
 HasOutputsBelow request = AreBelow (command_of request).working_directory (command_of request).outputs
 
 -- What the command of a request runs on, as the source tree told it: in each scene that shows its answers and lists, just the inputs.
--- Whatever it told, these can be staged, and the plan is one of the strategy. Where stamps are honest, each file is as the source tree lists
+-- Whatever it told, these can be staged, and the plan is one of the choice. Where stamps are honest, each file is as the source tree lists
 -- it, while that keeps its list.
 pub record HasGathered {P W B : Type 0} (m : Meanings P W B) (g : Grounds P) (request : Request) (gathered : Gathered) : Type 0 where
   pub by : IsGatheredBy (asked_of request) gathered (stretch_of m g)
@@ -70,6 +73,17 @@ pub record IsRefused {P W B : Type 0} (m : Meanings P W B) (g : Grounds P) (requ
   pub cause : BlamesGather (asked_of request) why (stretch_of m g)
   pub unrun : IsUnrun m g tally
   pub receipt_is : receipt ≡ None
+
+-- nothing was run, since this is why the step can't be taken, and its client runs it
+abbrev pub IsLeftToClient : {P W B : Type 0} → Meanings P W B → Grounds P → Request → Option Receipt → Tally → InPlaceCause → Type 0
+IsLeftToClient m g request receipt tally (in_place.Kept cause) =
+    (client_runs request ≡ true) × IsRefused m g request receipt tally (fault.NotRemotable cause)
+IsLeftToClient m g request receipt tally (in_place.TooLarge limit) =
+    (client_runs request ≡ true) × (n : ℕ) × (path : Option (List ℕ)) × IsRefused m g request receipt tally (fault.TooLarge limit n path)
+
+-- nothing was run, since this is why the step can't be taken, and its client doesn't run it
+abbrev pub IsLeftUnrun : {P W B : Type 0} → Meanings P W B → Grounds P → Request → Option Receipt → Tally → GatherFault → Type 0
+IsLeftUnrun m g request receipt tally why = (client_runs request ≡ false) × IsRefused m g request receipt tally why
 
 -- ---- the attempts
 
@@ -125,11 +139,12 @@ Answers m g request receipt tally reply.JournalFull =
 Answers m g request receipt tally (reply.AllFailed failures) =
     HasLost m g request tally × (failures ≡ flat_map failure_of tally.ends) × (receipt ≡ None)
 Answers m g request receipt tally (reply.Cancelled reason) = HasCancelled m g request tally × (receipt ≡ None)
-Answers m g request receipt tally (reply.NotRemotable why) = IsRefused m g request receipt tally (fault.NotRemotable why)
+Answers m g request receipt tally (reply.NotRemotable why) = IsLeftUnrun m g request receipt tally (fault.NotRemotable why)
 Answers m g request receipt tally (reply.InputMissing path) = IsRefused m g request receipt tally (fault.InputMissing path)
 Answers m g request receipt tally (reply.InputChanged input) = IsRefused m g request receipt tally (fault.InputChanged input)
 Answers m g request receipt tally (reply.SourceFault path) = IsRefused m g request receipt tally (fault.SourceFault path)
-Answers m g request receipt tally (reply.TooLarge limit n path) = IsRefused m g request receipt tally (fault.TooLarge limit n path)
+Answers m g request receipt tally (reply.TooLarge limit n path) = IsLeftUnrun m g request receipt tally (fault.TooLarge limit n path)
 Answers m g request receipt tally (reply.Blocked path) = IsRefused m g request receipt tally (fault.Blocked path)
+Answers m g request receipt tally (reply.InPlace cause) = IsLeftToClient m g request receipt tally cause
 Answers m g request receipt tally (reply.BadRequest bad) = ⊥
 Answers m g request receipt tally reply.NoMemory = MayHaveRun m g request tally × (receipt ≡ None)

@@ -69,6 +69,7 @@ in_core (Some (reply.InputChanged input)) = None
 in_core (Some (reply.SourceFault path)) = None
 in_core (Some (reply.TooLarge limit n path)) = None
 in_core (Some (reply.Blocked path)) = None
+in_core (Some (reply.InPlace cause)) = None
 
 -- ---- sessions
 

@@ -37,6 +37,7 @@ IsPlaced before now count placed (Some (reply.Cancelled reason)) = ⊥
 IsPlaced before now count placed (Some reply.JournalFull) = ⊥
 IsPlaced before now count placed (Some reply.NoMemory) = ⊥
 IsPlaced before now count placed (Some (reply.Blocked path)) = ⊥
+IsPlaced before now count placed (Some (reply.InPlace cause)) = ⊥
 IsPlaced before now count placed None = ⊥
 
 -- one entry more, of these files and with the next number

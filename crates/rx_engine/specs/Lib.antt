@@ -3,6 +3,7 @@ pub mod Addresses
 pub mod Answered
 pub mod Answers
 pub mod Attempts
+pub mod Choices
 pub mod CoreRuns
 pub mod Cuts
 pub mod Fronts

@@ -44,12 +44,12 @@ abbrev pub AreApart : List SourceEntry → Type 0
 AreApart entries = (path below : List ℕ) → IsFileIn entries path → is_below below path ≡ true → (entry_at below entries).look ≡ Absent
 
 -- Nothing keeps what is asked for from being gathered in a scene: no declared input is missing, the files pass no limit, the command may
--- run where its strategy wants it, and none of its files stands in its way.
+-- run where its request wants it, and none of its files stands in its way.
 pub record CanGather (scene : Scene) (asked : Asked) : Type 0 where
   pub there : missing_input scene asked.inputs ≡ None
   pub scan : (limit : Limit) (n : ℕ) (path : Option (List ℕ)) → PassesScan scene asked limit n path → ⊥
   pub list : (limit : Limit) (n : ℕ) (path : Option (List ℕ)) → PassesList scene asked limit n path → ⊥
-  pub planned : (cause : LocalCause) → IsKept scene asked (Some cause) → plan_of asked.strategy (Some cause) ≢ None
+  pub planned : (cause : LocalCause) → IsKept scene asked (Some cause) → plan_of asked.choice (Some cause) ≢ None
   pub free : (cause : Option LocalCause) (files : List (List ℕ)) → IsKept scene asked cause → AreSorted files →
       ((file : List ℕ) → Contains files file ↔ IsInput scene asked cause file) → blocked (command_asked asked) files ≡ None
 
@@ -137,6 +137,7 @@ IsDoneReply asked (Some (reply.TooLarge limit n path)) = ⊥
 IsDoneReply asked (Some (reply.PlaceFault number placed)) = ⊥
 IsDoneReply asked (Some reply.JournalFull) = ⊥
 IsDoneReply asked (Some (reply.Blocked path)) = ⊥
+IsDoneReply asked (Some (reply.InPlace cause)) = ⊥
 IsDoneReply asked None = ⊥
 
 -- the session ended so, or memory ran out even for that

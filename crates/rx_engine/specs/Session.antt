@@ -83,6 +83,8 @@ Replies m root g read request receipt tally reply.JournalFull =
     RepliesTo m root g read request receipt tally reply.JournalFull
 Replies m root g read request receipt tally (reply.Blocked path) =
     RepliesTo m root g read request receipt tally (reply.Blocked path)
+Replies m root g read request receipt tally (reply.InPlace cause) =
+    RepliesTo m root g read request receipt tally (reply.InPlace cause)
 
 -- The bytes are a Shutdown, and nothing was done but to answer it.
 pub record WasAskedToEnd {P W B : Type 0} (m : Meanings P W B) (g : Grounds P) (t : Transcript) : Type 0 where

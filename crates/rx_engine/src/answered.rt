@@ -2,16 +2,17 @@
 
 ghost use Rattle.std.specs.Prelude.{◌≡◌, ◌++◌, IfOk, OnOk};
 ghost use Rattle.std.specs.List.{flat_map};
+ghost use Rattle.rx_scan.specs.declared.gather_fault.GatherFault.TheVariants as faults;
 ghost use Rattle.rx_session.specs.Replies.{frame_of};
 ghost use Rattle.rx_engine.specs.Answered.{AnswersFault, IsFailure, IsPlain, IsUnpublishedEnd, bad_request, reply_no_memory};
 ghost use Rattle.rx_engine.specs.Attempts.{AreTellable, IsTellable, failure_of};
 ghost use Rattle.rx_engine.specs.Ready.{IsOrGivenUp};
 
-use rx_base::{Items, NoMemory, TryClone};
+use rx_base::{Items, NoMemory, RelPath, TryClone};
 use rx_board::Receipt;
 use rx_scan::GatherFault;
-use rx_session::{Bad, CancelReason, Reply, encode};
-use rx_world::{Cause, End, Ended, Failure, RemoteCause};
+use rx_session::{Bad, CancelReason, InPlaceCause, Reply, encode};
+use rx_world::{Cause, End, Ended, Failure, Limit, LocalCause, RemoteCause};
 use std::alloc::{AllocError, Global};
 
 /// A reply with its frame, and the receipt that it tells.
@@ -58,21 +59,53 @@ fn give_up(alloc: Global) -> Result<Answered, NoMemory>
     plain(alloc, Reply::NoMemory)
 }
 
-/// The answer where nothing was gathered.
-pub(crate) fn refuse_gathering(alloc: Global, fault: GatherFault) -> Result<Answered, NoMemory>
-    ensures { IfOk result (AnswersFault fault) }
+/// The answer where nothing was gathered, by whether the client itself runs what can't be taken.
+pub(crate) fn refuse_gathering(
+    alloc: Global,
+    fault: GatherFault,
+    by_client: bool,
+) -> Result<Answered, NoMemory>
+    ensures { IfOk result (AnswersFault fault by_client) }
 {
     match fault {
-        GatherFault::NotRemotable { cause } => plain(alloc, Reply::NotRemotable { cause }),
+        GatherFault::NotRemotable { cause } => refuse_kept(alloc, cause, by_client),
         GatherFault::InputMissing { path } => plain(alloc, Reply::InputMissing { path }),
         GatherFault::InputChanged(input) => plain(alloc, Reply::InputChanged(input)),
         GatherFault::SourceFault { path } => plain(alloc, Reply::SourceFault { path }),
         GatherFault::TooLarge { limit, n, path } => {
-            plain(alloc, Reply::TooLarge { limit, n, path })
+            refuse_large(alloc, limit, n, path, by_client)
         }
         GatherFault::Blocked { path } => plain(alloc, Reply::Blocked { path }),
         GatherFault::NoMemory => Err(AllocError),
     }
+}
+
+/// The answer where this keeps the command on this machine, and there is no plan for that.
+fn refuse_kept(alloc: Global, cause: LocalCause, by_client: bool) -> Result<Answered, NoMemory>
+    ensures { IfOk result (AnswersFault (faults.NotRemotable cause) by_client) }
+{
+    if by_client {
+        let cause = InPlaceCause::Kept { cause };
+        return plain(alloc, Reply::InPlace { cause });
+    }
+    plain(alloc, Reply::NotRemotable { cause })
+}
+
+/// The answer where the command's files pass a limit.
+fn refuse_large(
+    alloc: Global,
+    limit: Limit,
+    n: u64,
+    path: Option<RelPath>,
+    by_client: bool,
+) -> Result<Answered, NoMemory>
+    ensures { IfOk result (AnswersFault (faults.TooLarge limit n path) by_client) }
+{
+    if by_client {
+        let cause = InPlaceCause::TooLarge { limit };
+        return plain(alloc, Reply::InPlace { cause });
+    }
+    plain(alloc, Reply::TooLarge { limit, n, path })
 }
 
 /// The answer where nothing is published: that the race was cancelled, or else how its attempts failed.

@@ -15,6 +15,7 @@ ghost use Rattle.rx_engine.specs.Watching.{Listens, ListensIn};
 
 use crate::answered::{or_give_up, refuse_gathering};
 use crate::attempts::{Attempted, Job, Means, Room, make_attempts};
+use crate::choices::{choice_of, client_runs};
 use crate::desk::{Desk, Parts};
 use crate::pending::Stage;
 use rx_digest_cache::DigestCache;
@@ -69,7 +70,8 @@ pub(crate) fn answer<
             (Stage::Attempted { attempted }, parts)
         }
         Err(fault) => {
-            let answered = or_give_up(alloc, refuse_gathering(alloc, fault));
+            let refused = refuse_gathering(alloc, fault, client_runs(request));
+            let answered = or_give_up(alloc, refused);
             (Stage::Refused { answered }, parts)
         }
     }
@@ -137,7 +139,7 @@ fn gather_for<W: World, S: Sources<W>>(
         &command,
         request.kind,
         inputs.as_slice(),
-        request.strategy,
+        choice_of(request),
         sources,
         cache,
     )

@@ -7,6 +7,7 @@ mod addresses;
 mod answered;
 mod answers;
 mod attempts;
+mod choices;
 mod concluding;
 mod desk;
 mod ends;

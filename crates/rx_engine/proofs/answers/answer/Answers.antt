@@ -1,4 +1,4 @@
-use Rattle.std.proofs.Common.{refl}
+use Rattle.std.proofs.Common.{refl, sym}
 use Rattle.rx_engine.proofs.AnswerLemmas.{answered-refused, answered-run}
 use Rattle.rx_engine.proofs.AttemptLemmas.{later-none, later-same}
 use Rattle.rx_engine.proofs.answers.answer.Goals as goal
@@ -13,9 +13,9 @@ returns-in-Ok-clause-answered g c =
 pub returns-in-Err-clause-answered : goal.returns-in-Err-clause-answered
 returns-in-Err-clause-answered g c =
     let made = c.in-Err.ensures in
-    answered-refused _ _ _ _ _ _ _ _ _ c.args.parts c.prepare.new.parts c.args.request.now c.in-Err.fault c.refuse_gathering.result c.or_give_up-answered.result
+    answered-refused _ _ _ _ _ _ _ _ _ c.args.parts c.prepare.new.parts c.args.request.now c.in-Err.fault c.client_runs.result c.refuse_gathering-refused.result c.or_give_up-answered.result
     (record { here = record { tree_local = made.tree_local; benches = made.benches }; there = record { tree_remote = made.tree_remote; farm = made.farm } })
-    made.err c.refuse_gathering.ensures c.or_give_up-answered.ensures
+    made.err (sym c.client_runs.ensures) c.refuse_gathering-refused.ensures c.or_give_up-answered.ensures
 
 pub returns-in-Ok-clause-later : goal.returns-in-Ok-clause-later
 returns-in-Ok-clause-later g c =

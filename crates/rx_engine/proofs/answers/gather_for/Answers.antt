@@ -16,10 +16,12 @@ returns-in_err-inputs-clause-gathered g c =
 
 pub returns-clause-gathered : goal.returns-clause-gathered
 returns-clause-gathered g c =
-    let asked = asked-is c.in_ok-command.command c.as_slice.result.now c.args.request.now c.in_ok-command.ensures (c.as_slice.ensures ∙ c.in_ok-inputs.ensures) in
+    let asked = asked-is c.in_ok-command.command c.as_slice.result.now c.choice_of.result c.args.request.now c.in_ok-command.ensures (c.as_slice.ensures ∙ c.in_ok-inputs.ensures)
+    c.choice_of.ensures in
     rw asked at c.gather.ensures.gathered
 
 pub returns-clause-orderly : goal.returns-clause-orderly
 returns-clause-orderly g c =
-    let asked = asked-is c.in_ok-command.command c.as_slice.result.now c.args.request.now c.in_ok-command.ensures (c.as_slice.ensures ∙ c.in_ok-inputs.ensures) in
+    let asked = asked-is c.in_ok-command.command c.as_slice.result.now c.choice_of.result c.args.request.now c.in_ok-command.ensures (c.as_slice.ensures ∙ c.in_ok-inputs.ensures)
+    c.choice_of.ensures in
     rw asked at c.gather.ensures.orderly
