@@ -4,6 +4,7 @@ use Rattle.std.specs.Prelude.{None, Option, Some}
 use Rattle.rx_board.specs.declared.journal.Entry.{Entry}
 use Rattle.rx_reach.specs.Scenes.{Scene}
 use Rattle.rx_scan.specs.declared.gathering.Gathered.{Gathered}
+use Rattle.rx_scan.specs.declared.plans.Choice.{Choice}
 use Rattle.rx_scan.specs.Gathering.{Asked, IsGathered, IsKept, asked_for, plan_of}
 use Rattle.rx_world.specs.declared.attempts.Plan.TheVariants.{LocalOnly}
 use Rattle.rx_world.specs.declared.commands.Command.{Command}
@@ -15,8 +16,11 @@ use Rattle.rx_world.specs.declared.outcomes.Outcome.{Outcome}
 use Rattle.rx_world.specs.declared.refusals.LocalCause.{LocalCause}
 use Rattle.rx_world.specs.Causes.{Rose}
 
+abbrev by_local : Choice
+by_local = record { strategy = Local; in_place = false }
+
 abbrev pub here : Command → List (List ℕ) → Asked
-here command inputs = asked_for command Tool inputs Local
+here command inputs = asked_for command Tool inputs by_local
 
 -- nothing keeps it here
 pub unkept : (command : Command) (inputs : List (List ℕ)) (scene : Scene) (cause : Option LocalCause) → IsKept scene (here command inputs) cause → cause ≡ None
@@ -30,7 +34,7 @@ pub here-alone : (command : Command) (inputs : List (List ℕ)) (scene : Scene) 
     → gathered.plan ≡ LocalOnly
 here-alone command inputs scene gathered g =
     let none : g.cause ≡ None = unkept command inputs scene g.cause g.kept in
-    let planned : plan_of Local None ≡ Some gathered.plan = subst (λ cause. plan_of Local cause ≡ Some gathered.plan) none g.plan_is in
+    let planned : plan_of by_local None ≡ Some gathered.plan = subst (λ cause. plan_of by_local cause ≡ Some gathered.plan) none g.plan_is in
     cc
 
 -- an outcome by its parts

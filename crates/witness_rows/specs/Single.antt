@@ -31,6 +31,7 @@ single_request = record {
   accept_cached = false;
   watch = false;
   timeout_seconds = 0;
+  in_place = false;
 }
 
 -- the frame of it

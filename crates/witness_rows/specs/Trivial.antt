@@ -25,6 +25,7 @@ trivial_request = record {
   accept_cached = false;
   watch = false;
   timeout_seconds = 0;
+  in_place = false;
 }
 
 -- the frame of it
