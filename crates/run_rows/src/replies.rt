@@ -4,7 +4,7 @@ use rx_base::{NoMemory, RelPath};
 use rx_farm_values::write_remote_cause;
 use rx_row_values::write_changed;
 use rx_rows::Answer;
-use rx_session::{CancelReason, Reply};
+use rx_session::{CancelReason, InPlaceCause, Reply};
 use rx_world::{Cause, ChangedInput, Failure, LocalCause};
 use std::alloc::Global;
 
@@ -78,15 +78,27 @@ fn show_failures(alloc: Global, answer: &mut Answer, failures: &[Failure]) -> Re
     Ok(())
 }
 
-/// The word or the path that keeps a command on this machine.
-fn show_local_cause(answer: &mut Answer, cause: &LocalCause) -> Result<(), NoMemory> {
-    answer.word("NotRemotable")?;
+/// A reply's name, and the word or the path that keeps a command on this machine.
+fn show_local_cause(answer: &mut Answer, reply: &str, cause: &LocalCause) -> Result<(), NoMemory> {
+    answer.word(reply)?;
     match cause {
         LocalCause::Word { word } => {
             answer.word("word")?;
             answer.text(word.as_str().as_bytes())
         }
         LocalCause::Path { path } => show_path(answer, "path", path),
+    }
+}
+
+/// Why a client is to run its step itself.
+fn show_in_place(answer: &mut Answer, cause: &InPlaceCause) -> Result<(), NoMemory> {
+    match cause {
+        InPlaceCause::Kept { cause } => show_local_cause(answer, "InPlace", cause),
+        InPlaceCause::TooLarge { limit } => {
+            answer.word("InPlace")?;
+            answer.word("TooLarge")?;
+            answer.value(limit)
+        }
     }
 }
 
@@ -131,7 +143,7 @@ pub(crate) fn show_reply(
             answer.value(&bad.reason)?;
             answer.number(bad.value)
         }
-        Reply::NotRemotable { cause } => show_local_cause(answer, cause),
+        Reply::NotRemotable { cause } => show_local_cause(answer, "NotRemotable", cause),
         Reply::InputMissing { path } => show_path(answer, "InputMissing", path),
         Reply::InputChanged(input) => show_changed(alloc, answer, input),
         Reply::SourceFault { path } => show_path(answer, "SourceFault", path),
@@ -154,5 +166,6 @@ pub(crate) fn show_reply(
         Reply::JournalFull => answer.word("JournalFull"),
         Reply::NoMemory => answer.word("NoMemory"),
         Reply::Blocked { path } => show_path(answer, "Blocked", path),
+        Reply::InPlace { cause } => show_in_place(answer, cause),
     }
 }

@@ -37,6 +37,8 @@ const WATCH: u32 = 13;
 
 const TIMEOUT_SECONDS: u32 = 14;
 
+const IN_PLACE: u32 = 16;
+
 /// The kind of a frame that is a request.
 const REQUEST_KIND: u8 = 1;
 
@@ -92,6 +94,7 @@ fn add_field(alloc: Global, out: &mut Out, word: &str, row: &mut Row<'_>) -> Res
         "cached" => out.varint(ACCEPT_CACHED, row.number()?)?,
         "watch" => out.varint(WATCH, row.number()?)?,
         "timeout" => out.varint(TIMEOUT_SECONDS, row.number()?)?,
+        "in_place" => out.varint(IN_PLACE, row.number()?)?,
         _ => return Err(RowFault::BadCall),
     }
     Ok(())
