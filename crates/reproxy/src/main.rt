@@ -9,6 +9,7 @@ mod halts;
 mod listen;
 mod local_words;
 mod remote_words;
+mod reply_words;
 mod serve;
 mod session_words;
 mod settled;

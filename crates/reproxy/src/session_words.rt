@@ -1,8 +1,9 @@
-//! What standard error tells of a session: why its attempts failed, and that its client wasn't heard or
-//! got no reply.
+//! What standard error tells of a session: why its attempts failed, why its client runs its step itself, and that its client
+//! wasn't heard or got no reply.
 
 use crate::local_words::local_in_words;
 use crate::remote_words::remote_in_words;
+use crate::reply_words::reply_in_words;
 use rx_engine::{Ending, Log, Transcript};
 use rx_session::Reply;
 use rx_world::{BenchStep, Cause, End, Ended, RemoteCause};
@@ -27,7 +28,7 @@ pub(crate) fn tell_sessions(rt: &HostRuntime, transcripts: &[Transcript]) {
     }
 }
 
-/// Tells why attempts of a session failed, and how it ended where its client got no reply.
+/// Tells why attempts of a session failed or its client runs its step, and how it ended where its client got no reply.
 fn tell_session(rt: &HostRuntime, transcript: &Transcript) {
     let number = transcript.number;
     let is_given_up = is_local_given_up(transcript);
@@ -36,6 +37,11 @@ fn tell_session(rt: &HostRuntime, transcript: &Transcript) {
             continue;
         }
         if let Ok(Some(words)) = end_in_words(rt.alloc(), ended) {
+            let _ = eprintln!(rt; "reproxy: session {number}: {words}");
+        }
+    }
+    if let Some(reply) = &transcript.reply {
+        if let Ok(Some(words)) = reply_in_words(rt.alloc(), reply) {
             let _ = eprintln!(rt; "reproxy: session {number}: {words}");
         }
     }
@@ -59,16 +65,20 @@ fn is_local_given_up(transcript: &Transcript) -> bool {
 
 /// Whether a local attempt failed as its command ran, as it does where the wait for the command is ended.
 fn is_run_fault(ended: &Ended) -> bool {
-    matches!(
-        ended,
+    match ended {
         Ended::Local {
-            end: End::Failed {
-                cause: Cause::BenchFault {
-                    step: BenchStep::Run,
-                },
-            },
-        }
-    )
+            end: End::Failed { cause },
+        } => is_of_run(cause),
+        _ => false,
+    }
+}
+
+/// Whether the command couldn't be run.
+fn is_of_run(cause: &Cause) -> bool {
+    match cause {
+        Cause::BenchFault { step } => *step == BenchStep::Run,
+        _ => false,
+    }
 }
 
 /// Why an attempt failed. One that was stopped, since the other one won or nobody wants it any more,

@@ -1,5 +1,5 @@
 -- What holds of a tool that is to be run here, whichever its inputs are.
-use Rattle.std.proofs.Common.{◌≡◌, ℕ, List, [], length, refl, ap, sym, subst, ◌∙◌, arith}
+use Rattle.std.proofs.Common.{◌≡◌, ℕ, false, List, [], length, refl, ap, sym, subst, ◌∙◌, arith}
 use Rattle.std.specs.Prelude.{None, Option, Some}
 use Rattle.rx_board.specs.declared.journal.Entry.{Entry}
 use Rattle.rx_reach.specs.Scenes.{Scene}
@@ -16,7 +16,7 @@ use Rattle.rx_world.specs.declared.outcomes.Outcome.{Outcome}
 use Rattle.rx_world.specs.declared.refusals.LocalCause.{LocalCause}
 use Rattle.rx_world.specs.Causes.{Rose}
 
-abbrev by_local : Choice
+abbrev pub by_local : Choice
 by_local = record { strategy = Local; in_place = false }
 
 abbrev pub here : Command → List (List ℕ) → Asked
