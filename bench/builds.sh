@@ -23,7 +23,7 @@ export LC_ALL=C
 top=$(cd "$(dirname "$0")/.." && pwd)
 rounds=${1:-10}
 calls=20
-. "$top/scripts/build.sh"
+. "$top/scripts/common/build.sh"
 . "$top/bench/times.sh"
 build_reproxy "$top" "${TMPDIR:-/tmp}/reproxy-build.log"
 build_rewrapper "$top" "${TMPDIR:-/tmp}/rewrapper-build.log"

@@ -11,9 +11,9 @@ set -eu
 export LC_ALL=C
 
 top=$(cd "$(dirname "$0")/.." && pwd)
-. "$top/scripts/frames.sh"
-. "$top/scripts/requests.sh"
-. "$top/scripts/build.sh"
+. "$top/scripts/common/frames.sh"
+. "$top/scripts/common/requests.sh"
+. "$top/scripts/common/build.sh"
 [ -n "$(type -P strace)" ] || { echo "calls: strace isn't installed" >&2; exit 1; }
 build_reproxy "$top" "${TMPDIR:-/tmp}/reproxy-build.log"
 

@@ -16,8 +16,8 @@ export LC_ALL=C
 top=$(cd "$(dirname "$0")/.." && pwd)
 rounds=${1:-20}
 calls=${2:-50}
-. "$top/scripts/frames.sh"
-. "$top/scripts/build.sh"
+. "$top/scripts/common/frames.sh"
+. "$top/scripts/common/build.sh"
 . "$top/bench/times.sh"
 build_reproxy "$top" "${TMPDIR:-/tmp}/reproxy-build.log"
 

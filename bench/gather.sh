@@ -13,7 +13,7 @@ export LC_ALL=C
 
 top=$(cd "$(dirname "$0")/.." && pwd)
 rounds=${1:-9}
-. "$top/scripts/build.sh"
+. "$top/scripts/common/build.sh"
 build_program "$top" bench "${TMPDIR:-/tmp}/bench-build.log" gather warm 3 1
 bench=$program
 

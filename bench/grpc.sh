@@ -14,7 +14,7 @@ top=$(cd "$(dirname "$0")/.." && pwd)
 rounds=${1:-9}
 calls=1000      # in each round
 size=67108864   # bytes of a blob
-. "$top/scripts/build.sh"
+. "$top/scripts/common/build.sh"
 
 command -v g++ > /dev/null && pkg-config --exists grpc++ 2> /dev/null || {
     echo "bench/grpc.sh: left out: no g++, or no libgrpc++-dev and pkg-config here" >&2

@@ -11,7 +11,7 @@ export LC_ALL=C
 
 top=$(cd "$(dirname "$0")/.." && pwd)
 repeats=${1:-5}
-. "$top/scripts/build.sh"
+. "$top/scripts/common/build.sh"
 build_program "$top" bench "${TMPDIR:-/tmp}/bench-build.log" h2 data 2
 bench=$program
 

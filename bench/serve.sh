@@ -18,7 +18,7 @@ export LC_ALL=C
 top=$(cd "$(dirname "$0")/.." && pwd)
 rounds=${1:-20}
 calls=${2:-20}
-. "$top/scripts/build.sh"
+. "$top/scripts/common/build.sh"
 . "$top/bench/times.sh"
 build_reproxy "$top" "${TMPDIR:-/tmp}/reproxy-build.log"
 build_rewrapper "$top" "${TMPDIR:-/tmp}/rewrapper-build.log"

@@ -1,4 +1,4 @@
-"""The frames of a session for the scripts in Python beside this: how a Request is written, and what a Reply says in numbers."""
+"""The frames of a session for the scripts in Python: how a Request is written, and what a Reply says in numbers."""
 
 import struct
 
