@@ -16,18 +16,21 @@ crates_below() {
     END { visit(crate) }' "$1"
 }
 
-# tell CRATE WORD..: a line of progress on standard error: which crate of how many, what is told of it, and the time since the start
+# tell WORD..: a line of progress on standard error: how many crates are proved, what is told, and the time since the start. A crate is
+# begun only when all before it in `crates` are proved, now or by an earlier run.
 tell() {
-    crate_told=$1
-    shift
     told_at=$(date +%s)
-    place=$(printf '%s\n' "$crates" | grep -nxF "$crate_told" | cut -d: -f1)
     elapsed=$((told_at - started_at))
-    printf '[%s of %s] %s: %s (%d min %02d s)\n' "${place:-?}" "$crate_count" "$crate_told" "$*" $((elapsed / 60)) $((elapsed % 60)) >&2
+    printf 'proved %s of %s: %s (%d min %02d s)\n' "$proved" "$crate_count" "$*" $((elapsed / 60)) $((elapsed % 60)) >&2
 }
 
-# follow_build LOG: copies what rt writes from standard input to the log, and tells how far the build is: a line as a crate begins
-# and as it is proved, and one in between where 20 seconds passed since the last. It ends with the status in the last line.
+# place_of CRATE: its place in `crates`, from 1 on
+place_of() {
+    printf '%s\n' "$crates" | grep -nxF "$1" | cut -d: -f1
+}
+
+# follow_build LOG: copies what rt writes from standard input to the log, and tells how far the build is: a line as a crate is proved,
+# and one in between where a minute passed since the last. It ends with the status in the last line.
 follow_build() {
     now_built=
     code=1
@@ -36,27 +39,34 @@ follow_build() {
         case $line in
         "rt: chose --jobs "*)
             now_built=${line##* for }
-            tell "$now_built" "begun"
+            proved=$(($(place_of "$now_built") - 1))
             ;;
         "rt: "*": another copy of the repository is building"*)
             line=${line#rt: }
-            tell "${line%%:*}" "waiting for another copy of the repository, which builds the same"
+            tell "${line%%:*} waits for another copy of the repository, which builds the same"
             ;;
         "so far: "[0-9]*" of "[0-9]*" functions checked"* | "checked "*", "[0-9]*" of "*[0-9])
             line=${line#so far: }
             line=${line%% functions*}
-            if [ $(($(date +%s) - told_at)) -ge 20 ]; then
-                tell "$now_built" "${line##*, } functions proved"
+            if [ $(($(date +%s) - told_at)) -ge 60 ]; then
+                tell "in $now_built ${line##*, } functions"
             fi
             ;;
         "logic=proved functions="*)
             line=${line#*functions=}
-            tell "$now_built" "proved, ${line%% *} functions"
+            proved=$(place_of "$now_built")
+            tell "$now_built, ${line%% *} functions"
             ;;
         "rt ended with status "*) code=${line##* } ;;
         esac
     done 3> "$1"
     return "$code"
+}
+
+# find_rt: sets `rt` to the kit's command: RT, or that on the PATH, or else where the kit usually lies
+find_rt() {
+    rt=${RT:-$(command -v rt || echo /opt/rattle/bin/rt)}
+    [ -x "$rt" ] || { echo "the kit's rt was not found: put it on the PATH, or name it in RT" >&2; return 1; }
 }
 
 # build_program TOP CRATE LOG WORD..: proves and builds the program of a crate in the repository at TOP, runs it on these
@@ -66,15 +76,15 @@ build_program() {
     crate=$2
     log=$3
     shift 3
-    rt=${RT:-$(command -v rt || echo /opt/rattle/bin/rt)}
-    [ -x "$rt" ] || { echo "the kit's rt was not found: put it on the PATH, or name it in RT" >&2; return 1; }
+    find_rt || return 1
     program=$top_folder/crates/$crate/out/$crate
     crates=$(crates_below "$top_folder/crates.txt" "$crate")
     crate_count=$(printf '%s\n' "$crates" | grep -c .)
     started_at=$(date +%s)
     told_at=$started_at
+    proved=0
     echo "building $crate: $crate_count crates, each proved before it is built. The whole log is $log" >&2
-    echo "Where earlier builds are kept this takes seconds, and where none is more than 20 minutes on four processors." >&2
+    echo "Where earlier builds are kept this takes seconds, and where none is more than half an hour on four processors." >&2
     # rt run proves what isn't proved yet, leaves the program in out/, and runs it
     if ! {
         code=0

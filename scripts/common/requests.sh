@@ -41,6 +41,14 @@ copy_request() {
     finish_request
 }
 
+# parent_request PATH: a tool that copies the program which runs it to a path outside of the sandbox, by `copy_parent` of try.sh
+parent_request() {
+    begin_request
+    words /bin/sh -c "$copy_parent" sh "$1"
+    environment_and_kind 1
+    finish_request
+}
+
 # version_request: a tool in out writes a header from version.txt
 version_request() {
     begin_request
