@@ -98,12 +98,13 @@ reply_in_words() {
     END {
         size = ((bytes[1] * 256 + bytes[2]) * 256 + bytes[3]) * 256 + bytes[4]
         if (count < 5 || bytes[0] != 2 || count != size + 5) exit 1
-        name_values("kind", 1, "BadRequest NotRemotable InputMissing InputChanged SourceFault TooLarge AllFailed Cancelled PlaceFault JournalFull NoMemory Blocked")
+        name_values("kind", 1, "BadRequest NotRemotable InputMissing InputChanged SourceFault TooLarge AllFailed Cancelled PlaceFault JournalFull NoMemory Blocked InPlace")
         name_values("origin", 1, "local remote cache")
         reasons[1] = "CutShort TooLong BadKind BadMessage UnknownVersion WrongRoot BadField Trailing NotBuilt"
         reasons[2] = "word path"
         reasons[6] = "ScanFiles FileBytes ScanBytes ListFiles ListBytes"
         reasons[8] = "Asked Ended OtherBytes Lost"
+        reasons[13] = "word path limit"
         name_values("ends attempt", 1, "local remote")
         name_values("fault", 1, "status link http2 compressed too-large no-status bad-message cut blob-refused")
         within["ends"] = "attempt cause value path first second faults bytes"
