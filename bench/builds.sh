@@ -1,8 +1,9 @@
 #!/usr/bin/env bash
 # What the client and a proxy that serves add to steps that read many files, and to whole builds, strategy local.
 #
-# The steps have no header, or 299 of about 1 kB or about 6 kB each, whose digests are kept. They are called alone, through the proxy, and
-# through a client and a daemon in C that do the same file work (bench/pair.c). A program that only writes an object stands in for the
+# The steps have no header, or 299 of about 1 kB or about 6 kB each, whose digests are kept. They are called alone, through the proxy, with
+# a word more that the proxy doesn't take, so that the client runs them in place, and through a client and a daemon in C that do the same
+# file work (bench/pair.c). A program that only writes an object stands in for the
 # compiler, since what g++ takes differs more from call to call than what is measured. The builds, with ninja, 16 steps at once, are by g++
 # itself: one of 160 short steps, whose sources include 20 small headers each, and one of 48 steps whose sources include as many, and four
 # headers of the C++ library, as most sources do. They are run without a proxy, through it, through that client and daemon, and behind a
@@ -93,7 +94,7 @@ start_pair "$at_once"
 type -P ninja > /dev/null || { echo "builds.sh: there is no ninja" >&2; exit 1; }
 
 # What stands before the command in each way to call it; the client in C is told the object and the inputs too.
-declare -A words=([alone]="" [memory]=$(client in-memory) [tmp]=$(client in-tmp) [start]="$pair start")
+declare -A words=([alone]="" [memory]=$(client in-memory) [refused]=$(client in-memory) [tmp]=$(client in-tmp) [start]="$pair start")
 
 # What stands in for the compiler.
 mkdir "$work/bin"
@@ -106,7 +107,11 @@ step() {
     if [ "$2" = pair ]; then
         before="$pair client $in_c step-$call.o $1.cc ${headers_in[$1]} --"
     fi
-    $before "$stand_in" -Iinclude -c "$1.cc" -o "step-$call.o"
+    if [ "$2" = refused ]; then
+        $before "$stand_in" -save-temps -Iinclude -c "$1.cc" -o "step-$call.o"
+    else
+        $before "$stand_in" -Iinclude -c "$1.cc" -o "step-$call.o"
+    fi
 }
 
 # ninja_file KIND COUNT WAY: the build file of a build of these sources
@@ -152,7 +157,9 @@ measure() {
         done
         for name in short full; do
             for way in "$@"; do
-                echo "$round $name $way $(build "$name" "$way")"
+                if [ "$way" != refused ]; then
+                    echo "$round $name $way $(build "$name" "$way")"
+                fi
             done
         done
     done
@@ -182,10 +189,12 @@ tell_builds() {
         "the C++ library $(of_rounds full "$1" 't / a')"
 }
 
-measure alone memory pair start > "$work/times"
+measure alone memory refused pair start > "$work/times"
 echo "$rounds rounds, by turns; alone the steps take $(of_rounds small alone 't / calls / 1000') ms, the builds $(of_rounds short alone 't / 1000')" \
     "and $(of_rounds full alone 't / 1000')"
 tell memory "through the proxy, sandboxes in $scratch"
+echo "in place, by a word: a step of one file takes $(of_rounds empty refused '(t - a) / calls / 1000') ms more, one of" \
+    "$((header_count + 1)) files of about 1 kB $(of_rounds small refused '(t - a) / calls / 1000')"
 tell pair "through the client and daemon in C"
 echo "what the proxy adds is so many times what these in C add: to a step of one file $(of_rounds empty memory '(t - a) / (c - a)')," \
     "of $((header_count + 1)) files of about 1 kB $(of_rounds small memory '(t - a) / (c - a)'), of about 6 kB" \

@@ -1,5 +1,5 @@
 -- The outputs of a compile command are safe.
-use Rattle.std.proofs.Common.{◌≡◌, ℕ, Bool, true, false, not, ◌&&◌, ◌||◌, inl, inr, List, [], ◌∷◌, ◌++◌, Option, Some, None, Result, Ok, Err, IfOk, refl, sym, ◌∙◌, subst, cond, drop}
+use Rattle.std.proofs.Common.{◌≡◌, ℕ, Bool, true, false, not, ◌&&◌, ◌||◌, inl, inr, List, [], ◌∷◌, ◌++◌, Option, Some, None, Result, Ok, Err, IfOk, refl, sym, ◌∙◌, subst, cond, drop, map}
 use Rattle.std.specs.List.{AllByRecursion, find, list_any}
 use Rattle.std.specs.Option.{option_map}
 use Rattle.std.proofs.lemmas.Bool.{cond_both, and_parts, cases_Bool, not-true, or_parts, or_right}
@@ -7,17 +7,18 @@ use Rattle.rx_base.specs.Paths.{is_below}
 use Rattle.rx_base.specs.SortedPaths.{sorted_paths}
 use Rattle.rx_world.specs.declared.commands.Command.{Command}
 use Rattle.rx_cppflags.specs.declared.meanings.Meaning.{Meaning}
-use Rattle.rx_cppflags.specs.declared.meanings.Meaning.TheVariants.{Output, DependencyFile, CompileOnly}
+use Rattle.rx_cppflags.specs.declared.meanings.Meaning.TheVariants.{Output, DependencyFile, SideFile}
 use Rattle.rx_cppflags.specs.declared.readings.Reading.{Reading}
 use Rattle.rx_cppflags.specs.declared.readings.Reading.TheVariants.{LocalOnly}
 use Rattle.rx_cppflags.specs.Meanings.{same, names_output}
 use Rattle.rx_cppflags.specs.Places.{is_writable, kept, path_from, path_of}
 use Rattle.rx_cppflags.specs.Rows.{Row, row_for, own_value, takes_next}
 use Rattle.rx_cppflags.specs.Pieces.{Saying, said_by, saying, sayings_after, uses_next, with_next}
-use Rattle.rx_cppflags.specs.Found.{has_meaning, has_meaning_once, is_apart, is_in_table, outputs_of, outside_of, path_for, paths_of, sources_of}
+use Rattle.rx_cppflags.specs.Found.{has_meaning, is_apart, is_in_table, outputs_of, outside_of, path_for, paths_of, sources_of}
+use Rattle.rx_cppflags.specs.SideFiles.{side_texts}
 use Rattle.rx_cppflags.specs.Variables.{first_variable}
-use Rattle.rx_cppflags.specs.LocalOutputs.{apart_paths, dependency_texts, local_outputs, object_texts, written_paths}
-use Rattle.rx_cppflags.specs.Readings.{HasSafeOutputs, IsSafeOutput, compile_from, compile_of, first_word, only_path, reading_of, reading_unless, unless_variable}
+use Rattle.rx_cppflags.specs.LocalOutputs.{apart_paths, local_outputs, made_texts, written_paths}
+use Rattle.rx_cppflags.specs.Readings.{HasSafeOutputs, IsSafeOutput, all_said, compile_from, compile_of, first_word, has_one_object, only_path, reading_of, reading_unless, unless_variable}
 use Rattle.rx_cppflags.proofs.Lists.{all_pass, each, none_passes, of_passing, of_sorted, with_option}
 use Rattle.rx_base.proofs.Lists.{All-append, All-back, All-front, All-weaken}
 
@@ -43,6 +44,15 @@ placed d inputs false [] = tt
 placed d inputs true (word ∷ others) = placed d inputs false others
 placed d inputs false (word ∷ others) = (said_placed d inputs (row_for word) word others, placed d inputs (uses_next (row_for word) word) others)
 
+sides_placed : (d : List ℕ) (inputs texts : List (List ℕ)) → AllByRecursion (λ s. s.path ≡ path_of d inputs s.meaning s.text) (map (λ text. saying d inputs SideFile text text) texts)
+sides_placed d inputs [] = tt
+sides_placed d inputs (text ∷ texts) = (refl, sides_placed d inputs texts)
+
+all_placed : (d : List ℕ) (inputs words : List (List ℕ)) → AllByRecursion (λ s. s.path ≡ path_of d inputs s.meaning s.text) (all_said d inputs words)
+all_placed d inputs words =
+    let said : List Saying = sayings_after d inputs false words in
+    All-append (λ s. s.path ≡ path_of d inputs s.meaning s.text) said (map (λ text. saying d inputs SideFile text text) (side_texts said)) (placed d inputs false words) (sides_placed d inputs (side_texts said))
+
 -- ---- what is known of each word in the table
 
 none_outside : (test : Saying → Bool) (said : List Saying) → option_map (λ s. s.word) (find (λ s. not (test s)) said) ≡ None → AllByRecursion (λ s. test s ≡ true) said
@@ -65,9 +75,9 @@ kept_passes test (Some found) path e = passed test path (test found) found refl 
 abbrev IsWritten : List ℕ → List (List ℕ) → List (List ℕ) → List ℕ → Type 0
 IsWritten d inputs outputs path = (is_writable d inputs path ≡ true) × (is_apart outputs path ≡ true)
 
-written : (d : List ℕ) (inputs outputs : List (List ℕ)) (has_file : Bool) (s : Saying) → is_in_table has_file outputs s ≡ true → s.path ≡ path_of d inputs s.meaning s.text
+written : (d : List ℕ) (inputs outputs : List (List ℕ)) (has_file has_side : Bool) (s : Saying) → is_in_table has_file has_side outputs s ≡ true → s.path ≡ path_of d inputs s.meaning s.text
     → (path : List ℕ) → names_output s.meaning ≡ true → s.path ≡ Some path → IsWritten d inputs outputs path
-written d inputs outputs has_file s t p path n e =
+written d inputs outputs has_file has_side s t p path n e =
     let from_text : kept (is_writable d inputs) (path_from d s.text) ≡ Some path = sym (rw n at p) ∙ e in
     let apart : is_apart outputs path ≡ true = rw (n, e) at t in
     (kept_passes (is_writable d inputs) (path_from d s.text) path from_text, apart)
@@ -91,14 +101,19 @@ is_output : (m : Meaning) → same m Output ≡ true → names_output m ≡ true
 is_output m e = rw e refl
 
 is_dependency_file : (m : Meaning) → same m DependencyFile ≡ true → names_output m ≡ true
-is_dependency_file m e = rw e (or_right (same m Output) true refl)
+is_dependency_file m e = rw (e, or_right (same m Output) true refl) refl
+
+is_side_file : (m : Meaning) → same m SideFile ≡ true → names_output m ≡ true
+is_side_file m e = rw e (or_right (same m Output || same m DependencyFile) true refl)
 
 each_output : (P : List ℕ → Type 0) (said : List Saying) → AllByRecursion (λ s. (path : List ℕ) → names_output s.meaning ≡ true → s.path ≡ Some path → P path) said
     → AllByRecursion P (outputs_of said)
 each_output P said p =
-    All-append P (paths_of Output said) (paths_of DependencyFile said)
-    (each_path Output P said (each _ (λ _. Unit {0}) _ (λ s f _ path e. f path (is_output s.meaning e)) said p (each _ _ (λ _. Unit {0}) (λ _ _ _. tt) said p p)))
-    (each_path DependencyFile P said (each _ (λ _. Unit {0}) _ (λ s f _ path e. f path (is_dependency_file s.meaning e)) said p (each _ _ (λ _. Unit {0}) (λ _ _ _. tt) said p p)))
+    let named : (meaning : Meaning) → ((m : Meaning) → same m meaning ≡ true → names_output m ≡ true) → AllByRecursion P (paths_of meaning said) = λ meaning names.
+    each_path meaning P said (each _ (λ _. Unit {0}) _ (λ s f _ path e. f path (names s.meaning e)) said p (each _ _ (λ _. Unit {0}) (λ _ _ _. tt) said p p)) in
+    All-append P (paths_of Output said ++ paths_of DependencyFile said) (paths_of SideFile said)
+    (All-append P (paths_of Output said) (paths_of DependencyFile said) (named Output is_output) (named DependencyFile is_dependency_file))
+    (named SideFile is_side_file)
 
 -- neither above nor below
 abbrev Far : List ℕ → List ℕ → Type 0
@@ -145,7 +160,7 @@ left_safe command inputs named w =
 
 local_safe : (command : Command) (inputs : List (List ℕ)) (said : List Saying) (word : List ℕ) → HasSafeOutputs command inputs (LocalOnly word (local_outputs command inputs said))
 local_safe command inputs said word =
-    let texts : List (List ℕ) = object_texts said ++ dependency_texts said in
+    let texts : List (List ℕ) = made_texts said in
     left_safe command inputs (written_paths command inputs texts) (written_each command inputs texts)
 
 -- ---- the reading
@@ -161,7 +176,7 @@ compile_safe : (command : Command) (inputs outputs : List (List ℕ)) (said : Li
     → (o : Option (List ℕ)) → HasSafeOutputs command inputs (compile_from command outputs said o)
 compile_safe command inputs outputs said k p None = k (first_word command.words)
 compile_safe command inputs outputs said k p (Some source) =
-    cond_both (has_meaning CompileOnly said && has_meaning_once Output said) (unless_variable (first_variable command.environment) outputs (compile_of said source)) (LocalOnly (first_word command.words) outputs) (λ reading. HasSafeOutputs command inputs reading)
+    cond_both (has_one_object said) (unless_variable (first_variable command.environment) outputs (compile_of said source)) (LocalOnly (first_word command.words) outputs) (λ reading. HasSafeOutputs command inputs reading)
     (λ _. unless_safe command inputs outputs said source k p (first_variable command.environment))
     (λ _. k (first_word command.words))
 
@@ -170,13 +185,14 @@ outputs_safe : (command : Command) (inputs : List (List ℕ)) (said : List Sayin
     → AllByRecursion (IsSafeOutput command inputs (sorted_paths (outputs_of said))) (sorted_paths (outputs_of said))
 outputs_safe command inputs said p e =
     let has_file : Bool = has_meaning DependencyFile said in
+    let has_side : Bool = has_meaning SideFile said in
     let outputs : List (List ℕ) = command.outputs ++ outputs_of said in
-    let inside : AllByRecursion (λ s. is_in_table has_file outputs s ≡ true) said = none_outside (is_in_table has_file outputs) said e in
+    let inside : AllByRecursion (λ s. is_in_table has_file has_side outputs s ≡ true) said = none_outside (is_in_table has_file has_side outputs) said e in
     let all_written : AllByRecursion (IsWritten command.working_directory inputs outputs) (outputs_of said) =
     each_output (IsWritten command.working_directory inputs outputs) said
-    (each (λ s. is_in_table has_file outputs s ≡ true) (λ s. s.path ≡ path_of command.working_directory inputs s.meaning s.text)
+    (each (λ s. is_in_table has_file has_side outputs s ≡ true) (λ s. s.path ≡ path_of command.working_directory inputs s.meaning s.text)
     (λ s. (path : List ℕ) → names_output s.meaning ≡ true → s.path ≡ Some path → IsWritten command.working_directory inputs outputs path)
-    (written command.working_directory inputs outputs has_file) said inside p) in
+    (written command.working_directory inputs outputs has_file has_side) said inside p) in
     of_sorted (IsSafeOutput command inputs (sorted_paths (outputs_of said))) (outputs_of said)
     (each (IsWritten command.working_directory inputs outputs) (IsWritten command.working_directory inputs outputs) (IsSafeOutput command inputs (sorted_paths (outputs_of said)))
     (λ path w _. safe command inputs (outputs_of said) (sorted_paths (outputs_of said)) path w (λ far. of_sorted (Far path) (outputs_of said) far)) (outputs_of said) all_written all_written)
@@ -191,8 +207,8 @@ safe_unless command inputs outputs said k p (Some word) e = k word
 pub reading_safe : (command : Command) (inputs : List (List ℕ)) → HasSafeOutputs command inputs (reading_of command inputs)
 unfolding reading_of
 reading_safe command inputs =
-    let said : List Saying = sayings_after command.working_directory inputs false (drop 1 command.words) in
-    safe_unless command inputs (local_outputs command inputs said) said (local_safe command inputs said) (placed command.working_directory inputs false (drop 1 command.words)) (outside_of command.outputs said) refl
+    let said : List Saying = all_said command.working_directory inputs (drop 1 command.words) in
+    safe_unless command inputs (local_outputs command inputs said) said (local_safe command inputs said) (all_placed command.working_directory inputs (drop 1 command.words)) (outside_of command.outputs said) refl
 
 pub told_safe : {E : Type 0} (command : Command) (inputs : List (List ℕ)) (result : Result Reading E) → IfOk result (λ reading. reading ≡ reading_of command inputs) → IfOk result (λ reading. HasSafeOutputs command inputs reading)
 told_safe command inputs (Ok reading) e = subst (λ (found : Reading). HasSafeOutputs command inputs found) (sym e) (reading_safe command inputs)

@@ -1,6 +1,7 @@
--- The last name of a text, and its ending.
+-- The last name of a text, what stands before it, and its ending.
 use Rattle.std.specs.Prelude.{ℕ, ◌==◌, List, ◌++◌, Option, None, Some, if◌then◌else◌}
 use Rattle.std.specs.List.{list_any}
+use Rattle.std.specs.Option.{option_map}
 use Rattle.std.specs.Path.{dot, slash, rsplit_once}
 
 abbrev pub name_behind : List ℕ → Option (List ℕ × List ℕ) → List ℕ
@@ -22,3 +23,7 @@ without_ending text = stem_before text (rsplit_once dot text)
 -- the text with another ending in place of its last
 abbrev pub with_ending : List ℕ → List ℕ → List ℕ
 with_ending ending text = without_ending text ++ ending
+
+-- what stands before the last slash of a text that has one
+abbrev pub directory_of : List ℕ → Option (List ℕ)
+directory_of text = option_map (λ split. split.0) (rsplit_once slash text)

@@ -6,4 +6,5 @@ pub mod Pieces
 pub mod Places
 pub mod Readings
 pub mod Rows
+pub mod SideFiles
 pub mod Variables

@@ -1,15 +1,16 @@
 -- How a compile command is read.
-use Rattle.std.specs.Prelude.{◌≡◌, ℕ, true, false, ◌&&◌, List, [], ◌∷◌, ◌++◌, drop, Option, Some, None, if◌then◌else◌}
+use Rattle.std.specs.Prelude.{◌≡◌, ℕ, Bool, true, false, not, ◌&&◌, List, [], ◌∷◌, ◌++◌, drop, Option, Some, None, if◌then◌else◌}
 use Rattle.std.specs.List.{AllByRecursion}
 use Rattle.rx_base.specs.Paths.{is_below}
 use Rattle.rx_base.specs.SortedPaths.{sorted_paths}
 use Rattle.rx_world.specs.declared.commands.Command.{Command}
-use Rattle.rx_cppflags.specs.declared.meanings.Meaning.TheVariants.{CSource, QuoteDir, Dir, SystemDir, AfterDir, Forced, Sysroot, Output, CompileOnly}
+use Rattle.rx_cppflags.specs.declared.meanings.Meaning.TheVariants.{CSource, QuoteDir, Dir, SystemDir, AfterDir, Forced, Sysroot, Output, DependencyFile, CompileOnly}
 use Rattle.rx_cppflags.specs.declared.readings.Reading.{Reading}
 use Rattle.rx_cppflags.specs.declared.readings.Reading.TheVariants.{Compile, LocalOnly}
 use Rattle.rx_cppflags.specs.Pieces.{Saying, sayings}
-use Rattle.rx_cppflags.specs.Found.{has_meaning, has_meaning_once, outputs_of, outside_of, paths_of, sources_of, texts_of}
+use Rattle.rx_cppflags.specs.Found.{has_meaning, has_meaning_again, has_meaning_once, outputs_of, outside_of, paths_of, sources_of, texts_of, walked_of}
 use Rattle.rx_cppflags.specs.LocalOutputs.{local_outputs}
+use Rattle.rx_cppflags.specs.SideFiles.{with_sides}
 use Rattle.rx_cppflags.specs.Variables.{first_variable}
 
 -- the compiler; a command without words has the empty text for it
@@ -25,6 +26,7 @@ compile_of said source =
     (paths_of QuoteDir said)
     (paths_of Dir said ++ paths_of SystemDir said ++ paths_of AfterDir said)
     (texts_of Forced said)
+    (walked_of said)
     (paths_of Sysroot said)
     (sorted_paths (outputs_of said))
     (has_meaning CSource said)
@@ -40,11 +42,15 @@ only_path [] = None
 only_path (path ∷ []) = Some path
 only_path (path ∷ other ∷ others) = None
 
--- where the words say that it compiles, and have one source and one output
+-- whether the words say that it compiles, and name one object and no more than one file of dependencies
+abbrev pub has_one_object : List Saying → Bool
+has_one_object said = has_meaning CompileOnly said && has_meaning_once Output said && not (has_meaning_again DependencyFile said)
+
+-- where there are such words with one source
 abbrev pub compile_from : Command → List (List ℕ) → List Saying → Option (List ℕ) → Reading
 compile_from command outputs said None = LocalOnly (first_word command.words) outputs
 compile_from command outputs said (Some source) =
-    if has_meaning CompileOnly said && has_meaning_once Output said
+    if has_one_object said
     then unless_variable (first_variable command.environment) outputs (compile_of said source)
     else LocalOnly (first_word command.words) outputs
 
@@ -60,9 +66,13 @@ reading_by command outputs said = reading_unless command outputs said (outside_o
 abbrev pub reading_from : Command → List (List ℕ) → List Saying → Reading
 reading_from command inputs said = reading_by command (local_outputs command inputs said) said
 
+-- what words in this directory with these declared inputs say and make
+abbrev pub all_said : List ℕ → List (List ℕ) → List (List ℕ) → List Saying
+all_said directory inputs words = with_sides directory inputs (sayings directory inputs words)
+
 -- How a command with these declared inputs is read.
 unfoldable pub reading_of : Command → List (List ℕ) → Reading
-reading_of command inputs = reading_from command inputs (sayings command.working_directory inputs (drop 1 command.words))
+reading_of command inputs = reading_from command inputs (all_said command.working_directory inputs (drop 1 command.words))
 
 -- ---- the outputs of a command
 
@@ -75,5 +85,5 @@ pub record IsSafeOutput (command : Command) (inputs outputs : List (List ℕ)) (
 
 -- each output that its words name is such
 abbrev pub HasSafeOutputs : Command → List (List ℕ) → Reading → Type 0
-HasSafeOutputs command inputs (Compile source quote_dirs dirs forced sysroots outputs is_c) = AllByRecursion (IsSafeOutput command inputs outputs) outputs
+HasSafeOutputs command inputs (Compile source quote_dirs dirs forced walked sysroots outputs is_c) = AllByRecursion (IsSafeOutput command inputs outputs) outputs
 HasSafeOutputs command inputs (LocalOnly word outputs) = AllByRecursion (IsSafeOutput command inputs outputs) outputs

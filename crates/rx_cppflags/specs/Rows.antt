@@ -6,7 +6,7 @@ use Rattle.std.specs.Borrow.{Bor}
 use Rattle.rx_cppflags.specs.declared.meanings.Form.{Form}
 use Rattle.rx_cppflags.specs.declared.meanings.Form.TheVariants.{Alone, Next, Joined, JoinedOrNext, JoinedWithoutEquals, Ending}
 use Rattle.rx_cppflags.specs.declared.meanings.Meaning.{Meaning}
-use Rattle.rx_cppflags.specs.declared.meanings.Meaning.TheVariants.{Refused, Nothing, CSource, CppSource, OtherSource, QuoteDir, Dir, SystemDir, AfterDir, Forced, Sysroot, Output, DependencyFile, Dependencies, CompileOnly}
+use Rattle.rx_cppflags.specs.declared.meanings.Meaning.TheVariants.{Refused, Nothing, CSource, CppSource, OtherSource, QuoteDir, Dir, SystemDir, AfterDir, Forced, Sysroot, Output, DependencyFile, Dependencies, SplitDebug, CompileOnly}
 
 -- A spelling, the words that it stands for, and what they say.
 pub record Row : Type 0 where
@@ -57,7 +57,8 @@ rows =
     row (codes "-Wl,") Joined Refused ∷
     row (codes "-W") Joined Nothing ∷
     row (codes "-O") Joined Nothing ∷
-    row (codes "-gsplit-dwarf") Joined Refused ∷
+    row (codes "-gsplit-dwarf") Alone SplitDebug ∷
+    row (codes "-gsplit-dwarf=") Joined Refused ∷
     row (codes "-g") Joined Nothing ∷
     row (codes "-std=") Joined Nothing ∷
     row (codes "-stdlib=") Joined Nothing ∷

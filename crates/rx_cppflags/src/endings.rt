@@ -1,11 +1,11 @@
-//! The last name of a text, and its ending.
+//! The last name of a text, what stands before it, and its ending.
 
-ghost use Rattle.std.specs.Prelude.{◌≡◌, ◌==◌, IfOk};
+ghost use Rattle.std.specs.Prelude.{◌≡◌, ◌==◌, IfOk, map, option_map};
 ghost use Rattle.std.specs.List.{list_any};
 ghost use Rattle.std.specs.Path.{slash};
-ghost use Rattle.rx_cppflags.specs.Endings.{last_name, with_ending, without_ending};
+ghost use Rattle.rx_cppflags.specs.Endings.{directory_of, last_name, with_ending, without_ending};
 
-use rx_base::{NoMemory, Text};
+use rx_base::{Items, NoMemory, Text};
 use std::alloc::Global;
 
 /// The last name of a text: what stands behind its last slash.
@@ -15,6 +15,16 @@ pub(crate) fn last_name(text: &str) -> &str
     match text.rsplit_once('/') {
         Some((_, name)) => name,
         None => text,
+    }
+}
+
+/// What stands before the last slash of a text that has one.
+pub(crate) fn directory_of(text: &str) -> Option<&str>
+    ensures { option_map (λ directory. directory.now) result ≡ directory_of text.now }
+{
+    match text.rsplit_once('/') {
+        Some((directory, _)) => Some(directory),
+        None => None,
     }
 }
 
@@ -41,4 +51,19 @@ fn has_slash(text: &str) -> bool
     ensures { result ≡ list_any (λ b. b == slash) text.now }
 {
     text.as_bytes().contains(&b'/')
+}
+
+/// These texts with this ending.
+pub(crate) fn with_endings(
+    alloc: Global,
+    ending: &str,
+    texts: &[Text],
+) -> Result<Items<Text>, NoMemory>
+    ensures { IfOk result (λ ended. ended ≡ map (with_ending ending.now) texts.now) }
+{
+    let mut ended = Items::new(alloc);
+    for text in texts {
+        ended.push(with_ending(alloc, ending, text.as_str())?)?;
+    }
+    Ok(ended)
 }

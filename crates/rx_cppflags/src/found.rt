@@ -2,8 +2,9 @@
 
 ghost use Rattle.std.specs.Prelude.{◌≡◌, ◌++◌, IfOk, option_map};
 ghost use Rattle.rx_base.specs.SortedPaths.{AreSorted};
-ghost use Rattle.rx_cppflags.specs.Found.{first_outside, has_meaning, has_meaning_once, is_in_table, outputs_of, path_for, paths_of, sources_of, texts_of};
+ghost use Rattle.rx_cppflags.specs.Found.{first_outside, has_meaning, has_meaning_again, has_meaning_once, is_in_table, outputs_of, path_for, paths_of, sources_of, texts_of, walked_for, walked_of};
 
+use crate::endings::directory_of;
 use crate::meanings::Meaning;
 use crate::pieces::Piece;
 use crate::searches::is_apart;
@@ -79,7 +80,8 @@ pub(crate) fn outputs_of(
     ensures { IfOk result (λ all. all ≡ paths ++ outputs_of pieces.now) }
 {
     let paths = paths_of(alloc, pieces, Meaning::Output, paths)?;
-    paths_of(alloc, pieces, Meaning::DependencyFile, paths)
+    let paths = paths_of(alloc, pieces, Meaning::DependencyFile, paths)?;
+    paths_of(alloc, pieces, Meaning::SideFile, paths)
 }
 
 /// Whether exactly one word has this meaning.
@@ -93,18 +95,58 @@ pub(crate) fn has_meaning_once(pieces: &[Piece], meaning: Meaning) -> bool
         == 1
 }
 
+/// Whether more words than one have this meaning.
+pub(crate) fn has_meaning_again(pieces: &[Piece], meaning: Meaning) -> bool
+    ensures { result ≡ has_meaning_again meaning pieces.now }
+{
+    pieces
+        .iter()
+        .filter(|piece| piece.meaning.is(meaning))
+        .count()
+        > 1
+}
+
+/// The texts whose ways are walked: a directory's or a file's own, and of what is written its
+/// directory's.
+pub(crate) fn walked_of(alloc: Global, pieces: &[Piece]) -> Result<Items<Text>, NoMemory>
+    ensures { IfOk result (λ texts. texts ≡ walked_of pieces.now) }
+{
+    let mut texts = Items::new(alloc);
+    for piece in pieces {
+        if let Some(text) = walked_for(piece) {
+            texts.push(Text::copy_of(alloc, text)?)?;
+        }
+    }
+    Ok(texts)
+}
+
+/// The text whose way is walked for a piece.
+fn walked_for<'a>(piece: &Piece<'a>) -> Option<&'a str>
+    ensures { option_map (λ text. text.now) result ≡ walked_for piece.now }
+{
+    if piece.meaning.names_output() {
+        directory_of(piece.text)
+    } else if piece.meaning.names_path() {
+        Some(piece.text)
+    } else {
+        None
+    }
+}
+
 /// The word of the first piece that is no compile word, where a file of dependencies is named or
-/// not, among these sorted outputs.
+/// not and one beside the object is made or not, among these sorted outputs.
 pub(crate) fn first_outside<'a>(
     has_file: bool,
+    has_side: bool,
     outputs: &[RelPath],
     pieces: &[Piece<'a>],
 ) -> Option<&'a str>
     requires { AreSorted outputs.now }
-    ensures { option_map (λ word. word.now) result ≡ first_outside has_file outputs.now pieces.now }
+    ensures { option_map (λ word. word.now) result
+        ≡ first_outside has_file has_side outputs.now pieces.now }
 {
     for piece in pieces {
-        if !is_in_table(has_file, outputs, piece) {
+        if !is_in_table(has_file, has_side, outputs, piece) {
             return Some(piece.word);
         }
     }
@@ -112,9 +154,9 @@ pub(crate) fn first_outside<'a>(
 }
 
 /// Whether a piece is a compile word.
-fn is_in_table(has_file: bool, outputs: &[RelPath], piece: &Piece) -> bool
+fn is_in_table(has_file: bool, has_side: bool, outputs: &[RelPath], piece: &Piece) -> bool
     requires { AreSorted outputs.now }
-    ensures { result ≡ is_in_table has_file outputs.now piece.now }
+    ensures { result ≡ is_in_table has_file has_side outputs.now piece.now }
 {
     if piece.meaning.names_output() {
         match &piece.path {
@@ -125,6 +167,8 @@ fn is_in_table(has_file: bool, outputs: &[RelPath], piece: &Piece) -> bool
         piece.path.is_some()
     } else if piece.meaning.is(Meaning::Dependencies) {
         has_file
+    } else if piece.meaning.is(Meaning::SplitDebug) {
+        has_side
     } else {
         !(piece.meaning.is(Meaning::Refused) || piece.meaning.is(Meaning::OtherSource))
     }

@@ -11,6 +11,7 @@ mod places;
 mod readings;
 mod rows;
 mod searches;
+mod side_files;
 mod variables;
 
 pub use readings::{Reading, read_command};

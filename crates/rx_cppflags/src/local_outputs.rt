@@ -4,11 +4,10 @@
 ghost use Rattle.std.specs.Prelude.{◌≡◌, ◌++◌, IfOk, filter, map};
 ghost use Rattle.rx_base.specs.SortedPaths.{AreSorted};
 ghost use Rattle.rx_cppflags.specs.Found.{is_apart};
-ghost use Rattle.rx_cppflags.specs.Endings.{with_ending};
-ghost use Rattle.rx_cppflags.specs.LocalOutputs.{apart_paths, dependency_texts, local_outputs, object_of, object_texts, written_paths};
+ghost use Rattle.rx_cppflags.specs.LocalOutputs.{apart_paths, dependency_texts, last_of, local_outputs, object_of, object_texts, written_paths};
 ghost use Rattle.rx_cppflags.specs.Meanings.{names_source};
 
-use crate::endings::{last_name, with_ending};
+use crate::endings::{last_name, with_ending, with_endings};
 use crate::found::{has_meaning, texts_of};
 use crate::meanings::Meaning;
 use crate::pieces::Piece;
@@ -39,6 +38,8 @@ pub(crate) fn local_outputs(
         Items::new(alloc),
     )?;
     let paths = written_paths(alloc, command, inputs, dependencies.as_slice(), paths)?;
+    let sides = texts_of(alloc, pieces, Meaning::SideFile)?;
+    let paths = written_paths(alloc, command, inputs, sides.as_slice(), paths)?;
     let apart = apart_paths(alloc, &command.outputs, paths)?;
     sort_paths(apart)
 }
@@ -56,7 +57,7 @@ fn object_texts(alloc: Global, pieces: &[Piece]) -> Result<Items<Text>, NoMemory
     Ok(Items::new(alloc))
 }
 
-/// The files of dependencies of a command that makes these objects: each `-MF`; without one, where
+/// The files of dependencies of a command that makes these objects: the last `-MF`; without one, where
 /// they are asked for, each object's own.
 fn dependency_texts(
     alloc: Global,
@@ -67,12 +68,20 @@ fn dependency_texts(
     ensures { IfOk result (λ texts. texts ≡ dependency_texts pieces.now) }
 {
     if has_meaning(pieces, Meaning::DependencyFile) {
-        return texts_of(alloc, pieces, Meaning::DependencyFile);
+        let texts = texts_of(alloc, pieces, Meaning::DependencyFile)?;
+        return last_of(alloc, texts.as_slice());
     }
     if has_meaning(pieces, Meaning::Dependencies) {
         return with_endings(alloc, ".d", objects);
     }
     Ok(Items::new(alloc))
+}
+
+/// Of several texts the last.
+fn last_of(alloc: Global, texts: &[Text]) -> Result<Items<Text>, NoMemory>
+    ensures { IfOk result (λ last. last ≡ last_of texts.now) }
+{
+    Items::copy_of(alloc, &texts[texts.len().saturating_sub(1)..])
 }
 
 /// The object of each source, in the working directory.
@@ -87,17 +96,6 @@ fn source_objects(alloc: Global, pieces: &[Piece]) -> Result<Items<Text>, NoMemo
         }
     }
     Ok(texts)
-}
-
-/// These texts with this ending.
-fn with_endings(alloc: Global, ending: &str, texts: &[Text]) -> Result<Items<Text>, NoMemory>
-    ensures { IfOk result (λ ended. ended ≡ map (with_ending ending.now) texts.now) }
-{
-    let mut ended = Items::new(alloc);
-    for text in texts {
-        ended.push(with_ending(alloc, ending, text.as_str())?)?;
-    }
-    Ok(ended)
 }
 
 /// Paths, and behind them those of the texts that the command may write.

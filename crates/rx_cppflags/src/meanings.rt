@@ -49,6 +49,10 @@ pub(crate) enum Meaning {
     DependencyFile,
     /// That dependencies are written.
     Dependencies,
+    /// That debug information goes to a file of its own beside the object.
+    SplitDebug,
+    /// A file that is made beside the object. No word of its own says it.
+    SideFile,
     /// That the source is compiled and not linked.
     CompileOnly,
 }
@@ -68,7 +72,7 @@ impl Meaning {
     pub(crate) fn names_output(self) -> bool
         ensures { result ≡ names_output self }
     {
-        self.is(Meaning::Output) || self.is(Meaning::DependencyFile)
+        self.is(Meaning::Output) || self.is(Meaning::DependencyFile) || self.is(Meaning::SideFile)
     }
 
     /// Whether the value is a path.
@@ -81,6 +85,7 @@ impl Meaning {
                 | Meaning::Nothing
                 | Meaning::OtherSource
                 | Meaning::Dependencies
+                | Meaning::SplitDebug
                 | Meaning::CompileOnly
         )
     }

@@ -94,7 +94,7 @@ fn say<'a>(
 }
 
 /// A value of this meaning, and the word that it comes from.
-fn say_value<'a>(
+pub(crate) fn say_value<'a>(
     alloc: Global,
     site: Site,
     meaning: Meaning,

@@ -5,15 +5,17 @@ ghost use Rattle.std.specs.Prelude.{◌≡◌, ◌++◌, IfOk, drop, option_map}
 ghost use Rattle.rx_base.specs.SortedPaths.{AreSorted};
 ghost use Rattle.rx_cppflags.specs.Found.{outside_of, sources_of};
 ghost use Rattle.rx_cppflags.specs.LocalOutputs.{local_outputs};
-ghost use Rattle.rx_cppflags.specs.Readings.{HasSafeOutputs, compile_from, compile_of, first_word, only_path, reading_from, reading_of};
+ghost use Rattle.rx_cppflags.specs.Readings.{HasSafeOutputs, compile_from, compile_of, first_word, has_one_object, only_path, reading_from, reading_of};
 
 use crate::found::{
-    first_outside, has_meaning, has_meaning_once, outputs_of, paths_of, sources_of, texts_of,
+    first_outside, has_meaning, has_meaning_again, has_meaning_once, outputs_of, paths_of,
+    sources_of, texts_of, walked_of,
 };
 use crate::local_outputs::local_outputs;
 use crate::meanings::Meaning;
 use crate::pieces::{Piece, Site, cut};
 use crate::searches::{are_sorted, copy_paths};
+use crate::side_files::{add_sides, side_texts};
 use crate::variables::first_variable;
 use rx_base::{Items, NoMemory, RelPath, Text, TryClone, sort_paths};
 use rx_world::Command;
@@ -33,9 +35,13 @@ pub enum Reading {
         dirs: Items<RelPath>,
         /// The files of `-include` and `-imacros` as they are written, in the order of the words.
         forced: Items<Text>,
+        /// The texts whose ways from the working directory lead to what the words name, in their order: a
+        /// directory's or a file's own, and the directory's of each `-o` and `-MF` that has a slash.
+        walked: Items<Text>,
         /// The system roots, in which no name is sought.
         sysroots: Items<RelPath>,
-        /// What the words name as outputs, sorted by bytes, each once.
+        /// What the words name as outputs, and the `.dwo` that is surely made beside the object, sorted by
+        /// bytes, each once.
         outputs: Items<RelPath>,
         /// Whether the source is C.
         is_c: bool,
@@ -44,9 +50,10 @@ pub enum Reading {
     LocalOnly {
         word: Text,
         /// What the words name as outputs as far as they are understood, sorted by bytes, each once:
-        /// each `-o` and `-MF`; without `-o`, where there is `-c`, each source's own object; and without
-        /// `-MF`, where there is `-MD` or `-MMD`, each object's own file of dependencies. One that isn't
-        /// below the working directory, or is in the way of another or of a declared input, is left out.
+        /// each `-o` and the last `-MF`; without `-o`, where there is `-c`, each source's own object; without `-MF`,
+        /// where there is `-MD` or `-MMD`, each object's own file of dependencies; and the `.dwo` that is
+        /// surely made beside it. One that isn't below the working directory, or is in the way of another
+        /// or of a declared input, is left out.
         outputs: Items<RelPath>,
     },
 }
@@ -57,9 +64,10 @@ pub enum Reading {
 /// that of a flag that the table doesn't have or whose next word is missing; the path's own word
 /// where the path is absolute, leaves the root or begins with `=` or `$`; an output's that isn't
 /// below the working directory, is above a declared input, or above or below another output, also
-/// one of the command's own; and `-MD` or `-MMD` without a `-MF`. Next it names the compiler where
-/// there is no `-c`, not one source, or not one `-o`. Last it names the first variable of the
-/// environment that adds directories of includes.
+/// one of the command's own; `-MD` or `-MMD` without a `-MF`; and `-gsplit-dwarf` where it isn't sure
+/// that a `.dwo` is made beside the object. Next it names the compiler where there is no `-c`, not one
+/// source, not one `-o`, or more than one `-MF`. Last it names the first variable of the environment
+/// that adds directories of includes.
 pub fn read_command(
     alloc: Global,
     command: &Command,
@@ -91,13 +99,12 @@ fn read_sorted(alloc: Global, command: &Command, inputs: &[RelPath]) -> Result<R
         directory: &command.working_directory,
         inputs,
     };
-    let mut pieces = Vec::new(alloc);
-    cut(
-        alloc,
-        site,
-        arguments(command.words.as_slice()),
-        &mut pieces,
-    )?;
+    let words = arguments(command.words.as_slice());
+    let mut named = Vec::new(alloc);
+    cut(alloc, site, words, &mut named)?;
+    let sides = side_texts(alloc, &named)?;
+    let mut pieces = named;
+    add_sides(alloc, site, sides.as_slice(), &mut pieces)?;
     read_pieces(alloc, command, inputs, &pieces)
 }
 
@@ -138,7 +145,8 @@ fn outside_of(
 {
     let outputs = sort_paths(outputs_of(alloc, pieces, outputs.try_clone(alloc)?)?)?;
     let has_file = has_meaning(pieces, Meaning::DependencyFile);
-    match first_outside(has_file, outputs.as_slice(), pieces) {
+    let has_side = has_meaning(pieces, Meaning::SideFile);
+    match first_outside(has_file, has_side, outputs.as_slice(), pieces) {
         Some(word) => Ok(Some(Text::copy_of(alloc, word)?)),
         None => Ok(None),
     }
@@ -160,13 +168,23 @@ fn count(
     let Some(source) = only_path(sources_of(alloc, pieces)?) else {
         return local_only(alloc, command, inputs, pieces, compiler);
     };
-    if !has_meaning(pieces, Meaning::CompileOnly) || !has_meaning_once(pieces, Meaning::Output) {
+    if !has_one_object(pieces) {
         return local_only(alloc, command, inputs, pieces, compiler);
     }
     match first_variable(command.environment.as_slice()) {
         Some(name) => local_only(alloc, command, inputs, pieces, name.as_str()),
         None => compile(alloc, pieces, source),
     }
+}
+
+/// Whether the words say that it compiles, and name one object and no more than one file of
+/// dependencies.
+fn has_one_object(pieces: &[Piece]) -> bool
+    ensures { result ≡ has_one_object pieces.now }
+{
+    has_meaning(pieces, Meaning::CompileOnly)
+        && has_meaning_once(pieces, Meaning::Output)
+        && !has_meaning_again(pieces, Meaning::DependencyFile)
 }
 
 /// The reading of a compile command with this source.
@@ -180,6 +198,7 @@ fn compile(alloc: Global, pieces: &[Piece], source: RelPath) -> Result<Reading, 
         quote_dirs: paths_of(alloc, pieces, Meaning::QuoteDir, Items::new(alloc))?,
         dirs: paths_of(alloc, pieces, Meaning::AfterDir, dirs)?,
         forced: texts_of(alloc, pieces, Meaning::Forced)?,
+        walked: walked_of(alloc, pieces)?,
         sysroots: paths_of(alloc, pieces, Meaning::Sysroot, Items::new(alloc))?,
         outputs: sort_paths(outputs_of(alloc, pieces, Items::new(alloc))?)?,
         is_c: has_meaning(pieces, Meaning::CSource),

@@ -11,7 +11,7 @@ pub(crate) type Row = (&'static str, Form, Meaning);
 
 /// The compile words. The first row that fits a word counts, so a longer spelling stands before a
 /// shorter one that it begins with.
-pub(crate) static ROWS: [Row; 90] = [
+pub(crate) static ROWS: [Row; 91] = [
     ("-I", JoinedOrNext, Dir),
     ("-iquote", JoinedOrNext, QuoteDir),
     ("-isystem", JoinedOrNext, SystemDir),
@@ -46,7 +46,8 @@ pub(crate) static ROWS: [Row; 90] = [
     ("-Wl,", Joined, Refused),
     ("-W", Joined, Nothing),
     ("-O", Joined, Nothing),
-    ("-gsplit-dwarf", Joined, Refused),
+    ("-gsplit-dwarf", Alone, SplitDebug),
+    ("-gsplit-dwarf=", Joined, Refused),
     ("-g", Joined, Nothing),
     ("-std=", Joined, Nothing),
     ("-stdlib=", Joined, Nothing),

@@ -7,7 +7,7 @@ use Rattle.rx_reach.specs.Candidates.{Try}
 use Rattle.rx_reach.specs.Opened.{Choice, IsOpened, OpensIn, Takes}
 use Rattle.rx_reach.specs.Reach.{IsFound, IsReached, LeadsTo}
 use Rattle.rx_reach.specs.Scenes.{Scene}
-use Rattle.rx_reach.specs.Searches.{forced_tries, includes_of, tries_of}
+use Rattle.rx_reach.specs.Searches.{all_forced, all_walked, forced_tries, includes_of, tries_of}
 use Rattle.rx_base.proofs.Members.{Contains-cons_cases, Contains-head, not_in_nothing}
 
 flat-contains : {A : Type 0} (f : A → List Try) (xs : List A) (x : A) (t : Try) → Contains xs x → Contains (f x) t → Contains (flat_map f xs) t
@@ -30,7 +30,8 @@ opens-leads : (scene : Scene) (search : Search) (choice : Choice) (files : List 
 opens-leads scene search choice [] path (inl h) = inl h
 opens-leads scene search choice [] path (inr h) =
     let found = takes-found scene (forced_tries search h.0) false path h.2 in
-    inr (found.0, flat-contains (forced_tries search) search.forced h.0 found.0 h.1 found.1, found.2)
+    let forced = flat-contains (forced_tries search) search.forced h.0 found.0 h.1 found.1 in
+    inr (found.0, Contains-append_left (all_forced search) (all_walked search) found.0 forced, found.2)
 opens-leads scene search choice (file ∷ others) path h =
     let i = h.1 in
     let found = takes-found scene (tries_of search file i.0) (choice.is_next file i.0) path i.3 in

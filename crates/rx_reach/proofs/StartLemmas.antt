@@ -12,7 +12,7 @@ use Rattle.rx_reach.specs.PathSets.{Adds}
 use Rattle.rx_reach.specs.Progress.{AreApart, Finds, IsHardBy, IsKnown, Seeks, TakesSource}
 use Rattle.rx_reach.specs.Reach.{IsFirst, IsFound}
 use Rattle.rx_reach.specs.Scenes.{Scene}
-use Rattle.rx_reach.specs.Searches.{all_forced}
+use Rattle.rx_reach.specs.Searches.{first_tries}
 use Rattle.rx_reach.specs.Visits.{Begins, IsHardFirst}
 use Rattle.rx_base.proofs.Members.{not_in_nothing}
 
@@ -61,7 +61,7 @@ source-nothing path look p f o = record {
 }
 
 pub begins : (scene : Scene) (search : Search) (look : Look) (p mid q : Progress) → p.waiting ≡ [] → p.read ≡ [] → p.hard ≡ [] → p.left ≡ []
-    → TakesSource search.source look p mid → look ≡ scene.look search.source → Seeks scene search.source (all_forced search) mid q → Begins scene search q
+    → TakesSource search.source look p mid → look ≡ scene.look search.source → Seeks scene search.source (first_tries search) mid q → Begins scene search q
 begins scene search look p mid q w r h l t seen s = record {
   known = λ path. (λ k. known-to path ((s.known path).0 k), λ k. (s.known path).1 (known-from path k));
   hard = λ path. (λ k. hard-to path ((s.hard path).0 k), λ k. (s.hard path).1 (hard-from path k));
@@ -75,25 +75,25 @@ begins scene search look p mid q w r h l t seen s = record {
     nothing path (inl k) = not_in_nothing path (subst (λ xs. Contains xs path) w k)
     nothing path (inr k) = not_in_nothing path (subst (λ (xs : List InputFile). Contains (paths_of xs) path) r k)
 
-    known-to : (path : List ℕ) → IsKnown mid path ⊎ IsFound scene (all_forced search) path → IsFirst scene search path
+    known-to : (path : List ℕ) → IsKnown mid path ⊎ IsFound scene (first_tries search) path → IsFirst scene search path
     known-to path (inr k) = inr k
     known-to path (inl k) = elim ((t.known path).0 k) [
       | inl a ↦ absurd (nothing path a)
       | inr e ↦ inl (e.0, ap (λ x. is_file (scene.look x)) e.0 ∙ sym (ap is_file seen) ∙ e.1)
     ]
 
-    known-from : (path : List ℕ) → IsFirst scene search path → IsKnown mid path ⊎ IsFound scene (all_forced search) path
+    known-from : (path : List ℕ) → IsFirst scene search path → IsKnown mid path ⊎ IsFound scene (first_tries search) path
     known-from path (inr k) = inr k
     known-from path (inl e) = inl ((t.known path).1 (inr (e.0, ap is_file seen ∙ sym (ap (λ x. is_file (scene.look x)) e.0) ∙ e.1)))
 
-    hard-to : (path : List ℕ) → Contains mid.hard path ⊎ IsHardBy scene search.source (all_forced search) path → IsHardFirst scene search path
+    hard-to : (path : List ℕ) → Contains mid.hard path ⊎ IsHardBy scene search.source (first_tries search) path → IsHardFirst scene search path
     hard-to path (inr k) = inr k
     hard-to path (inl k) = elim ((t.hard path).0 k) [
       | inl a ↦ absurd (not_in_nothing path (subst (λ xs. Contains xs path) h a))
       | inr e ↦ inl (e.0, ap (λ x. is_other (scene.look x)) e.0 ∙ sym (ap is_other seen) ∙ e.1)
     ]
 
-    hard-from : (path : List ℕ) → IsHardFirst scene search path → Contains mid.hard path ⊎ IsHardBy scene search.source (all_forced search) path
+    hard-from : (path : List ℕ) → IsHardFirst scene search path → Contains mid.hard path ⊎ IsHardBy scene search.source (first_tries search) path
     hard-from path (inr k) = inr k
     hard-from path (inl e) = inl ((t.hard path).1 (inr (e.0, ap is_other seen ∙ sym (ap (λ x. is_other (scene.look x)) e.0) ∙ e.1)))
 

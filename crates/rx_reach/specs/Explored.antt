@@ -11,7 +11,7 @@ use Rattle.rx_reach.specs.FileTables.{paths_of}
 use Rattle.rx_reach.specs.Progress.{IsHardIn, IsKnown, IsLeftBy}
 use Rattle.rx_reach.specs.Reach.{IsFileOf, IsFirst, IsFound, IsHard, IsLeft, IsReached}
 use Rattle.rx_reach.specs.Scenes.{Scene}
-use Rattle.rx_reach.specs.Searches.{all_forced, tries_in}
+use Rattle.rx_reach.specs.Searches.{first_tries, tries_in}
 use Rattle.rx_reach.specs.Sights.{seen_at}
 use Rattle.rx_reach.specs.Visits.{IsHardFirst}
 
@@ -24,7 +24,7 @@ pub record Explored (scene : Scene) (search : Search) (p : Progress) : Type 0 wh
   pub hard_first : (path : List ℕ) → IsHardFirst scene search path → Contains p.hard path
   pub hard_files : (file path : List ℕ) → Contains (paths_of p.read) file → IsHardIn scene search file path → Contains p.hard path
   pub left_only : (path : List ℕ) → Contains p.left path → IsLeft scene search path
-  pub left_first : (path : List ℕ) → IsLeftBy scene (all_forced search) path → Contains p.left path
+  pub left_first : (path : List ℕ) → IsLeftBy scene (first_tries search) path → Contains p.left path
   pub left_files : (file path : List ℕ) → Contains (paths_of p.read) file → IsLeftBy scene (tries_in search scene file) path → Contains p.left path
 
 -- Where there was a next file, it is read now; else nothing waits.

@@ -9,7 +9,7 @@ use Rattle.rx_reach.specs.declared.reach.Reached.{Reached}
 use Rattle.rx_reach.specs.declared.searches.Search.{Search}
 use Rattle.rx_reach.specs.Candidates.{Finds, IsOutside, Leaves, MeetsOther, Try, is_other}
 use Rattle.rx_reach.specs.Scenes.{Scene}
-use Rattle.rx_reach.specs.Searches.{all_forced, includes_of, tries_in}
+use Rattle.rx_reach.specs.Searches.{first_tries, includes_of, tries_in}
 
 -- ---- reached files
 
@@ -17,9 +17,9 @@ use Rattle.rx_reach.specs.Searches.{all_forced, includes_of, tries_in}
 abbrev pub IsFound : Scene → List Try → List ℕ → Type 0
 IsFound scene tries path = (t : Try) × Contains tries t × Finds scene t path
 
--- the source, or an existing candidate of a forced file
+-- the source, or an existing candidate of a forced file or of a path that a word names
 abbrev pub IsFirst : Scene → Search → List ℕ → Type 0
-IsFirst scene search path = ((path ≡ search.source) × (is_file (scene.look path) ≡ true)) ⊎ IsFound scene (all_forced search) path
+IsFirst scene search path = ((path ≡ search.source) × (is_file (scene.look path) ≡ true)) ⊎ IsFound scene (first_tries search) path
 
 -- A list of files leads to the path, the last of them first: each next one is an existing candidate of an include of the one before.
 abbrev pub LeadsTo : Scene → Search → List (List ℕ) → List ℕ → Type 0
@@ -31,9 +31,9 @@ IsReached scene search path = (files : List (List ℕ)) × LeadsTo scene search 
 
 -- ---- what makes a command hard
 
--- the candidates that are sought: those of forced files, and of the includes of reached files
+-- the candidates that are sought: those of forced files, of paths that words name, and of the includes of reached files
 abbrev pub IsSought : Scene → Search → Try → Type 0
-IsSought scene search t = Contains (all_forced search) t ⊎ ((file : List ℕ) × IsReached scene search file × Contains (tries_in search scene file) t)
+IsSought scene search t = Contains (first_tries search) t ⊎ ((file : List ℕ) × IsReached scene search file × Contains (tries_in search scene file) t)
 
 -- The directives of a file may not be all, or it has a raw literal that C doesn't know.
 abbrev pub has_hidden : Scene → Search → List ℕ → Bool
@@ -47,7 +47,7 @@ IsAnyOutside tries = (t : Try) × Contains tries t × IsOutside t
 abbrev pub IsHard : Scene → Search → List ℕ → Type 0
 IsHard scene search path =
     (IsReached scene search path × ((has_hidden scene search path ≡ true) ⊎ IsAnyOutside (tries_in search scene path)))
-    ⊎ ((path ≡ search.source) × ((is_other (scene.look path) ≡ true) ⊎ IsAnyOutside (all_forced search)))
+    ⊎ ((path ≡ search.source) × ((is_other (scene.look path) ≡ true) ⊎ IsAnyOutside (first_tries search)))
     ⊎ ((t : Try) × IsSought scene search t × MeetsOther scene t path)
 
 -- the least of the paths of which this holds, where there is one

@@ -45,3 +45,15 @@ forced_tries search name = tries_under (search.working_directory ∷ search.quot
 -- the candidates of all forced files
 abbrev pub all_forced : Search → List Try
 all_forced search = flat_map (forced_tries search) search.forced
+
+-- The way to a path that a word names is walked from the working directory, as the way of an include's name is.
+abbrev pub walked_tries : Search → List ℕ → List Try
+walked_tries search text = tries_under (search.working_directory ∷ []) text
+
+-- the ways of all these paths
+abbrev pub all_walked : Search → List Try
+all_walked search = flat_map (walked_tries search) search.walked
+
+-- what is sought before any file is read
+abbrev pub first_tries : Search → List Try
+first_tries search = all_forced search ++ all_walked search

@@ -7,17 +7,17 @@ use Rattle.rx_reach.specs.Candidates.{is_other}
 use Rattle.rx_reach.specs.Progress.{IsHardBy, IsHardIn, IsKnown, IsLeftBy}
 use Rattle.rx_reach.specs.Reach.{IsFileOf, IsFirst, IsFound}
 use Rattle.rx_reach.specs.Scenes.{Scene}
-use Rattle.rx_reach.specs.Searches.{all_forced, tries_in}
+use Rattle.rx_reach.specs.Searches.{first_tries, tries_in}
 
 -- what makes a path hard before any file is read
 abbrev pub IsHardFirst : Scene → Search → List ℕ → Type 0
-IsHardFirst scene search path = ((path ≡ search.source) × (is_other (scene.look path) ≡ true)) ⊎ IsHardBy scene search.source (all_forced search) path
+IsHardFirst scene search path = ((path ≡ search.source) × (is_other (scene.look path) ≡ true)) ⊎ IsHardBy scene search.source (first_tries search) path
 
 -- the source and the forced files were found, and nothing else
 pub record Begins (scene : Scene) (search : Search) (progress : Progress) : Type 0 where
   pub known : (path : List ℕ) → IsKnown progress path ↔ IsFirst scene search path
   pub hard : (path : List ℕ) → Contains progress.hard path ↔ IsHardFirst scene search path
-  pub left : (path : List ℕ) → Contains progress.left path ↔ IsLeftBy scene (all_forced search) path
+  pub left : (path : List ℕ) → Contains progress.left path ↔ IsLeftBy scene (first_tries search) path
 
 -- one file more was read, and all that its includes find was added
 pub record Visits (scene : Scene) (search : Search) (file : InputFile) (old new : Progress) : Type 0 where

@@ -16,7 +16,7 @@ use crate::file_tables::FileTable;
 use crate::path_sets::PathSet;
 use crate::progress::Progress;
 use crate::searches::Search;
-use crate::seeks::seek_forced;
+use crate::seeks::seek_named;
 use crate::sights::Sights;
 use crate::visits::visit;
 use rx_base::{Items, NoMemory, RelPath};
@@ -39,7 +39,7 @@ pub struct Reached {
     pub left: Items<RelPath>,
 }
 
-/// Begins at the source and the forced files.
+/// Begins at the source, the forced files and the ways to the paths that words name.
 fn begin<W: World, S: Sources<W>>(
     alloc: Global,
     sources: &mut S,
@@ -60,7 +60,7 @@ fn begin<W: World, S: Sources<W>>(
     };
     let look = sights.look::<W, S>(alloc, sources, &search.source)?;
     progress.take_source(alloc, look, &search.source)?;
-    seek_forced::<W, S>(alloc, sources, sights, &mut progress, search)?;
+    seek_named::<W, S>(alloc, sources, sights, &mut progress, search)?;
     Ok(progress)
 }
 

@@ -14,6 +14,9 @@ pub struct Search {
     pub dirs: Items<RelPath>,
     /// The names of the files that are included before the source.
     pub forced: Items<Text>,
+    /// The texts of the paths that words name besides: the way to each is walked from the working
+    /// directory, and a file that stands at its end is read.
+    pub walked: Items<Text>,
     /// Whether the source is C.
     pub is_c: bool,
 }

@@ -1,4 +1,4 @@
-//! The includes of a file and the forced files, sought in their directories.
+//! The includes of a file and the forced files, sought in their directories, and the ways to other paths.
 
 ghost use Rattle.std.specs.Prelude.{◌≡◌, ◌≤◌, ◌++◌, ◌∷◌, [], IfErr, OnOk, flat_map, map};
 ghost use Rattle.std.specs.Option.{option_copied, option_to_list};
@@ -7,7 +7,7 @@ ghost use Rattle.rx_lex.specs.Found.{name_view};
 ghost use Rattle.rx_reach.specs.Candidates.{try_in};
 ghost use Rattle.rx_reach.specs.Progress.{KeepsKnown, Seeks, Stays};
 ghost use Rattle.rx_reach.specs.Scans.{Ends, Scans};
-ghost use Rattle.rx_reach.specs.Searches.{all_forced, quoted_dirs, tries_of, tries_under};
+ghost use Rattle.rx_reach.specs.Searches.{all_forced, all_walked, first_tries, quoted_dirs, tries_of, tries_under};
 
 use crate::candidates::seek;
 use crate::faults::SightFault;
@@ -199,7 +199,7 @@ pub(crate) fn seek_includes<W: World, S: Sources<W>>(
 }
 
 /// Seeks the forced files. A name that leads outside makes the source hard.
-pub(crate) fn seek_forced<W: World, S: Sources<W>>(
+fn seek_forced<W: World, S: Sources<W>>(
     alloc: Global,
     sources: &mut S,
     sights: &mut Sights,
@@ -230,5 +230,61 @@ pub(crate) fn seek_forced<W: World, S: Sources<W>>(
             bytes,
         )?;
     }
+    Ok(())
+}
+
+/// Walks the ways to the paths that words name besides. A text that leads outside makes the source hard.
+fn seek_walked<W: World, S: Sources<W>>(
+    alloc: Global,
+    sources: &mut S,
+    sights: &mut Sights,
+    progress: &mut Progress,
+    search: &Search,
+) -> Result<(), SightFault>
+    ensures ok { OnOk result (Scans W.World S.Sources
+        sources.old sources.new sights.old sights.new
+        (λ scene. Seeks scene search.now.source
+        (all_walked search.now) progress.old progress.new)) }
+    ensures stays { OnOk result (Stays progress.old progress.new) }
+    ensures known { OnOk result (KeepsKnown sights.old sights.new search.now.source
+        progress.old progress.new) }
+    ensures err { IfErr result (Ends W.World S.Sources sources.old sources.new sights.old) }
+{
+    let texts = search.walked.as_slice();
+    for text in texts {
+        let from = &search.working_directory;
+        let bytes = text.as_str().as_bytes();
+        seek_one::<W, S>(
+            alloc,
+            sources,
+            sights,
+            progress,
+            &search.source,
+            from,
+            bytes,
+        )?;
+    }
+    Ok(())
+}
+
+/// Seeks what words name before any file is read: the forced files, then the ways to other paths.
+pub(crate) fn seek_named<W: World, S: Sources<W>>(
+    alloc: Global,
+    sources: &mut S,
+    sights: &mut Sights,
+    progress: &mut Progress,
+    search: &Search,
+) -> Result<(), SightFault>
+    ensures ok { OnOk result (Scans W.World S.Sources
+        sources.old sources.new sights.old sights.new
+        (λ scene. Seeks scene search.now.source
+        (first_tries search.now) progress.old progress.new)) }
+    ensures stays { OnOk result (Stays progress.old progress.new) }
+    ensures known { OnOk result (KeepsKnown sights.old sights.new search.now.source
+        progress.old progress.new) }
+    ensures err { IfErr result (Ends W.World S.Sources sources.old sources.new sights.old) }
+{
+    seek_forced::<W, S>(alloc, sources, sights, progress, search)?;
+    seek_walked::<W, S>(alloc, sources, sights, progress, search)?;
     Ok(())
 }

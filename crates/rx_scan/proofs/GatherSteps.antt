@@ -47,7 +47,7 @@ Sights = List (List ℕ × Look)
 -- a command with such a word has no includes that can be followed
 word-alone : (command : Command) (o : Option Reading) (word : List ℕ) (search : Search) → word_for o ≡ Some word → search_for command o ≡ Some search → ⊥
 word-alone command None word search e s = absurd (cc e)
-word-alone command (Some (reading.Compile source quote_dirs dirs forced sysroots outputs is_c)) word search e s = absurd (cc e)
+word-alone command (Some (reading.Compile source quote_dirs dirs forced walked sysroots outputs is_c)) word search e s = absurd (cc e)
 word-alone command (Some (reading.LocalOnly text outputs)) word search e s = absurd (cc s)
 
 tool-says : (o : Option Reading) (word : List ℕ) → word_for o ≡ Some word → o ≡ None → ⊥
@@ -103,8 +103,8 @@ least-once P None (Some path) other h k e f = h path k.0
 kept-once : (scene : Scene) (asked : Asked) (other : LocalCause) (o : Option Reading) → reading_asked asked ≡ o → IsKept scene asked None → IsKept scene asked (Some other) → ⊥
 kept-once scene asked other None e h k = absurd (cc (k.of_tool e))
 kept-once scene asked other (Some (reading.LocalOnly word outputs)) e h k = absurd (cc (h.by_word word (ap word_for e)))
-kept-once scene asked other (Some (reading.Compile source quote_dirs dirs forced sysroots outputs is_c)) e h k =
-    let search : Search = record { working_directory = asked.command.working_directory; source = source; quote_dirs = quote_dirs; dirs = dirs; forced = forced; is_c = is_c } in
+kept-once scene asked other (Some (reading.Compile source quote_dirs dirs forced walked sysroots outputs is_c)) e h k =
+    let search : Search = record { working_directory = asked.command.working_directory; source = source; quote_dirs = quote_dirs; dirs = dirs; forced = forced; walked = walked; is_c = is_c } in
     let sought : search_asked asked ≡ Some search = ap (search_for asked.command) e in
     let a = h.by_path search sought in
     let b = k.by_path search sought in

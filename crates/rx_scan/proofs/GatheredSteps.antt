@@ -236,7 +236,7 @@ orderly-so asked inputs outputs beside tree gathered e w safe t ds same view pla
 
 may-keep : (command : Command) (read : Option Reading) (hard : Option (List ℕ)) → (search_for command read ≡ None → hard ≡ None) → MayKeep read (cause_of (word_for read) hard)
 may-keep command None hard h = ap (option_map (λ path. local.Path path)) (h refl)
-may-keep command (Some (reading.Compile source quote_dirs dirs forced sysroots outputs is_c)) hard h = (hard, refl)
+may-keep command (Some (reading.Compile source quote_dirs dirs forced walked sysroots outputs is_c)) hard h = (hard, refl)
 may-keep command (Some (reading.LocalOnly word outputs)) hard h = refl
 
 pub planned-so : (asked : Asked) (meaning : WordMeaning) (hard : Option (List ℕ)) (cause : Option LocalCause) (plan : Plan) → meaning ≡ meaning_asked asked → cause ≡ cause_of (meaning_asked asked).word hard → (meaning.search ≡ None → hard ≡ None)

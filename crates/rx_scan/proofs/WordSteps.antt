@@ -13,7 +13,7 @@ abbrev Safe : Command → List (List ℕ) → List (List ℕ) → Type 0
 Safe command inputs outputs = AllByRecursion (IsSafeOutput command inputs outputs) outputs
 
 safe-read : (command : Command) (inputs : List (List ℕ)) (read : Reading) → HasSafeOutputs command inputs read → Safe command inputs (outputs_in read)
-safe-read command inputs (reading.Compile source quote_dirs dirs forced sysroots outputs is_c) h = h
+safe-read command inputs (reading.Compile source quote_dirs dirs forced walked sysroots outputs is_c) h = h
 safe-read command inputs (reading.LocalOnly word outputs) h = h
 
 pub safe-meaning : (command : Command) (inputs : List (List ℕ)) (read : Reading) (meaning : WordMeaning) → meaning ≡ meaning_of command (Some read) → HasSafeOutputs command inputs read → Safe command inputs meaning.outputs

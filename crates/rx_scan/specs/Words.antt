@@ -17,12 +17,13 @@ reading_for Compile command inputs = Some (reading_of command inputs)
 
 -- where the includes are sought, of a command whose includes can be followed
 abbrev pub search_in : Command → Reading → Option Search
-search_in command (reading.Compile source quote_dirs dirs forced sysroots outputs is_c) = Some (record {
+search_in command (reading.Compile source quote_dirs dirs forced walked sysroots outputs is_c) = Some (record {
   working_directory = command.working_directory;
   source = source;
   quote_dirs = quote_dirs;
   dirs = dirs;
   forced = forced;
+  walked = walked;
   is_c = is_c;
 })
 search_in command (reading.LocalOnly word outputs) = None
@@ -33,7 +34,7 @@ search_for command (Some read) = search_in command read
 
 -- the system roots, whose files are declared inputs too
 abbrev pub roots_in : Reading → List (List ℕ)
-roots_in (reading.Compile source quote_dirs dirs forced sysroots outputs is_c) = sysroots
+roots_in (reading.Compile source quote_dirs dirs forced walked sysroots outputs is_c) = sysroots
 roots_in (reading.LocalOnly word outputs) = []
 
 abbrev pub roots_for : Option Reading → List (List ℕ)
@@ -42,7 +43,7 @@ roots_for (Some read) = roots_in read
 
 -- the outputs that the words name
 abbrev pub outputs_in : Reading → List (List ℕ)
-outputs_in (reading.Compile source quote_dirs dirs forced sysroots outputs is_c) = outputs
+outputs_in (reading.Compile source quote_dirs dirs forced walked sysroots outputs is_c) = outputs
 outputs_in (reading.LocalOnly word outputs) = outputs
 
 abbrev pub outputs_for : Option Reading → List (List ℕ)
@@ -51,7 +52,7 @@ outputs_for (Some read) = outputs_in read
 
 -- the word that keeps the command on this machine
 abbrev pub word_in : Reading → Option (List ℕ)
-word_in (reading.Compile source quote_dirs dirs forced sysroots outputs is_c) = None
+word_in (reading.Compile source quote_dirs dirs forced walked sysroots outputs is_c) = None
 word_in (reading.LocalOnly word outputs) = Some word
 
 abbrev pub word_for : Option Reading → Option (List ℕ)

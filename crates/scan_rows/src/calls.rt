@@ -2,7 +2,7 @@
 
 use crate::commands::{command_in, kind_in, paths_in, strategy_in, variables_of};
 use crate::gathered::{show_digests, show_fault, show_found, show_gathered};
-use crate::readings::show_reading;
+use crate::readings::{show_reading, show_walked};
 use rx_base::{Bytes, Items, RelPath};
 use rx_cppflags::read_command;
 use rx_digest_cache::DigestCache;
@@ -152,6 +152,14 @@ impl<'a, R: Wait> ScanCalls<'a, R> {
         Ok(())
     }
 
+    /// `walked WORDS`: the texts whose ways lead to what the words of a compile command name.
+    fn call_walked(&self, row: &mut Row<'_>, answer: &mut Answer) -> Result<(), RowFault> {
+        let command = command_in(self.alloc, row, "w/k/l")?;
+        let reading = read_command(self.alloc, &command, &[])?;
+        show_walked(answer, &reading)?;
+        Ok(())
+    }
+
     /// Rows that say what the tree or the cache is.
     fn call_state(&mut self, word: &str, row: &mut Row<'_>) -> Result<(), RowFault> {
         match word {
@@ -173,6 +181,7 @@ impl<'a, R: Wait> Calls for ScanCalls<'a, R> {
             "digests" => self.call_digests(answer),
             "digest" => self.call_digest(row, answer),
             "words" => self.call_words(row, answer),
+            "walked" => self.call_walked(row, answer),
             // How many reads the tree has answered.
             "reads" => Ok(answer.number(self.tree.reads() as u64)?),
             _ => {

@@ -36,6 +36,7 @@ pub(crate) fn show_reading(answer: &mut Answer, reading: &Reading) -> Result<(),
             quote_dirs,
             dirs,
             forced,
+            walked: _,
             sysroots,
             outputs,
             is_c,
@@ -49,4 +50,14 @@ pub(crate) fn show_reading(answer: &mut Answer, reading: &Reading) -> Result<(),
             answer.word(if *is_c { "| C" } else { "| C++" })
         }
     }
+}
+
+/// The texts whose ways lead to what words name; none of a command that is kept here.
+pub(crate) fn show_walked(answer: &mut Answer, reading: &Reading) -> Result<(), NoMemory> {
+    if let Reading::Compile { walked, .. } = reading {
+        for text in walked.as_slice() {
+            answer.word(text.as_str())?;
+        }
+    }
+    Ok(())
 }
