@@ -2,11 +2,11 @@
 use Rattle.std.specs.Prelude.{ℕ, false, List, [], ◌∷◌, Option, None, Some}
 use Rattle.std.specs.Option.{option_to_list}
 use Rattle.rx_board.specs.declared.journal.Entry.{Entry}
+use Rattle.rx_daemon.specs.CoreRuns.{IsCoreRun, rules_of}
+use Rattle.rx_daemon.specs.Proxy.{HasServed, HasServingStatus, HasStatus, IsLegal}
+use Rattle.rx_daemon.specs.Serves.{RunsDone}
 use Rattle.rx_engine.specs.declared.transcripts.Transcript.{Transcript}
-use Rattle.rx_engine.specs.CoreRuns.{IsCoreRun, rules_of}
 use Rattle.rx_engine.specs.Meanings.{Meanings}
-use Rattle.rx_engine.specs.Proxy.{HasServed, HasServingStatus, HasStatus, IsLegal}
-use Rattle.rx_engine.specs.Serves.{RunsDone}
 use Rattle.rx_host.specs.Clients.{Accepts}
 use Rattle.rx_world.specs.declared.outcomes.FileOut.{FileOut}
 

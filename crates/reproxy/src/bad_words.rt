@@ -1,6 +1,6 @@
 //! Which word of a command line is wrong, for standard error.
 
-use rx_engine::options_in;
+use rx_daemon::options_in;
 use std::alloc::{AllocError, Global};
 
 /// The options. The second one is of `serve` alone.

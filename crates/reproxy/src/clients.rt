@@ -4,7 +4,8 @@ ghost use Rattle.std.specs.Prelude.{◌≡◌, None, false};
 
 use crate::desk::{Host, HostParts, parts_over};
 use crate::halts::HostHalt;
-use rx_engine::{Desk, Front, Options, Parts};
+use rx_daemon::{Front, Options};
+use rx_engine::{Desk, Parts};
 use rx_host::{
     Client, Halting, Hands, HostBenches, HostFarm, HostListener, HostSources, HostWorld,
     PatientSink, PromptSource, draw_seed,

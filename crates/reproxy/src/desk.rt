@@ -5,7 +5,8 @@ ghost use Rattle.std.specs.Option.{option_to_list};
 
 use crate::farm::farm_for;
 use crate::halts::HostHalt;
-use rx_engine::{Desk, Front, Options, Parts};
+use rx_daemon::{Front, Options};
+use rx_engine::{Desk, Parts};
 use rx_host::{
     Children, Contents, Halting, Hands, HostBenches, HostFarm, HostSink, HostSource, HostSources,
     HostWorld,

@@ -2,7 +2,7 @@
 
 use crate::desk::Host;
 use rx_base::Text;
-use rx_engine::Options;
+use rx_daemon::Options;
 use rx_grpc::GrpcCaller;
 use rx_host::{Halting, Hands, HostDial, HostFarm};
 use std::alloc::AllocError;

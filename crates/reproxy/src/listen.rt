@@ -2,15 +2,15 @@
 
 ghost use Rattle.std.specs.Prelude.{◌≡◌, ◌≤◌, ◌↔◌, [], IfOk, IfSome, None};
 ghost use Rattle.rx_board.specs.Journal.{count_short};
+ghost use Rattle.rx_daemon.specs.Words.{root_in};
 ghost use Rattle.rx_engine.specs.Meanings.{meanings};
-ghost use Rattle.rx_engine.specs.Words.{root_in};
 ghost use Rattle.reproxy.specs.Serves.{ServesClients};
 
 use crate::clients::ClientFront;
 use crate::desk::Host;
 use crate::session_words::HostLog;
 use rx_board::JOURNAL_LIMIT;
-use rx_engine::{Options, Ran, run_in_threads};
+use rx_daemon::{Options, Ran, run_in_threads};
 use rx_exec_messages::Caller;
 use rx_host::{
     Hands, HostBench, HostBenches, HostFarm, HostListener, HostPlace, HostSources, HostWorld,

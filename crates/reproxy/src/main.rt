@@ -22,7 +22,7 @@ use crate::serve::serve;
 use crate::session_words::tell_sessions;
 use crate::settled::{resolved, settled, slots_of};
 use crate::words::{Page, page_in};
-use rx_engine::{Options, options_in};
+use rx_daemon::{Options, options_in};
 use rx_host::{
     Children, Contents, Hands, HostListener, draw_seed, open_files_limit, open_files_of,
     remove_left_aside,

@@ -2,15 +2,15 @@
 
 ghost use Rattle.std.specs.Prelude.{◌≡◌, ◌≤◌, ◌↔◌, [], IfOk, IfSome, MatchOption, None};
 ghost use Rattle.rx_board.specs.Journal.{count_short};
+ghost use Rattle.rx_daemon.specs.Proxy.{EndsWhereAsked};
+ghost use Rattle.rx_daemon.specs.Words.{root_in};
 ghost use Rattle.rx_engine.specs.Meanings.{meanings};
-ghost use Rattle.rx_engine.specs.Proxy.{EndsWhereAsked};
-ghost use Rattle.rx_engine.specs.Words.{root_in};
 ghost use Rattle.reproxy.specs.Serves.{ServesDesk};
 
 use crate::desk::{Host, HostDesk, HostFront, parts_over};
 use crate::halts::HostHalt;
 use rx_board::JOURNAL_LIMIT;
-use rx_engine::{Options, Ran, options_in, run_proxy};
+use rx_daemon::{Options, Ran, options_in, run_proxy};
 use rx_exec_messages::Caller;
 use rx_host::{
     Halting, Hands, HostBench, HostBenches, HostFarm, HostPlace, HostSink, HostSource, HostSources,

@@ -4,7 +4,8 @@
 use crate::local_words::local_in_words;
 use crate::remote_words::remote_in_words;
 use crate::reply_words::reply_in_words;
-use rx_engine::{Ending, Log, Transcript};
+use rx_daemon::Log;
+use rx_engine::{Ending, Transcript};
 use rx_session::Reply;
 use rx_world::{BenchStep, Cause, End, Ended, RemoteCause};
 use std::alloc::{AllocError, Global};

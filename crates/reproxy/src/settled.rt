@@ -1,6 +1,6 @@
 //! What the machine has a say in: the directory that is served, and how many commands run at once.
 
-use rx_engine::Options;
+use rx_daemon::Options;
 use std::alloc::{AllocError, Global};
 use std::fs::Files;
 use std::io::{Error, ErrorKind};

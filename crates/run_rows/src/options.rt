@@ -1,7 +1,7 @@
 //! What the words of a command line ask for, as rows tell it.
 
 use crate::arguments::words_in;
-use rx_engine::options_in;
+use rx_daemon::options_in;
 use rx_rows::{Answer, Row, RowFault};
 use std::alloc::Global;
 

@@ -1,34 +1,21 @@
 mod AnswerLemmas
 mod AttemptLemmas
 mod Calm
-mod Cases
+pub mod Cases
 mod ConcludeLemmas
-mod CoreActions
-mod CoreEnds
-mod CoreListed
-mod CorePasses
-mod CoreRaces
-mod CoreRuns
-mod CoreSessions
-mod CoreVictors
 mod CourseLemmas
-mod EachDone
 mod Early
-mod EndedLemmas
 mod Entries
 mod Failures
 mod FinisherLemmas
-mod HonestRuns
-mod LegalLemmas
+pub mod HonestRuns
 mod LostRuns
-mod MadeLemmas
+pub mod MadeLemmas
 mod Mirrors
 mod Moves
 mod PendingLemmas
-mod PortLemmas
-mod Quiet
-mod RaceLemmas
+pub mod Quiet
+pub mod RaceLemmas
 mod ReplyMoves
-mod RunLemmas
 mod TurnLemmas
 mod Unpublished

@@ -30,7 +30,7 @@ pub(crate) const MOST_ATTEMPTS: usize = 2;
 
 /// What a session uses beside the parts of its desk.
 #[derive(Drop)]
-pub(crate) struct Means<'a, W: World, H, N: Places> {
+pub struct Means<'a, W: World, H, N: Places> {
     /// Digests of the source trees' files.
     pub cache: &'a DigestCache<W>,
     /// Contents of these files that needn't be hashed again.
@@ -78,8 +78,10 @@ pub(crate) struct Room {
 
 /// An outcome that is to be published, and where it comes from.
 #[derive(Debug, Drop)]
-pub(crate) struct Won {
+pub struct Won {
+    /// The exit, the texts, and the files that are placed.
     pub outcome: Outcome,
+    /// Which attempt made it.
     pub origin: Origin,
 }
 

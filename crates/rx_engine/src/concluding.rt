@@ -37,8 +37,9 @@ pub(crate) struct Ready {
     pub handled: Handled,
 }
 
-/// Publishes what won, if anything did, and writes the reply.
-pub(crate) fn conclude<W: World, D: Desk<W>, P: Place>(
+/// The second half of a session: publishes what won, if anything did, writes the reply, and keeps what was
+/// done under the session's number.
+pub fn conclude<W: World, D: Desk<W>, P: Place>(
     alloc: Global,
     number: u32,
     pending: Pending,

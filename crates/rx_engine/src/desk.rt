@@ -1,15 +1,11 @@
-//! What a session owns, and where sessions come from.
+//! What a session owns.
 
-ghost use Rattle.std.specs.Prelude.{◌≡◌, ◌+◌, ◌≤◌, ℕ, Bool, true, List, Option, None, IfOk, OnErr, length};
-ghost use Rattle.std.specs.Option.{option_to_list};
-ghost use Rattle.rx_world.specs.Causes.{HasCause};
+ghost use Rattle.std.specs.Prelude.{◌≡◌};
 ghost use Rattle.rx_engine.specs.declared.desk.Parts.{Parts};
-ghost use Rattle.rx_engine.specs.Fronts.{GivesNext};
 
 use crate::halts::{Halt, NoHalt};
-use crate::transcripts::Transcript;
 use rx_exec_messages::Caller;
-use rx_world::{BenchMaker, Failed, Sink, Source, Sources, World};
+use rx_world::{BenchMaker, Sink, Source, Sources, World};
 
 /// The parts of a desk. They are a desk themselves.
 #[derive(Drop)]
@@ -102,37 +98,4 @@ impl<
     {
         of
     }
-}
-
-/// Gives desks, one for each session.
-pub trait Front<W: World> {
-    type D: Desk<W> + Send + Drop;
-
-    /// The desks that are still to come, where told.
-    ghost coming: { Self → Option (List Self.D) };
-
-    /// How many desks it gave.
-    ghost given: { Self → ℕ };
-
-    /// Whether it said that it has no more.
-    ghost over: { Self → Bool };
-
-    /// How often a call failed.
-    ghost faults: { Self → ℕ };
-
-    /// The next desk. None says that there are no more.
-    fn next(&mut self) -> Result<Option<Self::D>, Failed>
-        ensures next { IfOk result (GivesNext (coming self.old) (coming self.new)) }
-        ensures kept { OnErr result (coming self.new ≡ coming self.old) }
-        // Where it failed it may count a client for whom it had no desk.
-        ensures counted { IfOk result (λ next.
-            given self.new ≡ given self.old + length (option_to_list next)) }
-        ensures more { given self.old ≤ given self.new }
-        ensures over { IfOk result (λ next. next ≡ None → over self.new ≡ true) }
-        ensures cause { HasCause (faults self.old) (faults self.new) result };
-}
-
-/// Hears what each session did, right after it.
-pub trait Log {
-    fn hear(&self, transcript: &Transcript);
 }

@@ -1,9 +1,9 @@
-//! Serves sessions: a request in, the attempts of its plan, the files of one placed once and whole, a
-//! reply out.
+//! Serves a session: a request in, the attempts of its plan, the files of one placed once and whole, a
+//! reply out. A session is made of two halves, until its attempts have ended (`undertake`) and from there
+//! (`conclude`), so that a run may have the first halves of several beside each other. What runs sessions,
+//! and what a whole run of them is, stands in the crate above, `rx_daemon`.
 #![tactic(auto)]
 
-mod accounts;
-mod addresses;
 mod answered;
 mod answers;
 mod attempts;
@@ -13,30 +13,23 @@ mod desk;
 mod ends;
 mod entrants;
 mod finishers;
-mod gate;
 mod halts;
 mod held;
 mod here;
-mod kept;
 mod pending;
 mod plans;
-mod proxy;
 mod publishing;
 mod racing;
-mod runs;
-mod serving;
 mod sessions;
 mod there;
-mod threads;
 mod transcripts;
 mod watchers;
 mod winners;
-mod words;
 
-pub use desk::{Desk, Front, Log, Parts};
+pub use attempts::{Means, Won};
+pub use concluding::conclude;
+pub use desk::{Desk, Parts};
 pub use halts::{Halt, NoHalt};
-pub use proxy::{Ran, run_proxy};
+pub use pending::{Pending, undertake};
 pub use sessions::{Shared, serve_session};
-pub use threads::run_in_threads;
-pub use transcripts::{Ending, Passes, Transcript};
-pub use words::{Options, options_in};
+pub use transcripts::{Ending, Passes, Tally, Transcript};

@@ -23,14 +23,14 @@ use std::alloc::{AllocError, Global};
 use std::sync::Wait;
 use std::thread::Threads;
 
-/// What a session came to before anything is published.
+/// What a session came to before anything is published: what its first half hands to the second one.
 #[derive(Drop)]
-pub(crate) struct Pending {
-    /// The bytes that were read.
+pub struct Pending {
+    /// The bytes that were read from the input.
     pub read: Bytes,
     /// The request, where the bytes are one.
-    pub request: Option<Request>,
-    pub stage: Stage,
+    pub(crate) request: Option<Request>,
+    pub(crate) stage: Stage,
 }
 
 /// What was made of what was read.
@@ -46,13 +46,9 @@ pub(crate) enum Stage {
     Attempted { attempted: Attempted },
 }
 
-/// Reads what comes in, and makes the attempts of the plan of a request.
-pub(crate) fn undertake<
-    W: World + Send,
-    D: Desk<W>,
-    N: Places + Send + Sync,
-    R: Threads + Wait + Sync,
->(
+/// The first half of a session: reads what comes in, and makes the attempts of the plan of a request below
+/// the served root. It may run beside the first halves of other sessions, with the same means.
+pub fn undertake<W: World + Send, D: Desk<W>, N: Places + Send + Sync, R: Threads + Wait + Sync>(
     rt: &R,
     alloc: Global,
     root: &str,

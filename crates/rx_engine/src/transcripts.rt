@@ -2,13 +2,12 @@
 
 ghost use Rattle.std.specs.Prelude.{◌≡◌};
 ghost use Rattle.rx_engine.specs.Attempts.{no_tally};
-ghost use Rattle.rx_engine.specs.Proxy.{asks_to_end};
 ghost use Rattle.rx_engine.specs.Racing.{unused_passes};
 
 use rx_base::{Bytes, Items};
 use rx_board::Receipt;
 use rx_race::Slip;
-use rx_session::{Reply, Request, SHUTDOWN};
+use rx_session::{Reply, Request};
 use rx_world::Ended;
 use std::alloc::Global;
 
@@ -79,8 +78,10 @@ impl Passes {
 
 /// How the attempts of a session ended, as its transcript keeps it.
 #[derive(Debug, Drop)]
-pub(crate) struct Tally {
+pub struct Tally {
+    /// The end of each attempt that was started: local before remote, but an end that won a race first.
     pub ends: Items<Ended>,
+    /// What became of the passes of their race.
     pub passes: Passes,
 }
 
@@ -94,11 +95,4 @@ impl Tally {
             passes: Passes::unused(),
         }
     }
-}
-
-/// Whether the bytes that a session read ask for the end of the run.
-pub(crate) fn asks_to_end(read: &[u8]) -> bool
-    ensures { result ≡ asks_to_end read.now }
-{
-    read == SHUTDOWN.as_slice()
 }

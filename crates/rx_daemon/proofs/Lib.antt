@@ -1,0 +1,13 @@
+mod CoreActions
+mod CoreEnds
+mod CoreListed
+mod CorePasses
+mod CoreRaces
+mod CoreRuns
+mod CoreSessions
+mod CoreVictors
+mod EachDone
+mod EndedLemmas
+mod LegalLemmas
+mod PortLemmas
+mod RunLemmas

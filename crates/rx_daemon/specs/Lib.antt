@@ -1,0 +1,10 @@
+pub mod Accounts
+pub mod Addresses
+pub mod CoreRuns
+pub mod Cuts
+pub mod Fronts
+pub mod Gates
+pub mod Kept
+pub mod Proxy
+pub mod Serves
+pub mod Words
