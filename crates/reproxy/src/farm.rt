@@ -30,6 +30,6 @@ pub(crate) fn farm_for<H: Hands>(
     let Ok(instance) = Text::copy_of(alloc, options.instance) else {
         return Err(AllocError);
     };
-    let dial = HostDial::new(host.rt, host.hands, address, halting);
+    let dial = HostDial::new(host.rt, host.hands, address, halting).sharing(host.outage.share()?);
     Ok(HostFarm::new(GrpcCaller::new(alloc, dial, authority, instance, seed)))
 }

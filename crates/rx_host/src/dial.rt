@@ -7,6 +7,7 @@ ghost use Rattle.rx_host.specs.Farms.{any_bytes};
 use crate::halting::{Connecting, Halting, halted};
 use crate::hands::Hands;
 use crate::link::HostLink;
+use crate::outage::Outage;
 use rx_streams::Faults;
 use rx_world::{Dial, Failed};
 use std::alloc::Global;
@@ -19,15 +20,18 @@ use std::{io, thread};
 /// How long it may take to connect, over all addresses of a name.
 const CONNECT_SECONDS: u64 = 10;
 
-/// Connects to one farm, or to none: then each call is a fault. The first connection that can't be
-/// made is told on standard error.
+/// Connects to one farm, or to none: then each call is a fault. The first connection that can't be made is told on standard
+/// error, where sessions share what they know of the farm by one of them in 10 seconds.
 #[derive(Drop)]
 pub struct HostDial<H> {
     rt: HostRuntime,
     hands: H,
     address: Option<String>,
     halting: Halting,
+    outage: Option<Outage>,
     is_told: bool,
+    /// Whether the last call for a connection tried none, since there is no farm or it is away.
+    is_idle: bool,
     faults: Faults,
 }
 
@@ -41,14 +45,51 @@ impl<H: Hands> HostDial<H> {
             hands,
             address,
             halting,
+            outage: None,
             is_told: false,
+            is_idle: false,
             faults: Faults::new(),
+        }
+    }
+
+    /// The same, which knows of a farm that is away what other sessions know.
+    pub fn sharing(self, outage: Outage) -> HostDial<H>
+        ensures { ⟦<HostDial<H> as Dial>⟧.faults result ≡ ⟦<HostDial<H> as Dial>⟧.faults self }
+    {
+        HostDial {
+            rt: self.rt,
+            hands: self.hands,
+            address: self.address,
+            halting: self.halting,
+            outage: Some(outage),
+            is_told: self.is_told,
+            is_idle: self.is_idle,
+            faults: self.faults,
         }
     }
 
     /// Lets go of the connections that are kept for halting.
     pub(crate) fn let_go(&self) {
         self.halting.let_go(&self.hands);
+    }
+
+    /// A call begins: first comes this pause, unless no connection is tried. The call may be silent for as long as a
+    /// command runs, or may not.
+    pub(crate) fn begin_call(&self, is_given_time: bool, pause: Option<Duration>) {
+        self.halting.give_farm_time(is_given_time);
+        if let Some(pause) = pause {
+            if !self.is_idle {
+                self.halting.rest(&self.hands, pause);
+            }
+        }
+    }
+
+    /// The farm is away, as an attempt found out that tried a connection.
+    pub(crate) fn give_up(&self) {
+        match &self.outage {
+            Some(outage) if !self.is_idle => outage.begin(&self.rt),
+            _ => {}
+        }
     }
 
     /// Tells that the farm refused a call with this status, and what it said of it, if anything.
@@ -81,14 +122,38 @@ impl<H: Hands> HostDial<H> {
         };
         let stream = connected?;
         self.halting.keep_connection(&self.hands, &stream)?;
-        HostLink::new(rt, stream, self.halting.share()?)
+        let outage = match &self.outage {
+            Some(outage) => Some(outage.share()?),
+            None => None,
+        };
+        HostLink::new(rt, stream, self.halting.share()?, outage)
     }
 
-    /// Tells why there is no connection, once, unless there is to be none.
+    /// Whether a connection is to be tried.
+    fn is_dial_due(&self) -> bool {
+        match &self.outage {
+            Some(outage) => self.address.is_some() && outage.is_dial_due(&self.rt),
+            None => self.address.is_some(),
+        }
+    }
+
+    /// Whether it is to be told why there is no connection: once, and by few sessions.
+    fn is_telling_due(&self) -> bool {
+        let is_due = !self.is_told && !self.halting.is_farm_halted();
+        match &self.outage {
+            Some(outage) => is_due && outage.is_telling_due(&self.rt),
+            None => is_due,
+        }
+    }
+
+    /// Tells why there is no connection, unless there is to be none. A farm whose host didn't answer in time is away.
     fn tell(&mut self, error: &Error)
         ensures { self.new.faults ≡ self.old.faults }
     {
-        if self.is_told || self.halting.is_farm_halted() {
+        if error.kind() == ErrorKind::TimedOut {
+            self.give_up();
+        }
+        if !self.is_telling_due() {
             return;
         }
         self.is_told = true;
@@ -131,6 +196,10 @@ impl<H: Hands> Dial for HostDial<H> {
     ghost faults = { λ d. d.faults.count };
 
     fn dial(&mut self) -> Result<HostLink, Failed> {
+        self.is_idle = !self.is_dial_due();
+        if self.is_idle {
+            return Err(self.faults.failed(Error::from(ErrorKind::NotConnected)));
+        }
         match self.connect() {
             Ok(link) => Ok(link),
             Err(error) => {

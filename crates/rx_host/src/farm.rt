@@ -8,6 +8,7 @@ ghost use Rattle.rx_host.specs.Farms.{any_bytes};
 
 use crate::dial::HostDial;
 use crate::hands::Hands;
+use crate::pauses::Pauses;
 use crate::world::HostWorld;
 use rx_base::{Bytes, Digest, Items};
 use rx_exec_messages::{Caller, Capabilities, NamedBlob, Operation};
@@ -23,6 +24,7 @@ pub struct HostFarm<H: Hands> {
     caller: GrpcCaller<HostDial<H>>,
     /// Whether an execution goes on, also where the connection was closed here: then its next state is a fault.
     streaming: bool,
+    pauses: Pauses,
 }
 
 impl<H: Hands> Model for HostFarm<H> {
@@ -45,16 +47,29 @@ impl<H: Hands> HostFarm<H> {
         HostFarm {
             caller,
             streaming: false,
+            pauses: Pauses::new(),
         }
     }
 
-    /// Tells on standard error what the farm said where it refused a call.
-    fn tell_refusal<T>(&self, answer: &Result<T, CallFault>) {
+    /// Whether the last connection brought nothing, or there was none.
+    fn is_unheard(&self) -> bool {
+        match self.caller.channel().link() {
+            Some(link) => !link.is_heard(),
+            None => true,
+        }
+    }
+
+    /// Tells on standard error what the farm said where it refused a call. Where an attempt is over and got nothing from
+    /// the farm, that is away.
+    fn follow_up<T>(&self, answer: &Result<T, CallFault>) {
         if let Err(CallFault::Status(code)) = answer {
             self.caller
                 .channel()
                 .dial()
                 .tell_status(*code, self.caller.status_text());
+        }
+        if self.pauses.is_over() && self.is_unheard() {
+            self.caller.channel().dial().give_up();
         }
     }
 
@@ -69,6 +84,7 @@ impl<H: Hands> HostFarm<H> {
         HostFarm {
             caller,
             streaming: self.streaming,
+            pauses: self.pauses,
         }
     }
 }
@@ -91,68 +107,120 @@ impl<H: Hands> Caller<HostWorld> for HostFarm<H> {
     ghost faults = { λ c. c.faults };
 
     fn capabilities(&mut self) -> Result<Capabilities, CallFault> {
+        self.caller
+            .channel()
+            .dial()
+            .begin_call(false, self.pauses.take());
         let answer = self.caller.hear_capabilities();
-        self.tell_refusal(&answer);
+        self.pauses.heed(&answer);
+        self.follow_up(&answer);
         answer
     }
 
     fn get_result(&mut self, action: &Digest) -> Result<Option<ActionResult>, CallFault> {
+        self.caller
+            .channel()
+            .dial()
+            .begin_call(false, self.pauses.take());
         let answer = self.caller.hear_result(action);
-        self.tell_refusal(&answer);
+        self.pauses.heed(&answer);
+        self.follow_up(&answer);
         answer
     }
 
     fn find_missing(&mut self, digests: &[Digest]) -> Result<Items<Digest>, CallFault> {
+        self.caller
+            .channel()
+            .dial()
+            .begin_call(false, self.pauses.take());
         let answer = self.caller.hear_missing(digests);
-        self.tell_refusal(&answer);
+        self.pauses.heed(&answer);
+        self.follow_up(&answer);
         answer
     }
 
     fn update(&mut self, blobs: &[NamedBlob]) -> Result<(), CallFault> {
+        self.caller
+            .channel()
+            .dial()
+            .begin_call(false, self.pauses.take());
         let answer = self.caller.hear_update(blobs);
-        self.tell_refusal(&answer);
+        self.pauses.heed(&answer);
+        self.follow_up(&answer);
         answer
     }
 
     fn read(&mut self, digests: &[Digest]) -> Result<Items<Bytes>, CallFault> {
+        self.caller
+            .channel()
+            .dial()
+            .begin_call(false, self.pauses.take());
         let answer = self.caller.hear_read(digests);
-        self.tell_refusal(&answer);
+        self.pauses.heed(&answer);
+        self.follow_up(&answer);
         answer
     }
 
     fn write_stream(&mut self, digest: &Digest, bytes: &[u8]) -> Result<(), CallFault> {
+        self.caller
+            .channel()
+            .dial()
+            .begin_call(false, self.pauses.take());
         let answer = self.caller.hear_write(digest, bytes);
-        self.tell_refusal(&answer);
+        self.pauses.heed(&answer);
+        self.follow_up(&answer);
         answer
     }
 
     fn read_stream(&mut self, digest: &Digest) -> Result<Bytes, CallFault> {
+        self.caller
+            .channel()
+            .dial()
+            .begin_call(false, self.pauses.take());
         let answer = self.caller.hear_blob(digest);
-        self.tell_refusal(&answer);
+        self.pauses.heed(&answer);
+        self.follow_up(&answer);
         answer
     }
 
     fn execute(&mut self, action: &Digest, skip_cache: bool) -> Result<(), CallFault> {
+        self.caller
+            .channel()
+            .dial()
+            .begin_call(true, self.pauses.take());
         let answer = self.caller.hear_execute(action, skip_cache);
-        self.tell_refusal(&answer);
+        self.pauses.heed(&answer);
+        self.follow_up(&answer);
         self.streaming = answer.is_ok();
         answer
     }
 
     fn wait(&mut self, name: &str) -> Result<(), CallFault> {
+        self.caller
+            .channel()
+            .dial()
+            .begin_call(true, self.pauses.take());
         let answer = self.caller.hear_wait(name);
-        self.tell_refusal(&answer);
+        self.pauses.heed(&answer);
+        self.follow_up(&answer);
         self.streaming = answer.is_ok();
         answer
     }
 
     fn next_operation(&mut self) -> Result<Operation, CallFault> {
+        self.caller
+            .channel()
+            .dial()
+            .begin_call(true, self.pauses.take());
         if !self.caller.is_streaming() {
             self.streaming = false;
-            return self.caller.count_fault(Err(CallFault::Cut));
+            let answer = self.caller.count_fault(Err(CallFault::Cut));
+            self.pauses.heed(&answer);
+            return answer;
         }
         let answer = self.caller.hear_operation();
-        self.tell_refusal(&answer);
+        self.pauses.heed(&answer);
+        self.follow_up(&answer);
         self.streaming = self.caller.is_streaming();
         answer
     }

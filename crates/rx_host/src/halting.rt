@@ -9,7 +9,8 @@ use std::io::Error;
 use std::net::{Shutdown, TcpStream};
 use std::process::Output;
 use std::sync::atomic::{AtomicBool, Ordering};
-use std::sync::{Arc, Mutex, Wait};
+use std::sync::{Arc, Condvar, CondvarTimeouts, Mutex, Wait};
+use std::time::{Clock, Duration};
 
 /// A run of a program.
 pub(crate) type Run = Call<io::Result<Output>>;
@@ -36,7 +37,11 @@ struct Marks {
     are_runs_halted: AtomicBool,
     /// Whether the client may send nothing, or anything at any time.
     is_silence_allowed: AtomicBool,
+    /// Whether the farm may be silent for long, since a command runs there.
+    is_farm_given_time: AtomicBool,
     waits: Mutex<Waits>,
+    /// Tells that the farm was halted.
+    farm_halted: Condvar,
 }
 
 /// What the parts of one session share, by which its waits are ended from another thread.
@@ -52,12 +57,14 @@ impl Halting {
             is_farm_halted: AtomicBool::new(false),
             are_runs_halted: AtomicBool::new(false),
             is_silence_allowed: AtomicBool::new(false),
+            is_farm_given_time: AtomicBool::new(false),
             waits: Mutex::new(Waits {
                 connecting: None,
                 connection: None,
                 run: None,
                 client: None,
             }),
+            farm_halted: Condvar::new(),
         };
         Ok(Halting {
             marks: Arc::new(alloc, marks)?,
@@ -71,7 +78,7 @@ impl Halting {
         })
     }
 
-    /// Ends the connection to the farm, and lets no other one be made.
+    /// Ends the connection to the farm and the pause between two calls on it, and lets no other connection be made.
     pub fn halt_farm(&self, hands: &impl Wait) {
         self.marks.is_farm_halted.store(true, Ordering::SeqCst);
         let mut waits = self.marks.waits.lock(hands);
@@ -81,6 +88,7 @@ impl Halting {
         if let Some(connection) = waits.connection.take() {
             let _ = connection.shutdown(Shutdown::Both);
         }
+        self.marks.farm_halted.notify_all();
     }
 
     /// Ends the wait for the program that runs, and lets no other one be started. The program itself runs on.
@@ -122,6 +130,28 @@ impl Halting {
     /// Whether the farm was halted.
     pub(crate) fn is_farm_halted(&self) -> bool {
         self.marks.is_farm_halted.load(Ordering::SeqCst)
+    }
+
+    /// Waits for so long, or until the farm is halted.
+    pub(crate) fn rest(&self, hands: &(impl Wait + Clock), pause: Duration) {
+        let waits = self.marks.waits.lock(hands);
+        let goes_on = |_: &mut Waits| !self.is_farm_halted();
+        let _ = self
+            .marks
+            .farm_halted
+            .wait_timeout_while(hands, waits, pause, goes_on);
+    }
+
+    /// The next call on the farm may be silent for as long as a command runs, or may not.
+    pub(crate) fn give_farm_time(&self, is_given: bool) {
+        self.marks
+            .is_farm_given_time
+            .store(is_given, Ordering::SeqCst);
+    }
+
+    /// Whether the farm may be silent for as long as a command runs.
+    pub(crate) fn is_farm_given_time(&self) -> bool {
+        self.marks.is_farm_given_time.load(Ordering::SeqCst)
     }
 
     /// Whether the runs were halted.

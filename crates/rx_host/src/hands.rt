@@ -2,8 +2,9 @@
 
 use std::sync::Wait;
 use std::thread::Threads;
+use std::time::Clock;
 
-/// A handle of threads and of waiting.
-pub trait Hands: Threads + Wait + Copy + Drop {}
+/// A handle of threads, of waiting, and of the clock by which a wait ends.
+pub trait Hands: Threads + Wait + Clock + Copy + Drop {}
 
-impl<H: Threads + Wait + Copy + Drop> Hands for H {}
+impl<H: Threads + Wait + Clock + Copy + Drop> Hands for H {}

@@ -5,7 +5,7 @@ use Rattle.rx_host.proofs.farm.HostFarmCallerHostWorld.next_operation.Goals as g
 
 pub returns-then-not-is_streaming-clause-stays : goal.returns-then-not-is_streaming-clause-stays
 returns-then-not-is_streaming-clause-stays g c =
-    rw (← c.self.view_is, c.count_fault.ensures.rest) (record { triples = λ digest command outcome vouched. vouched; still_genuine = λ genuine. genuine; same_dialect = refl })
+    rw (← c.self.view_is, c.count_fault-answer.ensures.rest) (record { triples = λ digest command outcome vouched. vouched; still_genuine = λ genuine. genuine; same_dialect = refl })
 
 pub returns-clause-agrees : goal.returns-clause-agrees
 returns-clause-agrees g c =
