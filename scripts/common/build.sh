@@ -16,12 +16,12 @@ crates_below() {
     END { visit(crate) }' "$1"
 }
 
-# tell WORD..: a line of progress on standard error: how many crates are proved, what is told, and the time since the start. A crate is
-# begun only when all before it in `crates` are proved, now or by an earlier run.
+# tell [WORD..]: a line of progress on standard error: how many crates are proved, what is told, and the time since the start. A crate
+# is begun only when all before it in `crates` are proved, now or by an earlier run.
 tell() {
     told_at=$(date +%s)
     elapsed=$((told_at - started_at))
-    printf 'proved %s of %s: %s (%d min %02d s)\n' "$proved" "$crate_count" "$*" $((elapsed / 60)) $((elapsed % 60)) >&2
+    printf 'proved %s of %s%s (%d min %02d s)\n' "$proved" "$crate_count" "${*:+, $*}" $((elapsed / 60)) $((elapsed % 60)) >&2
 }
 
 # place_of CRATE: its place in `crates`, from 1 on
@@ -29,8 +29,8 @@ place_of() {
     printf '%s\n' "$crates" | grep -nxF "$1" | cut -d: -f1
 }
 
-# follow_build LOG: copies what rt writes from standard input to the log, and tells how far the build is: a line as a crate is proved,
-# and one in between where a minute passed since the last. It ends with the status in the last line.
+# follow_build LOG: copies what rt writes from standard input to the log, and tells how far the build is: a line as a crate begins, one
+# in between where rt tells more and a minute passed since the last, and one at the end. It ends with the status in the last line.
 follow_build() {
     now_built=
     code=1
@@ -40,6 +40,7 @@ follow_build() {
         "rt: chose --jobs "*)
             now_built=${line##* for }
             proved=$(($(place_of "$now_built") - 1))
+            tell "now $now_built"
             ;;
         "rt: "*": another copy of the repository is building"*)
             line=${line#rt: }
@@ -49,17 +50,18 @@ follow_build() {
             line=${line#so far: }
             line=${line%% functions*}
             if [ $(($(date +%s) - told_at)) -ge 60 ]; then
-                tell "in $now_built ${line##*, } functions"
+                tell "now $now_built, ${line##*, } functions"
             fi
             ;;
         "logic=proved functions="*)
-            line=${line#*functions=}
             proved=$(place_of "$now_built")
-            tell "$now_built, ${line%% *} functions"
             ;;
         "rt ended with status "*) code=${line##* } ;;
         esac
     done 3> "$1"
+    # (where rt had nothing to prove it began no crate)
+    [ "$code" -ne 0 ] || proved=$crate_count
+    tell
     return "$code"
 }
 
