@@ -18,16 +18,17 @@ fn share_one<K: Places + Send + Sync, R: Threads + Wait + Sync>(rt: &R, blank: B
     let slots = Slots::<K>::new(1, blank);
     join(
         rt,
-        || {
-            let pass = slots.take(rt);
-            slots.give(rt, pass);
-        },
-        || {
-            let pass = slots.take(rt);
-            slots.give(rt, pass);
-        },
+        || take_and_give::<K, R>(rt, &slots),
+        || take_and_give::<K, R>(rt, &slots),
     );
     slots.all()
+}
+
+/// Takes a slot, however long that takes, and gives it back.
+fn take_and_give<K: Places, R: Wait>(rt: &R, slots: &Slots<K>) {
+    if let Some(pass) = slots.take(rt, || false) {
+        slots.give(rt, pass);
+    }
 }
 
 /// How many slots there are when two threads have shared one, whose ledger is made here.

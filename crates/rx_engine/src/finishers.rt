@@ -72,7 +72,7 @@ pub(crate) fn race_here<
         }
         Err(refused) => (refused.ticket, None),
     };
-    halt_loser(job, &ticket, Attempt::Remote);
+    halt_loser(rt, job, &ticket, Attempt::Remote);
     Finisher {
         ticket,
         end,
@@ -124,7 +124,7 @@ pub(crate) fn race_there<
         }
         Err(refused) => (refused.ticket, None),
     };
-    halt_loser(job, &ticket, Attempt::Local);
+    halt_loser(rt, job, &ticket, Attempt::Local);
     Finisher {
         ticket,
         end,
@@ -133,14 +133,16 @@ pub(crate) fn race_there<
     }
 }
 
-/// Has the other attempt end soon, where both run at once and this one won.
+/// Has the other attempt end soon, or its wait for a slot, where both run at once and this one won.
 fn halt_loser<K: Contest, H: Halt, N: Places>(
+    rt: &impl Wait,
     job: &Job<'_, H, N>,
     ticket: &Ticket<K>,
     other: Attempt,
 ) {
     if has_both(job.gathered.plan) && ticket.slip() == Slip::Told(Verdict::Won) {
         job.halter.halt(other);
+        job.slots.wake(rt);
     }
 }
 

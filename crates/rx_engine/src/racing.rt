@@ -214,8 +214,7 @@ fn run_and_halt<
     ended
 }
 
-/// Runs the attempts of the plan: both at once where the plan has them so and there is a slot for the
-/// local one now. Else the remote one comes first, and the local one waits for a slot when that has ended.
+/// Runs the attempts of the plan: both at once where the plan has them so, and else in turn.
 fn run_all<
     W: World + Send,
     K: Contest + Send + Sync,
@@ -249,11 +248,7 @@ fn run_all<
     let plan = job.gathered.plan;
     let far = enter_there::<K, C, S>(rt, race, plan, far);
     if has_both(plan) {
-        if let Some(slot) = job.slots.try_take(rt) {
-            let ended = run_both::<W, K, H, N, B, L, C, S, R>(rt, job, race, near, far);
-            job.slots.give(rt, slot);
-            return ended;
-        }
+        return run_both::<W, K, H, N, B, L, C, S, R>(rt, job, race, near, far);
     }
     run_in_turn::<W, K, H, N, B, L, C, S, R>(rt, job, race, near, far)
 }
@@ -309,7 +304,8 @@ fn run_in_turn<
     (near, far)
 }
 
-/// Makes the local attempt, where it was started, once there is a slot for it.
+/// Makes the local attempt, where it was started, once there is a slot for it. Where the race is decided before,
+/// there may be none: then the attempt stops as it begins.
 fn race_in_slot<W: World, K: Contest, H: Halt, N: Places, B: BenchMaker<W>, S: Sources<W>, R: Wait>(
     rt: &R,
     job: &Job<'_, H, N>,
@@ -326,14 +322,47 @@ fn race_in_slot<W: World, K: Contest, H: Halt, N: Places, B: BenchMaker<W>, S: S
     if near.start.is_err() {
         return race_here::<W, K, H, N, B, S, R>(rt, job, race, near);
     }
-    let slot = job.slots.take(rt);
+    let slot = job.slots.take(rt, || race.is_decided(rt));
     let ended = race_here::<W, K, H, N, B, S, R>(rt, job, race, near);
-    job.slots.give(rt, slot);
+    if let Some(slot) = slot {
+        job.slots.give(rt, slot);
+    }
     ended
 }
 
-/// Runs both attempts: the local one in a thread of its own, and the remote one in this. Where no
-/// thread can be started, the local one runs after the remote one, and is stopped where that won.
+/// The same of an attempt that waits for no other one. It starts when it has its slot, so that it is refused where
+/// the race was decided meanwhile.
+fn enter_in_slot<
+    W: World,
+    K: Contest,
+    H: Halt,
+    N: Places,
+    B: BenchMaker<W>,
+    S: Sources<W>,
+    R: Wait,
+>(
+    rt: &R,
+    job: &Job<'_, H, N>,
+    race: &SharedRace<K>,
+    near: Entrant<StartPass<K>, B, S>,
+) -> Finisher<K, Cause, B, S>
+    requires both { has_both K.plan ≡ true }
+    requires near { near.start.attempt ≡ local_attempt }
+    ensures { HasRacedHere W.World B.BenchMaker B.B.Bench S.Sources
+        K.plan true job.now.gathered.now near.runner result.runner
+        near.tree result.tree (whole result.end) result.ticket }
+{
+    let slot = job.slots.take(rt, || race.is_decided(rt));
+    let near = enter::<K, B, S>(rt, race, near);
+    let ended = race_here::<W, K, H, N, B, S, R>(rt, job, race, near);
+    if let Some(slot) = slot {
+        job.slots.give(rt, slot);
+    }
+    ended
+}
+
+/// Runs both attempts: the local one in a thread of its own, which waits for a slot, and the remote one in this.
+/// Where no thread can be started, the local one comes after the remote one, and doesn't start where that won.
 fn run_both<
     W: World + Send,
     K: Contest + Send + Sync,
@@ -365,16 +394,15 @@ fn run_both<
         far.runner result.1.runner far.tree result.1.tree
         (whole result.1.end) result.1.ticket }
 {
-    let near = enter::<K, B, L>(rt, race, near);
     join(
         rt,
         move || -> Finisher<K, Cause, B, L>
-            requires { IsStart (λ live. live.attempt) (λ no_start. no_start.ticket)
-                local_attempt true near.start }
+            requires both { has_both K.plan ≡ true }
+            requires near { near.start.attempt ≡ local_attempt }
             ensures { HasRacedHere W.World B.BenchMaker B.B.Bench L.Sources
                 K.plan true job.entry.now.gathered.now near.runner result.runner
                 near.tree result.tree (whole result.end) result.ticket }
-        { race_here::<W, K, H, N, B, L, R>(rt, job, race, near) },
+        { enter_in_slot::<W, K, H, N, B, L, R>(rt, job, race, near) },
         move || -> Finisher<K, RemoteCause, C, S>
             requires start { IsStart (λ live. live.attempt) (λ no_start. no_start.ticket)
                 remote_attempt (has_remote K.plan) far.start }

@@ -60,6 +60,7 @@ pub(crate) fn watch<K: Contest, H: Halt, N: Places, I: Source, R: Wait>(
     if cancelled.is_some() {
         job.halter.halt(Attempt::Local);
         job.halter.halt(Attempt::Remote);
+        job.slots.wake(rt);
     }
     Watched {
         ticket: mark.ticket,

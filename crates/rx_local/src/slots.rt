@@ -119,21 +119,25 @@ impl<K: Places> Slots<K> {
         self.all
     }
 
-    /// Waits for a free slot, and takes it.
-    pub fn take(&self, rt: &impl Wait) -> SlotPass<K> {
-        let mut held = self
-            .given
-            .wait_while(rt, self.lock.lock(rt), |kept| kept.free == 0);
-        held.take()
-    }
-
-    /// Takes a slot, where one is free now.
-    pub fn try_take(&self, rt: &impl Wait) -> Option<SlotPass<K>> {
-        let mut held = self.lock.lock(rt);
+    /// Waits for a free slot and takes it, or until the wait is over: then there is none, unless one is free.
+    /// Who ends a wait says so by `wake` afterwards.
+    pub fn take<F: Fn() -> bool>(&self, rt: &impl Wait, is_over: F) -> Option<SlotPass<K>>
+        requires { F.IsAlwaysCallable is_over }
+    {
+        let mut held = self.given.wait_while(rt, self.lock.lock(rt), |kept| {
+            kept.free == 0 && !is_over()
+        });
         if held.free == 0 {
             return None;
         }
         Some(held.take())
+    }
+
+    /// Has each wait for a slot see anew whether it is over. A wait that begins holds the lock from its last
+    /// look until it sleeps, so none is missed.
+    pub fn wake(&self, rt: &impl Wait) {
+        drop(self.lock.lock(rt));
+        self.given.notify_all();
     }
 
     /// Gives a slot back. One attempt that waits goes on.

@@ -167,6 +167,11 @@ impl<K: Contest> Held<K> {
         verdict
     }
 
+    /// Whether the race came to something.
+    pub(crate) fn is_decided(&self) -> bool {
+        self.race.decision() != Decision::Undecided
+    }
+
     /// The decision, and whether the local and the remote attempt have offered.
     pub(crate) fn news(&self) -> (Decision, (bool, bool)) {
         let local = matches!(self.race.phase(Attempt::Local), Phase::Offered(_));

@@ -124,6 +124,11 @@ impl<K: Contest> SharedRace<K> {
         self.held.lock(rt).look(&mut live.ticket, attempt)
     }
 
+    /// Whether the race is decided, as whoever holds no pass may ask.
+    pub fn is_decided(&self, rt: &impl Wait) -> bool {
+        self.held.lock(rt).is_decided()
+    }
+
     /// Offers the end of an attempt. Won only where it may be published, Noted only where it may
     /// not, and Late where the pass has seen a decision.
     pub fn offer<C>(&self, rt: &impl Wait, live: Live<K>, end: &End<Outcome, C>) -> Mark<K>
