@@ -1,6 +1,6 @@
 //! Rows of a connection: `conn new`, and then a call of `Conn` each.
 
-use crate::frames::number_32;
+use crate::frames::{number_32, read_frame};
 use crate::headers::{read_headers, write_headers};
 use crate::session::Session;
 use rx_h2conn::{ConnEvent, ConnFault};
@@ -54,6 +54,7 @@ impl Connection {
             "send" => self.send(row, answer),
             "reset" => self.reset(row, answer),
             "feed" => self.feed(row, answer),
+            "frame" => self.frame(row, answer),
             "next" => self.next(answer),
             "output" => Ok(answer.bytes(&self.session.take_output()?)?),
             "written" => Ok(answer.number(self.session.take_output()?.len() as u64)?),
@@ -94,6 +95,12 @@ impl Connection {
     /// `feed BYTES`, in one piece.
     fn feed(&mut self, row: &mut Row<'_>, answer: &mut Answer) -> Result<(), RowFault> {
         let piece = row.bytes(self.alloc)?;
+        Ok(write_done(self.session.feed(&piece), answer)?)
+    }
+
+    /// `frame KIND FLAGS STREAM BYTES`, in one piece.
+    fn frame(&mut self, row: &mut Row<'_>, answer: &mut Answer) -> Result<(), RowFault> {
+        let piece = read_frame(self.alloc, row)?;
         Ok(write_done(self.session.feed(&piece), answer)?)
     }
 

@@ -64,8 +64,8 @@ fn write_shown(frame: &Frame, answer: &mut Answer) -> Result<(), AllocError> {
     answer.bytes(frame.body)
 }
 
-/// `write KIND FLAGS STREAM BYTES`: the bytes of a frame with this payload, whose kind is told by its number.
-fn write(alloc: Global, row: &mut Row<'_>, answer: &mut Answer) -> Result<(), RowFault> {
+/// `KIND FLAGS STREAM BYTES`: the bytes of a frame with this payload, whose kind is told by its number.
+pub(crate) fn read_frame(alloc: Global, row: &mut Row<'_>) -> Result<Vec<u8>, RowFault> {
     let kind = Kind::from(byte(row)?);
     let flags = byte(row)?;
     let stream = number_32(row)?;
@@ -81,7 +81,12 @@ fn write(alloc: Global, row: &mut Row<'_>, answer: &mut Answer) -> Result<(), Ro
     };
     let mut out = Vec::new(alloc);
     write_frame(&frame, &mut out)?;
-    Ok(answer.bytes(&out)?)
+    Ok(out)
+}
+
+/// `write FRAME`: its bytes.
+fn write(alloc: Global, row: &mut Row<'_>, answer: &mut Answer) -> Result<(), RowFault> {
+    Ok(answer.bytes(&read_frame(alloc, row)?)?)
 }
 
 /// `flag FLAGS NAME`: whether the flag is set.

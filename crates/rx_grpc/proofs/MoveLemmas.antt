@@ -1,9 +1,10 @@
 -- Calls one after another, and what each of them moves.
-use Rattle.std.proofs.Common.{◌≡◌, ◌≤◌, ℕ, ◌+◌, true, List, [], ◌∷◌, ◌++◌, length, map, take, append-nil, append_assoc, refl, sym, ap, subst, ◌∙◌, arith, Option, None, Some, Ok, Err}
+use Rattle.std.proofs.Common.{◌≡◌, ◌≤◌, ℕ, ◌+◌, ◌-◌, true, List, [], ◌∷◌, ◌++◌, length, map, take, append-nil, append_assoc, refl, sym, ap, subst, ◌∙◌, arith, Option, None, Some, Ok, Err}
 use Rattle.std.specs.List.{list_all}
 use Rattle.std.proofs.lemmas.List.Folds.{list_all-append}
 use Rattle.rx_h2conn.specs.declared.stream.Stream.{Stream}
 use Rattle.rx_h2conn.specs.Session.{Session, Reading, Event}
+use Rattle.rx_h2conn.specs.Credit.{connection_due}
 use Rattle.rx_h2conn.specs.Output.{output, emptied, told}
 use Rattle.rx_h2conn.specs.declared.fault.ConnFault.{ConnFault}
 use Rattle.rx_h2conn.specs.declared.fault.ConnFault.TheVariants.{Protocol, GoneAway, StreamsSpent, NoMemory}
@@ -11,6 +12,8 @@ use Rattle.rx_h2conn.specs.Steps.{FeedsAt, fed, first, after_event}
 use Rattle.rx_h2conn.specs.History.{Call, Feeds, Hands, Takes, after, run, all_given, given}
 use Rattle.rx_h2conn.specs.Granted.{AllSendHeld}
 use Rattle.rx_h2conn.specs.Heard.{all_fed, fed_by, all_handed, handed_by, as_list}
+use Rattle.rx_h2conn.proofs.ConnLemmas.{connection_told}
+use Rattle.rx_h2conn.proofs.DueLemmas.{told_twice}
 use Rattle.rx_h2conn.proofs.RestoreLemmas.{run_append}
 use Rattle.rx_world.specs.Links.{Wire, Goes}
 use Rattle.rx_grpc.specs.Moves.{IsDrained, IsPaced, Moves, Exchange, carried, is_quiet}
@@ -75,14 +78,16 @@ moves_handed old new is = record { calls = Hands ∷ []; run_is = sym is; given_
 -- once the output was taken, taking it again changes nothing
 pub told_again : (ts : List Stream) → map told (map told ts) ≡ map told ts
 told_again [] = refl
-told_again (t ∷ ts) =
-    let same : t.receive + t.owed + 0 ≡ t.receive + t.owed = omega arith in
-    ap (λ (n : ℕ). record t { receive = n; owed = 0 } ∷ map told (map told ts)) same ∙ ap (λ (x : List Stream). told t ∷ x) (told_again ts)
+told_again (t ∷ ts) = ap (λ (x : Stream). x ∷ map told (map told ts)) (told_twice t) ∙ ap (λ (x : List Stream). told t ∷ x) (told_again ts)
 
 pub emptied_again : (s : Session) → emptied (emptied s) ≡ emptied s
 emptied_again s =
-    let same : s.receive + s.owed + 0 ≡ s.receive + s.owed = omega arith in
-    ap (λ (n : ℕ). record (emptied s) { receive = n; streams = map told (map told s.streams) }) same
+    let none = connection_told s in
+    let due = connection_due (emptied s) in
+    let same : (emptied s).receive + due ≡ (emptied s).receive = omega (arith, none) in
+    let left : (emptied s).owed - due ≡ (emptied s).owed = omega (arith, none) in
+    ap (λ (n : ℕ). record (emptied s) { receive = n; owed = (emptied s).owed - due; streams = map told (map told s.streams) }) same
+    ∙ ap (λ (n : ℕ). record (emptied s) { owed = n; streams = map told (map told s.streams) }) left
     ∙ ap (λ (x : List Stream). record (emptied s) { streams = x }) (told_again s.streams)
 
 pub drained_flushed : (old new : Session) → new ≡ emptied old → old.events ≡ [] → IsDrained new

@@ -10,6 +10,21 @@ field name value = record { name = name; value = value }
 abbrev pub tool_details : List ℕ
 tool_details = codes "Cg4KB3JlcHJveHkSAzAuMQ"
 
+-- who calls, a name and its version (RFC 9110 10.1.5, "User-Agent")
+abbrev pub user_agent : List ℕ
+user_agent = codes "reproxy/0.1"
+
+-- the headers but those that name the tool
+abbrev pub call_fields : List ℕ → List ℕ → List Field
+call_fields path authority =
+    field (codes ":method") (codes "POST")
+    ∷ field (codes ":scheme") (codes "http")
+    ∷ field (codes ":path") path
+    ∷ field (codes ":authority") authority
+    ∷ field (codes "te") (codes "trailers")
+    ∷ field (codes "content-type") (codes "application/grpc")
+    ∷ []
+
 abbrev pub request_fields : List ℕ → List ℕ → List Field
 request_fields path authority =
     field (codes ":method") (codes "POST")
@@ -19,6 +34,7 @@ request_fields path authority =
     ∷ field (codes "te") (codes "trailers")
     ∷ field (codes "content-type") (codes "application/grpc")
     ∷ field (codes "build.bazel.remote.execution.v2.requestmetadata-bin") tool_details
+    ∷ field (codes "user-agent") user_agent
     ∷ []
 
 -- what is left to send of the message that is sent now, whether the request ends with it, and whether that end was sent

@@ -6,7 +6,7 @@ ghost use Rattle.rx_h2frame.specs.Write.{four};
 ghost use Rattle.rx_hpack.specs.Encoder.{IsWritable};
 ghost use Rattle.rx_hpack.specs.Header.{view, views};
 ghost use Rattle.rx_grpc.specs.Framing.{framed};
-ghost use Rattle.rx_grpc.specs.Request.{field, request_fields};
+ghost use Rattle.rx_grpc.specs.Request.{call_fields, field, request_fields};
 
 use rx_base::NoMemory;
 use rx_hpack::Header;
@@ -22,6 +22,9 @@ use std::alloc::Global;
 /// ```
 const TOOL_DETAILS: &[u8; 22] = b"Cg4KB3JlcHJveHkSAzAuMQ";
 
+/// Who calls, for the log of a server or of a proxy before it (RFC 9110 10.1.5).
+const USER_AGENT: &[u8; 11] = b"reproxy/0.1";
+
 fn header(alloc: Global, name: &[u8], value: &[u8]) -> Result<Header, NoMemory>
     ensures { IfOk result (λ header. view header ≡ field name.now value.now) }
 {
@@ -29,6 +32,24 @@ fn header(alloc: Global, name: &[u8], value: &[u8]) -> Result<Header, NoMemory>
         name: Vec::from_slice(alloc, name)?,
         value: Vec::from_slice(alloc, value)?,
     })
+}
+
+/// The headers of a request but those that name the tool.
+fn call_headers(alloc: Global, path: &[u8], authority: &[u8]) -> Result<Vec<Header>, NoMemory>
+    requires path { length path.now < 2 ^ 32 }
+    requires authority { length authority.now < 2 ^ 32 }
+    ensures fields { IfOk result (λ list.
+        views list.items ≡ call_fields path.now authority.now) }
+    ensures writable { IfOk result (λ list. All IsWritable list.items) }
+{
+    let mut list = Vec::new(alloc);
+    list.push(header(alloc, b":method", b"POST")?)?;
+    list.push(header(alloc, b":scheme", b"http")?)?;
+    list.push(header(alloc, b":path", path)?)?;
+    list.push(header(alloc, b":authority", authority)?)?;
+    list.push(header(alloc, b"te", b"trailers")?)?;
+    list.push(header(alloc, b"content-type", b"application/grpc")?)?;
+    Ok(list)
 }
 
 /// The header list of a request.
@@ -43,18 +64,13 @@ pub fn request_headers(
         views list.items ≡ request_fields path.now authority.now) }
     ensures writable { IfOk result (λ list. All IsWritable list.items) }
 {
-    let mut list = Vec::new(alloc);
-    list.push(header(alloc, b":method", b"POST")?)?;
-    list.push(header(alloc, b":scheme", b"http")?)?;
-    list.push(header(alloc, b":path", path)?)?;
-    list.push(header(alloc, b":authority", authority)?)?;
-    list.push(header(alloc, b"te", b"trailers")?)?;
-    list.push(header(alloc, b"content-type", b"application/grpc")?)?;
+    let mut list = call_headers(alloc, path, authority)?;
     list.push(header(
         alloc,
         b"build.bazel.remote.execution.v2.requestmetadata-bin",
         TOOL_DETAILS,
     )?)?;
+    list.push(header(alloc, b"user-agent", USER_AGENT)?)?;
     Ok(list)
 }
 

@@ -16,6 +16,7 @@ use Rattle.rx_h2conn.specs.Ping.{ping_ack}
 use Rattle.rx_h2conn.specs.Settings.{settings_ack}
 use Rattle.rx_h2conn.specs.Steps.{took, more, byte}
 use Rattle.rx_h2conn.specs.Emitted.{has_fault, ack_outs, took_outs, judged_outs, settled_outs, outs_unless, byte_outs, fed_outs}
+use Rattle.rx_h2conn.specs.Credit.{connection_due, stream_due}
 use Rattle.rx_h2conn.specs.Output.{frames_of, update_frame, credit_frames, stream_credits, all_credits}
 use Rattle.rx_h2conn.proofs.ListLemmas.{either}
 use Rattle.rx_h2conn.proofs.FrameLemmas.{frames_of-long, frames_of-short, front_frame, last_frame}
@@ -75,10 +76,10 @@ none_credit p id n h = either (λ (os : List Out). filter p os ≡ []) (nat_eq n
 
 pub none_credits : (p : Out → Bool) (id : ℕ) (ts : List Stream) → IsOfStreams p → filter p (stream_credits id ts) ≡ []
 none_credits p id [] h = refl
-none_credits p id (t ∷ ts) h = filter-append p (credit_frames id t.owed) (stream_credits (id + 2) ts) ∙ two_empty _ _ (none_credit p id t.owed h) (none_credits p (id + 2) ts h)
+none_credits p id (t ∷ ts) h = filter-append p (credit_frames id (stream_due t)) (stream_credits (id + 2) ts) ∙ two_empty _ _ (none_credit p id (stream_due t) h) (none_credits p (id + 2) ts h)
 
 pub none_due : (p : Out → Bool) (s : Session) → IsOfStreams p → filter p (all_credits s) ≡ []
-none_due p s h = filter-append p (credit_frames 0 s.owed) (stream_credits 1 s.streams) ∙ two_empty _ _ (none_credit p 0 s.owed h) (none_credits p 1 s.streams h)
+none_due p s h = filter-append p (credit_frames 0 (connection_due s)) (stream_credits 1 s.streams) ∙ two_empty _ _ (none_credit p 0 (connection_due s) h) (none_credits p 1 s.streams h)
 
 -- frames of bytes, all or none
 pub chosen_one : (p : Out → Bool) (all : Bool) (o : Out) (os rest : List Out) → p o ≡ all → filter p os ≡ cond all rest [] → filter p (o ∷ os) ≡ cond all (o ∷ rest) []

@@ -1,5 +1,5 @@
 -- The connection after the client's calls.
-use Rattle.std.proofs.Common.{◌≡◌, ℕ, ◌+◌, ◌/◌, ◌^◌, ◌<◌, ◌≤◌, zero, suc, Bool, true, false, ◌||◌, List, [], ◌∷◌, ◌++◌, length, get_or, set, map, refl, sym, subst, ◌∙◌, nat_lt, arith, length-append, Option, None, Some, Result, Ok, Err, OnOk, OnErr}
+use Rattle.std.proofs.Common.{◌≡◌, ℕ, ◌+◌, ◌-◌, ◌/◌, ◌^◌, ◌<◌, ◌≤◌, zero, suc, Bool, true, false, cond, ◌||◌, List, [], ◌∷◌, ◌++◌, length, get_or, set, map, refl, sym, subst, ◌∙◌, nat_eq, nat_lt, arith, length-append, Option, None, Some, Result, Ok, Err, OnOk, OnErr}
 use Rattle.std.proofs.lemmas.Bool.{ltb-true}
 use Rattle.rx_hpack.specs.Header.{Field}
 use Rattle.rx_h2conn.specs.declared.fault.ConnFault.{ConnFault}
@@ -8,9 +8,12 @@ use Rattle.rx_h2conn.specs.Session.{Session}
 use Rattle.rx_h2conn.specs.Streams.{fresh, is_open, stream_at}
 use Rattle.rx_h2conn.specs.Window.{spent}
 use Rattle.rx_h2conn.specs.Sound.{IsSoundBy, IsSound, used}
+use Rattle.rx_h2conn.specs.Credit.{due, connection_due, stream_due}
 use Rattle.rx_h2conn.specs.Output.{given_up, AnswersAt, ends, charged, sent, reset, told, emptied}
 use Rattle.rx_h2conn.specs.Open.{refused_by, refusal, opened}
 use Rattle.rx_h2conn.specs.Reader.{IsConn}
+use Rattle.rx_h2conn.proofs.DueLemmas.{due_left}
+use Rattle.rx_h2conn.proofs.ListLemmas.{either}
 use Rattle.rx_h2conn.proofs.SoundLemmas.{open_at, sound_left, sound_set, sound_less}
 use Rattle.rx_h2conn.proofs.PieceLemmas.{within}
 
@@ -79,19 +82,42 @@ conn_answered None old want new value (Ok v) rest n d f g e h =
     subst (λ (s : Session). IsConn (record { state = s; rest = rest }) n) (sym d.0) conn
 conn_answered None old want new value (Err x) rest n d f g e h = subst (λ (s : Session). IsConn (record { state = s; rest = rest }) n) (sym d.0) h
 
+-- no more is told than is owed
+pub due_few : (n : ℕ) → due n ≤ n
+due_few n = either (λ x. x ≤ n) (nat_lt n 4194304) 0 n (λ _. omega arith) (λ _. omega arith)
+
+pub stream_due_few : (t : Stream) → stream_due t ≤ t.owed
+stream_due_few t = either (λ x. x ≤ t.owed) t.server_done 0 (due t.owed) (λ _. omega arith) (λ _. due_few t.owed)
+
+pub connection_due_few : (s : Session) → connection_due s ≤ s.owed
+connection_due_few s = either (λ x. x ≤ s.owed) (nat_eq (length s.streams) 0) 0 (due s.owed) (λ _. omega arith) (λ _. due_few s.owed)
+
+-- what is told and what is owed still
+pub told_same : (t : Stream) → (told t).receive + (told t).owed ≡ t.receive + t.owed
+told_same t = omega (arith, stream_due_few t)
+
 -- the output was taken
 pub get_or_told : (none : Stream) (xs : List Stream) (k : ℕ) → (get_or (map told xs) k none).receive + (get_or (map told xs) k none).owed ≡ (get_or xs k none).receive + (get_or xs k none).owed
 get_or_told none [] k = refl
-get_or_told none (x ∷ xs) zero = omega arith
+get_or_told none (x ∷ xs) zero = told_same x
 get_or_told none (x ∷ xs) (suc k) = get_or_told none xs k
 
 pub length_told : (xs : List Stream) → length (map told xs) ≡ length xs
 length_told [] = refl
 length_told (x ∷ xs) = omega (arith, length_told xs)
 
+-- no credit is due once the output was taken
+pub connection_told : (s : Session) → connection_due (emptied s) ≡ 0
+connection_told s =
+    let same = length_told s.streams in
+    rw same (elim (nat_eq (length s.streams) 0) as (λ b. cond b 0 (due (s.owed - cond b 0 (due s.owed))) ≡ 0) [
+      | true ↦ refl
+      | false ↦ due_left s.owed
+    ])
+
 pub sound_emptied : (none : Stream) (s : Session) → IsSoundBy none s → IsSoundBy none (emptied s)
 sound_emptied none s h = record {
-  connection = omega (arith, h.connection);
+  connection = omega (arith, h.connection, connection_due_few s);
   stream = λ k. omega (arith, h.stream k, get_or_told none s.streams k);
   count = omega (arith, h.count, length_told s.streams);
 }

@@ -2,6 +2,7 @@
 use Rattle.std.proofs.Common.{◌≡◌, ℕ, ◌+◌, ◌-◌, ◌*◌, ◌/◌, ◌<◌, ◌≤◌, ◌⊎◌, inl, inr, true, false, not, ◌&&◌, List, [], ◌∷◌, ◌++◌, length, drop, get_or, refl, sym, ap, subst, ◌∙◌, nat_lt, arith, length-append, length-drop, None, Some, Result, Ok, Err}
 use Rattle.std.proofs.Math.Bool.{and-false}
 use Rattle.std.proofs.lemmas.Bool.{ltb-true, ltb-false, lt-ltb, le-ltb}
+use Rattle.std.proofs.lemmas.List.{get_or_past}
 use Rattle.rx_h2frame.specs.declared.frame.FrameFault.{FrameFault}
 use Rattle.rx_h2frame.specs.Head.{header_of}
 use Rattle.rx_h2frame.specs.Frame.{Whole, Seen, Complete, Lacks, next}
@@ -105,9 +106,17 @@ all_fit (b ∷ piece) r h =
     let one : HasRoom r (length piece + 1) = subst (λ (n : ℕ). HasRoom r n) (omega arith) h in
     ((λ f none is. fits_here r (length piece) b f one is), all_fit piece (byte r b) (room_byte r (length piece) b one))
 
+-- a stream that isn't there has the window of a new one
+pub stream_room : (r : Reading) → IsRestored r → (k : ℕ) → is_dropped (get_or r.state.streams k fresh) ≡ false → 1048576 ≤ (get_or r.state.streams k fresh).receive
+stream_room r h k kept =
+    elim (nat_lt k (length r.state.streams)) as (λ b. nat_lt k (length r.state.streams) ≡ b → 1048576 ≤ (get_or r.state.streams k fresh).receive) [
+      | true ↦ λ is. omega (arith, h.streams k (ltb-true _ _ is) kept)
+      | false ↦ λ is. rw (get_or_past r.state.streams k fresh (ltb-false _ _ is)) (omega arith)
+    ] refl
+
 pub restored_fits : (r : Reading) (piece : List ℕ) → IsRestored r → length piece ≤ 8192 → AllFit r piece
 restored_fits r piece h few = all_fit piece r (record {
-  receive = omega (arith, h.receive, h.rest, few);
-  stream = λ k kept. omega (arith, h.streams k kept, h.rest, few);
+  receive = omega (arith, h.first, h.rest, few);
+  stream = λ k kept. omega (arith, stream_room r h k kept, h.rest, few);
   acks = inl (h.acks, few);
 })

@@ -100,9 +100,9 @@ unfolding owe
 full_handed [] s is f = f
 full_handed (q ∷ qs) s is f =
     let i = q.stream / 2 in
-    let all : 65535 ≤ s.receive + s.owed + credits (q ∷ qs) = subst (λ (x : List Queued). 65535 ≤ s.receive + s.owed + credits x) is f.connection in
-    let each : (k : ℕ) → is_dropped (get_or s.streams k fresh) ≡ false → 1048576 ≤ (get_or s.streams k fresh).receive + (get_or s.streams k fresh).owed + waiting k (q ∷ qs) =
-    λ k kept. subst (λ (x : List Queued). 1048576 ≤ (get_or s.streams k fresh).receive + (get_or s.streams k fresh).owed + waiting k x) is (f.stream k kept) in
+    let all : 16777216 ≤ s.receive + s.owed + credits (q ∷ qs) = subst (λ (x : List Queued). 16777216 ≤ s.receive + s.owed + credits x) is f.connection in
+    let each : (k : ℕ) → is_dropped (get_or s.streams k fresh) ≡ false → 16777216 ≤ (get_or s.streams k fresh).receive + (get_or s.streams k fresh).owed + waiting k (q ∷ qs) =
+    λ k kept. subst (λ (x : List Queued). 16777216 ≤ (get_or s.streams k fresh).receive + (get_or s.streams k fresh).owed + waiting k x) is (f.stream k kept) in
     let owned : AllOwned (length s.streams) (q ∷ qs) = subst (AllOwned (length s.streams)) is f.owners in
     let t : Stream = owing (stream_at s q.stream) q.credit in
     either IsFull (is_open (record s { events = qs }) q.stream && not (stream_at s q.stream).client_reset) _ _
@@ -110,13 +110,15 @@ full_handed (q ∷ qs) s is f =
     let small = open_at s q.stream (and_parts _ _ b).0 in
     record {
       connection = omega (arith, all);
-      stream = each_set fresh (λ k x. is_dropped x ≡ false → 1048576 ≤ x.receive + x.owed + waiting k qs) s.streams i t small
+      blank = λ none. f.blank (omega (arith, none, length-set s.streams i t));
+      stream = each_set fresh (λ k x. is_dropped x ≡ false → 16777216 ≤ x.receive + x.owed + waiting k qs) s.streams i t small
           (λ k other kept. let was = each k kept in grind (arith, nat_tests))
           (λ kept. let was = each i kept in grind (arith, nat_tests));
       owners = owned_same (length s.streams) _ qs (length-set s.streams i t) owned.1;
     })
     (λ b. record {
       connection = omega (arith, all);
+      blank = f.blank;
       stream = λ k kept. let was = each k kept in let less = not_owed s q k kept owned.0 b in omega (arith, was, less);
       owners = owned.1;
     })

@@ -102,7 +102,7 @@ pub within : (s : Session) → IsSound s → IsWithin s
 within s h = record {
   connection = h.connection;
   stream = λ k.
-      elim (nat_lt k (length s.streams)) as (λ b. nat_lt k (length s.streams) ≡ b → (get_or s.streams k used).receive + (get_or s.streams k used).owed + waiting k s.events ≤ 1048576) [
+      elim (nat_lt k (length s.streams)) as (λ b. nat_lt k (length s.streams) ≡ b → (get_or s.streams k used).receive + (get_or s.streams k used).owed + waiting k s.events ≤ 16777216) [
         | true ↦ λ is. rw (get_or_within used fresh s.streams k (ltb-true _ _ is)) (h.stream k)
         | false ↦ λ is. rw (get_or_past s.streams k used (ltb-false _ _ is)) (omega (arith, h.connection, waiting_credits k s.events))
       ] refl;

@@ -1,6 +1,7 @@
--- A run without a fault keeps its credit, and has told all of it once the events and the output were taken.
-use Rattle.std.proofs.Common.{◌≡◌, ℕ, ◌+◌, ◌/◌, ◌%◌, ◌<◌, inl, inr, zero, suc, Bool, true, false, List, [], ◌∷◌, ◌++◌, length, get_or, set, map, append-nil, length-append, length-set, refl, sym, ap, subst, ◌∙◌, nat_eq, nat_lt, arith, Option, None, Some}
-use Rattle.std.proofs.lemmas.Bool.{ltb-true, lt-ltb, and_parts}
+-- A run without a fault keeps its credit, and has told all of it but less than a quarter of a window once the events and the
+-- output were taken.
+use Rattle.std.proofs.Common.{◌≡◌, ℕ, ◌+◌, ◌/◌, ◌%◌, ◌<◌, ◌≤◌, inl, inr, zero, suc, Bool, true, false, ◌||◌, List, [], ◌∷◌, ◌++◌, length, get_or, set, map, append-nil, length-append, length-set, refl, sym, ap, subst, ◌∙◌, nat_eq, nat_lt, arith, Option, None, Some}
+use Rattle.std.proofs.lemmas.Bool.{eqb-true, ltb-true, ltb-false, lt-ltb, and_parts}
 use Rattle.rx_hpack.specs.Header.{Field}
 use Rattle.rx_h2conn.specs.declared.fault.ConnFault.{ConnFault}
 use Rattle.rx_h2conn.specs.declared.stream.Stream.{Stream}
@@ -9,11 +10,12 @@ use Rattle.rx_h2conn.specs.Streams.{fresh, stream_at, is_dropped}
 use Rattle.rx_h2conn.specs.Sound.{credits, waiting}
 use Rattle.rx_h2conn.specs.Conn.{started}
 use Rattle.rx_h2conn.specs.Open.{refusal, opened}
+use Rattle.rx_h2conn.specs.Credit.{due, connection_due}
 use Rattle.rx_h2conn.specs.Output.{given_up, sent, reset, told, emptied}
 use Rattle.rx_h2conn.specs.Steps.{unless_failed, broken}
 use Rattle.rx_h2conn.specs.History.{Call, Feeds, Starves, Hands, Takes, Opens, Sends, Resets, unless, after, run}
-use Rattle.rx_h2conn.proofs.ConnLemmas.{get_or_told, get_or_pushed, length_told}
-use Rattle.rx_h2conn.proofs.ListLemmas.{each_beside}
+use Rattle.rx_h2conn.proofs.ConnLemmas.{connection_due_few, get_or_told, get_or_pushed, length_told}
+use Rattle.rx_h2conn.proofs.ListLemmas.{each_beside, either}
 use Rattle.rx_h2conn.specs.Paced.{IsRestored, Restores, FitsNext}
 use Rattle.rx_h2conn.proofs.UsesLemmas.{AllOwned, IsOwned, IsFull, full_by, uses_set}
 use Rattle.rx_h2conn.proofs.FitLemmas.{restored_fits}
@@ -25,14 +27,29 @@ dropped_told [] k = refl
 dropped_told (x ∷ xs) zero = refl
 dropped_told (x ∷ xs) (suc k) = dropped_told xs k
 
-pub told_receive : (xs : List Stream) (k : ℕ) → (get_or (map told xs) k fresh).receive ≡ (get_or xs k fresh).receive + (get_or xs k fresh).owed
-told_receive [] k = omega arith
-told_receive (x ∷ xs) zero = refl
-told_receive (x ∷ xs) (suc k) = told_receive xs k
+pub dropped_parts : (a b : Bool) → (a || b) ≡ false → b ≡ false
+dropped_parts true b h = absurd cc
+dropped_parts false b h = h
+
+-- credit that isn't told is less than a quarter of a window
+pub due_most : (n : ℕ) → n < due n + 4194304
+due_most n = either (λ x. n < x + 4194304) (nat_lt n 4194304) 0 n (λ is. let few : n < 4194304 = ltb-true _ _ is in omega (arith, few)) (λ _. omega arith)
+
+pub told_receive : (t : Stream) → is_dropped t ≡ false → t.receive + t.owed < (told t).receive + 4194304
+told_receive t kept =
+    let going : t.server_done ≡ false = dropped_parts t.client_reset t.server_done kept in
+    let most = due_most t.owed in
+    rw going (omega (arith, most))
+
+pub all_told : (xs : List Stream) (k : ℕ) → k < length xs → is_dropped (get_or xs k fresh) ≡ false → (get_or xs k fresh).receive + (get_or xs k fresh).owed < (get_or (map told xs) k fresh).receive + 4194304
+all_told [] k small kept = absurd (omega (arith, small))
+all_told (x ∷ xs) zero small kept = told_receive x kept
+all_told (x ∷ xs) (suc k) small kept = all_told xs k (omega (arith, small)) kept
 
 pub full_emptied : (s : Session) → IsFull s → IsFull (emptied s)
 full_emptied s f = record {
-  connection = omega (arith, f.connection);
+  connection = omega (arith, f.connection, connection_due_few s);
+  blank = λ none. let same = length_told s.streams in omega (arith, f.blank (omega (arith, same, none)));
   stream = λ k kept. let was = f.stream k (sym (dropped_told s.streams k) ∙ kept) in omega (arith, was, get_or_told fresh s.streams k);
   owners = let same = length_told s.streams in rw same (f.owners);
 }
@@ -63,6 +80,7 @@ full_opened s fields last f =
     let count : length (s.streams ++ t ∷ []) ≡ length s.streams + 1 = length-append s.streams (t ∷ []) in
     record {
       connection = f.connection;
+      blank = λ none. absurd (omega (arith, count, none));
       stream = λ k kept. let was = f.stream k (sym (dropped_pushed s.streams k t refl) ∙ kept) in omega (arith, was, get_or_pushed fresh s.streams t refl k);
       owners = rw count (owned_more (length s.streams) s.events f.owners);
     }
@@ -80,6 +98,7 @@ full_given_up s id code f =
     each_beside fresh (λ _ x y. is_dropped y ≡ false → y ≡ x) (λ _ _ _. refl) s.streams (id / 2) t (λ kept. absurd cc) in
     record {
       connection = f.connection;
+      blank = λ none. f.blank (omega (arith, none, length-set s.streams (id / 2) t));
       stream = λ k kept. let at = same k kept in rw at (f.stream k (ap is_dropped (sym at) ∙ kept));
       owners = rw (length-set s.streams (id / 2) t) f.owners;
     }
@@ -107,7 +126,7 @@ whole_run (c ∷ cs) r none w = whole_run cs (after r c) none (whole_after c r (
 
 pub whole_started : IsWhole started
 whole_started = record {
-  full = record { connection = omega arith; stream = λ k kept. omega arith; owners = tt };
+  full = record { connection = omega arith; blank = λ none. omega arith; stream = λ k kept. omega arith; owners = tt };
   rest = omega arith;
 }
 
@@ -115,16 +134,33 @@ pub run_append : (r : Reading) (a b : List Call) → run r (a ++ b) ≡ run (run
 run_append r [] b = refl
 run_append r (c ∷ a) b = run_append (after r c) a b
 
+-- the connection's credit, where a stream was opened
+pub connection_most : (s : Session) → 0 < length s.streams → s.owed < connection_due s + 4194304
+connection_most s some = either (λ x. s.owed < x + 4194304) (nat_eq (length s.streams) 0) 0 (due s.owed) (λ is. let none : length s.streams ≡ 0 = eqb-true _ _ is in absurd (omega (arith, some, none))) (λ _. due_most s.owed)
+
+-- before one was opened, and after
+pub room_first : (s : Session) → IsFull s → credits s.events ≡ 0 → 65535 ≤ s.receive + connection_due s
+room_first s f none =
+    elim (nat_lt 0 (length s.streams)) as (λ b. nat_lt 0 (length s.streams) ≡ b → 65535 ≤ s.receive + connection_due s) [
+      | true ↦ λ is. let some : 0 < length s.streams = ltb-true _ _ is in omega (arith, f.connection, none, connection_most s some)
+      | false ↦ λ is. let few : length s.streams ≤ 0 = ltb-false _ _ is in omega (arith, f.blank (omega (arith, few)))
+    ] refl
+
 pub restored : (r : Reading) → IsWhole r → r.state.events ≡ [] → IsRestored (after r Takes)
 restored r w empty =
     let f = w.full in
     let none : credits r.state.events ≡ 0 = ap credits empty in
     record {
-      receive = omega (arith, f.connection, none);
-      streams = λ k kept.
-          let was = f.stream k (sym (dropped_told r.state.streams k) ∙ kept) in
+      first = room_first r.state f none;
+      receive = λ some.
+          let same = length_told r.state.streams in
+          omega (arith, f.connection, none, connection_most r.state (omega (arith, some, same)));
+      streams = λ k small kept.
+          let same = length_told r.state.streams in
+          let old = sym (dropped_told r.state.streams k) ∙ kept in
+          let was = f.stream k old in
           let nothing : waiting k r.state.events ≡ 0 = ap (waiting k) empty in
-          omega (arith, was, nothing, told_receive r.state.streams k);
+          omega (arith, was, nothing, all_told r.state.streams k (omega (arith, small, same)) old);
       acks = refl;
       rest = w.rest;
     }

@@ -68,7 +68,7 @@ sound_less none s i t small less h =
     let old = h.stream i in
     record {
       connection = h.connection;
-      stream = each_set none (λ k x. x.receive + x.owed + waiting k s.events ≤ 1048576) s.streams i t small (λ k other. h.stream k) (omega (arith, less, rw e at old));
+      stream = each_set none (λ k x. x.receive + x.owed + waiting k s.events ≤ 16777216) s.streams i t small (λ k other. h.stream k) (omega (arith, less, rw e at old));
       count = rw (length-set s.streams i t) h.count;
     }
 
@@ -166,12 +166,12 @@ sound_taken s f last opened room stream_room h =
     let ps = data_events f.stream f.body (carried f) last in
     let t : Stream = heard (stream_at s f.stream) f.size (f.size - carried f) last in
     let few = carried_few f in
-    let at_i : t.receive + t.owed + waiting i (s.events ++ ps) ≤ 1048576 = omega (arith, few, stream_room, h.stream i, waiting-append i s.events ps, waiting_data i f.stream f.body (carried f) last) in
-    let others : (k : ℕ) → (k ≡ i → ⊥) → (get_or s.streams k fresh).receive + (get_or s.streams k fresh).owed + waiting k (s.events ++ ps) ≤ 1048576 =
+    let at_i : t.receive + t.owed + waiting i (s.events ++ ps) ≤ 16777216 = omega (arith, few, stream_room, h.stream i, waiting-append i s.events ps, waiting_data i f.stream f.body (carried f) last) in
+    let others : (k : ℕ) → (k ≡ i → ⊥) → (get_or s.streams k fresh).receive + (get_or s.streams k fresh).owed + waiting k (s.events ++ ps) ≤ 16777216 =
     λ k other. omega (arith, h.stream k, waiting-append k s.events ps, waiting_other k f.stream f.body (carried f) last other) in
     record {
       connection = omega (arith, few, room, h.connection, credits-append s.events ps, credits_data f.stream f.body (carried f) last);
-      stream = each_set fresh (λ k x. x.receive + x.owed + waiting k (s.events ++ ps) ≤ 1048576) s.streams i t (open_at s f.stream opened) others at_i;
+      stream = each_set fresh (λ k x. x.receive + x.owed + waiting k (s.events ++ ps) ≤ 16777216) s.streams i t (open_at s f.stream opened) others at_i;
       count = rw (length-set s.streams i t) h.count;
     }
 
@@ -269,8 +269,8 @@ sound_took s f h = sound_took_by f.kind s f h
 pub sound_owed : (none : Stream) (s : Session) (q : Queued) (qs : List Queued) → s.events ≡ q ∷ qs → IsSoundBy none s → IsSoundBy none (owe (record s { events = qs }) q.stream q.credit)
 unfolding owe
 sound_owed none s q qs e h =
-    let all : s.receive + s.owed + credits (q ∷ qs) ≤ 65535 = rw e at h.connection in
-    let each : (k : ℕ) → (get_or s.streams k none).receive + (get_or s.streams k none).owed + waiting k (q ∷ qs) ≤ 1048576 = rw e at h.stream in
+    let all : s.receive + s.owed + credits (q ∷ qs) ≤ 16777216 = rw e at h.connection in
+    let each : (k : ℕ) → (get_or s.streams k none).receive + (get_or s.streams k none).owed + waiting k (q ∷ qs) ≤ 16777216 = rw e at h.stream in
     let i = q.stream / 2 in
     let t : Stream = owing (stream_at s q.stream) q.credit in
     either (IsSoundBy none) (is_open (record s { events = qs }) q.stream && not (stream_at s q.stream).client_reset) _ _
@@ -278,11 +278,11 @@ sound_owed none s q qs e h =
     let small = open_at s q.stream (and_parts _ _ b).0 in
     let same = get_or_within none fresh s.streams i small in
     let there = each i in
-    let at_i : t.receive + t.owed + waiting i qs ≤ 1048576 = grind (arith, nat_tests, rw same at there) in
-    let others : (k : ℕ) → (k ≡ i → ⊥) → (get_or s.streams k none).receive + (get_or s.streams k none).owed + waiting k qs ≤ 1048576 = λ k other. omega (arith, each k) in
+    let at_i : t.receive + t.owed + waiting i qs ≤ 16777216 = grind (arith, nat_tests, rw same at there) in
+    let others : (k : ℕ) → (k ≡ i → ⊥) → (get_or s.streams k none).receive + (get_or s.streams k none).owed + waiting k qs ≤ 16777216 = λ k other. omega (arith, each k) in
     record {
       connection = omega (arith, all);
-      stream = each_set none (λ k x. x.receive + x.owed + waiting k qs ≤ 1048576) s.streams i t small others at_i;
+      stream = each_set none (λ k x. x.receive + x.owed + waiting k qs ≤ 16777216) s.streams i t small others at_i;
       count = rw (length-set s.streams i t) h.count;
     })
     (λ _. record { connection = omega (arith, all); stream = λ k. omega (arith, each k); count = h.count })

@@ -22,6 +22,7 @@ use Rattle.rx_h2conn.specs.Sound.{waiting}
 use Rattle.rx_h2conn.specs.Ends.{reset_events, on_reset, on_go_away}
 use Rattle.rx_h2conn.specs.Steps.{took_by}
 use Rattle.rx_h2conn.proofs.ListLemmas.{either}
+use Rattle.rx_h2conn.proofs.SoundLemmas.{open_at}
 use Rattle.rx_h2conn.proofs.UsesLemmas.{AllOwned, UsesAt, Uses, at_none, uses_told, uses_none, uses_failed, uses_set, or_both, uses_taken}
 
 pub uses_passed : (n : ℕ) (s : Session) → Uses n s (passed s)
@@ -42,6 +43,7 @@ uses_data s f =
       owners = tt;
       count = refl;
       receive = omega arith;
+      blank = λ none. let small = open_at s f.stream (not-false _ (or_parts _ _ fine).1) in absurd (omega (arith, small, none));
       credit = omega arith;
       stream = λ k. at_none n 0 (get_or s.streams k fresh);
       acks = omega arith;
@@ -103,6 +105,7 @@ uses_from n s r x receive owed streams events acks u = record {
   owners = subst (λ (ts : List Stream). AllOwned (length ts) u.told) streams u.owners;
   count = u.count ∙ ap length streams;
   receive = omega (arith, receive, u.receive);
+  blank = λ none. let same = ap length streams in omega (arith, receive, u.blank (same ∙ none));
   credit = omega (arith, receive, owed, u.credit);
   stream = subst (λ (ts : List Stream). (k : ℕ) → UsesAt n (waiting k u.told) (get_or ts k fresh) (get_or x.streams k fresh)) streams u.stream;
   acks = omega (arith, acks, u.acks);

@@ -9,7 +9,7 @@ use Rattle.rx_h2conn.specs.Streams.{failed, fresh, is_open, stream_at, is_droppe
 use Rattle.rx_h2conn.specs.Data.{carried, heard, taken_data}
 use Rattle.rx_h2conn.specs.Sound.{credits, waiting}
 use Rattle.rx_h2conn.proofs.ListLemmas.{each_beside}
-use Rattle.rx_h2conn.proofs.SoundLemmas.{credits-append, waiting-append, carried_few}
+use Rattle.rx_h2conn.proofs.SoundLemmas.{credits-append, waiting-append, carried_few, open_at}
 
 -- the credit of an event is that of a stream that was opened
 abbrev pub IsOwned : ℕ → Queued → Type 0
@@ -21,8 +21,10 @@ AllOwned n (q ∷ qs) = IsOwned n q × AllOwned n qs
 
 -- Credit that was told, is owed or waits makes at least the windows that the client gave.
 pub record IsFull (s : Session) : Type 0 where
-  pub connection : 65535 ≤ s.receive + s.owed + credits s.events
-  pub stream : (k : ℕ) → is_dropped (get_or s.streams k fresh) ≡ false → 1048576 ≤ (get_or s.streams k fresh).receive + (get_or s.streams k fresh).owed + waiting k s.events
+  pub connection : 16777216 ≤ s.receive + s.owed + credits s.events
+  -- before a stream was opened the server sent nothing that counts
+  pub blank : length s.streams ≡ 0 → 65535 ≤ s.receive
+  pub stream : (k : ℕ) → is_dropped (get_or s.streams k fresh) ≡ false → 16777216 ≤ (get_or s.streams k fresh).receive + (get_or s.streams k fresh).owed + waiting k s.events
   pub owners : AllOwned (length s.streams) s.events
 
 -- A frame of n bytes took at most so many from a stream, whose credit is kept with what more waits.
@@ -38,6 +40,7 @@ pub record Uses (n : ℕ) (old new : Session) : Type 0 where
   pub owners : AllOwned (length old.streams) told
   pub count : length new.streams ≡ length old.streams
   pub receive : old.receive ≤ new.receive + n
+  pub blank : length old.streams ≡ 0 → old.receive ≤ new.receive
   pub credit : old.receive + old.owed ≤ new.receive + new.owed + credits told
   pub stream : (k : ℕ) → UsesAt n (waiting k told) (get_or old.streams k fresh) (get_or new.streams k fresh)
   pub acks : new.acks ≤ old.acks + 1
@@ -52,6 +55,7 @@ full_by n s x u f =
     let count = u.count in
     record {
       connection = let more = ap credits events ∙ credits-append s.events u.told in omega (arith, u.credit, f.connection, more);
+      blank = λ none. let was = sym count ∙ none in omega (arith, f.blank was, u.blank was);
       stream = λ k kept.
           let at = u.stream k in
           let was = f.stream k (at.dropped kept) in
@@ -72,6 +76,7 @@ uses_told n s x ps receive owed streams events owned acks = record {
   owners = owned;
   count = ap length streams;
   receive = omega (arith, receive);
+  blank = λ none. omega (arith, receive);
   credit = omega (arith, receive, owed);
   stream = λ k. rw streams (at_none n (waiting k ps) (get_or s.streams k fresh));
   acks = acks;
@@ -91,6 +96,7 @@ uses_set n s x i t ps receive owed streams at events owned acks = record {
   owners = owned;
   count = ap length streams ∙ length-set s.streams i t;
   receive = omega (arith, receive);
+  blank = λ none. omega (arith, receive);
   credit = omega (arith, receive, owed);
   stream = λ k. rw streams (each_beside fresh (λ j. UsesAt n (waiting j ps)) (λ j. at_none n (waiting j ps)) s.streams i t at k);
   acks = omega (arith, acks);
@@ -138,6 +144,7 @@ uses_taken s f last opened =
       owners = owned_data b (length s.streams) q opened;
       count = length-set s.streams i t;
       receive = omega arith;
+      blank = λ none. let small = open_at s f.stream opened in absurd (omega (arith, small, none));
       credit = omega (arith, few, all);
       stream = each_beside fresh (λ j. UsesAt f.size (waiting j ps)) (λ j. at_none f.size (waiting j ps)) s.streams i t at;
       acks = omega arith;

@@ -14,8 +14,9 @@ preface = 80 ∷ 82 ∷ 73 ∷ 32 ∷ 42 ∷ 32 ∷ 72 ∷ 84 ∷ 84 ∷ 80 ∷ 
 abbrev pub first_settings : Out
 first_settings = record { kind = Settings; flags = 0; stream = 0; body = 0 ∷ 2 ∷ 0 ∷ 0 ∷ 0 ∷ 0 ∷ 0 ∷ 4 ∷ 0 ∷ 16 ∷ 0 ∷ 0 ∷ 0 ∷ 6 ∷ 0 ∷ 1 ∷ 0 ∷ 0 ∷ [] }
 
+-- The server may send 65,535 bytes on the connection (6.9.2), and is owed what makes 16,777,216.
 abbrev pub started : Reading
 started = record {
-  state = record { fault = None; streams = []; send = 65535; initial = 65535; receive = 65535; owed = 0; acks = 0; gone = None; size_update = NotAsked; decoder = blank_decoder; sequence = None; events = []; queued = preface ++ out_bytes first_settings };
+  state = record { fault = None; streams = []; send = 65535; initial = 65535; receive = 65535; owed = 16711681; acks = 0; gone = None; size_update = NotAsked; decoder = blank_decoder; sequence = None; events = []; queued = preface ++ out_bytes first_settings };
   rest = [];
 }

@@ -3,6 +3,7 @@ pub mod Event
 pub mod Window
 pub mod Streams
 pub mod Data
+pub mod Credit
 pub mod Updates
 pub mod Headers
 pub mod Ping

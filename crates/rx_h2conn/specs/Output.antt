@@ -10,6 +10,7 @@ use Rattle.rx_h2conn.specs.declared.stream.Stream.{Stream}
 use Rattle.rx_h2conn.specs.Session.{Session}
 use Rattle.rx_h2conn.specs.Window.{room, spent}
 use Rattle.rx_h2conn.specs.Streams.{stream_at}
+use Rattle.rx_h2conn.specs.Credit.{connection_due, stream_due}
 use Rattle.rx_h2conn.specs.Emitted.{bytes_of}
 
 -- Bytes in frames of at most 16,384: the first of one kind and with these flags, the later ones of another, and the last
@@ -94,17 +95,17 @@ credit_frames id size = if size == 0 then [] else update_frame id size ∷ []
 
 abbrev pub stream_credits : ℕ → List Stream → List Out
 stream_credits id [] = []
-stream_credits id (t ∷ ts) = credit_frames id t.owed ++ stream_credits (id + 2) ts
+stream_credits id (t ∷ ts) = credit_frames id (stream_due t) ++ stream_credits (id + 2) ts
 
 abbrev pub all_credits : Session → List Out
-all_credits s = credit_frames 0 s.owed ++ stream_credits 1 s.streams
+all_credits s = credit_frames 0 (connection_due s) ++ stream_credits 1 s.streams
 
 abbrev pub told : Stream → Stream
-told t = record t { receive = t.receive + t.owed; owed = 0 }
+told t = record t { receive = t.receive + stream_due t; owed = t.owed - stream_due t }
 
 -- what `take_output` answers and leaves
 abbrev pub output : Session → List ℕ
 output s = s.queued ++ bytes_of (all_credits s)
 
 abbrev pub emptied : Session → Session
-emptied s = record s { receive = s.receive + s.owed; owed = 0; acks = 0; queued = []; streams = map told s.streams }
+emptied s = record s { receive = s.receive + connection_due s; owed = s.owed - connection_due s; acks = 0; queued = []; streams = map told s.streams }

@@ -31,7 +31,7 @@ pub record Session : Type 0 where
   pub send : ℕ  -- what may still be sent on the connection
   pub initial : ℕ  -- the window of a new stream, by the server's settings
   pub receive : ℕ  -- what the server may still send on the connection
-  pub owed : ℕ  -- credit that the next output gives
+  pub owed : ℕ  -- credit that wasn't told yet
   pub acks : ℕ  -- acknowledgements that are queued
   pub gone : Option ℕ  -- the last stream of the first GOAWAY
   pub size_update : SizeUpdate  -- whether the next header block that is sent begins with a size update

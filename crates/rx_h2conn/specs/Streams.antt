@@ -8,9 +8,9 @@ use Rattle.rx_h2conn.specs.Session.{Session, Block}
 abbrev pub is_open : Session → ℕ → Bool
 is_open s id = (id % 2 == 1) && nat_lt (id / 2) (length s.streams)
 
--- a stream as it is opened
+-- A stream as it is opened: the server may send 1,048,576 bytes, by the first settings, and is owed what makes 16,777,216.
 abbrev pub fresh : Stream
-fresh = record { send = record { ahead = 0; behind = 0 }; receive = 1048576; owed = 0; client_done = false; client_reset = false; server_done = false; server_reset = false }
+fresh = record { send = record { ahead = 0; behind = 0 }; receive = 1048576; owed = 15728640; client_done = false; client_reset = false; server_done = false; server_reset = false }
 
 abbrev pub stream_at : Session → ℕ → Stream
 stream_at s id = slice_index_or s.streams (id / 2) fresh

@@ -20,6 +20,7 @@ ghost use Rattle.rx_h2conn.specs.State.{UnlessStarved};
 ghost use Rattle.rx_h2conn.specs.Steps.{Feeds, first, after_event};
 ghost use Rattle.rx_h2conn.specs.Streams.{is_open, stream_at, IsHeld, KeepsHeld};
 
+use crate::credit::WINDOW;
 use crate::event::ConnEvent;
 use crate::fault::ConnFault;
 use crate::machine::Machine;
@@ -39,7 +40,7 @@ const PREFACE: &[u8; 24] = b"PRI * HTTP/2.0\r\n\r\nSM\r\n\r\n";
 /// (RFC 9113 6.5.2).
 const FIRST_SETTINGS: &[u8; 18] = b"\0\x02\0\0\0\0\0\x04\0\x10\0\0\0\x06\0\x01\0\0";
 
-/// The window of the connection, and of streams until the server says otherwise (RFC 9113 6.9.2).
+/// The windows of the connection at first, and of streams until the server says otherwise (RFC 9113 6.9.2).
 const FIRST_WINDOW: u32 = 65_535;
 
 /// The client's side of a connection.
@@ -92,7 +93,7 @@ fn start(alloc: Global) -> Result<Conn, AllocError>
         send: FIRST_WINDOW,
         initial: FIRST_WINDOW,
         receive: FIRST_WINDOW,
-        owed: 0,
+        owed: WINDOW - FIRST_WINDOW,
         acks: 0,
         gone: None,
         size_update: SizeUpdate::NotAsked,
@@ -148,7 +149,8 @@ impl Conn {
         // What is told of a stream that the client holds is its part of the received bytes, whatever calls stand between.
         ensures heard { IfOk result (λ conn. (calls : List Call) → Hears conn calls) }
 
-        // Once no event waits and the output was taken, all credit was told, and no acknowledgement waits.
+        // Once no event waits and the output was taken, all credit was told but less than a quarter of a window, and no
+        // acknowledgement waits.
         ensures restores { IfOk result (λ conn. (calls : List Call) → Restores conn calls) }
 
         // Then a piece of at most 8,192 bytes passes no window, and asks for few acknowledgements.
@@ -201,7 +203,7 @@ impl Conn {
 
     /// Takes the bytes that the server sent next, in whatever piece they came. A byte of DATA is copied twice.
     ///
-    /// Of bytes of streams no more than 65,535 wait as events, since the credit for them is given when they are handed out.
+    /// Of bytes of streams no more than 16,777,216 wait as events, since the credit for them is owed once they are handed out.
     /// Header lists and GOAWAY have no window, and no number of them is refused: any number of interim answers may come, and
     /// a list may count 65,536 bytes where its block has few. So a user takes all events before it feeds more, and then
     /// keeps of these no more than one piece brings.
@@ -225,7 +227,9 @@ impl Conn {
     }
 
     /// All that is to be sent: what was queued, and the credit that is due, in one WINDOW_UPDATE for the connection and
-    /// one for each stream. Where there is no memory nothing changes.
+    /// one for each stream. That is due which makes a window one of 16,777,216 bytes: the connection's with the first
+    /// stream, and each stream's as it is opened; then what was used of it, once that is a quarter. Where there is no
+    /// memory nothing changes.
     pub fn take_output(&mut self) -> Result<Vec<u8>, AllocError>
         ensures ok { IfOk result (λ bytes. bytes.items ≡ output self.old.state) }
         ensures after { OnOk result (self.new.state ≡ emptied self.old.state) }

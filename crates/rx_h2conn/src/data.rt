@@ -133,9 +133,9 @@ impl Machine {
     /// The credit of an event that is handed out becomes due.
     #[tactic(auto, unfolding(crate::specs::Data::owe))]
     pub fn owe(&mut self, id: u32, credit: u32)
-        requires connection { self.old.owed + credit ≤ 65535 }
+        requires connection { self.old.owed + credit ≤ 16777216 }
         requires stream { is_open (state_of self.old) id ≡ true →
-            (stream_at (state_of self.old) id).owed + credit ≤ 1048576 }
+            (stream_at (state_of self.old) id).owed + credit ≤ 16777216 }
         ensures { state_of self.new ≡ owe (state_of self.old) id credit }
     {
         self.owed += credit;

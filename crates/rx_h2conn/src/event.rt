@@ -13,7 +13,7 @@ pub enum ConnEvent {
         /// The server ended the stream.
         last: bool,
     },
-    /// Bytes of a stream. Their credit goes back to the server once this event was handed out.
+    /// Bytes of a stream. Their credit is owed to the server once this event was handed out.
     Bytes {
         stream: u32,
         bytes: Vec<u8>,

@@ -2,6 +2,7 @@
 #![tactic(auto)]
 
 mod conn;
+mod credit;
 mod data;
 mod ends;
 mod event;

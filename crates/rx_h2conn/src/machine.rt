@@ -47,7 +47,7 @@ pub struct Machine {
     pub initial: u32,
     /// What the server may still send on the connection.
     pub receive: u32,
-    /// Credit that the next output gives on the connection.
+    /// Credit on the connection that the server wasn't told yet.
     pub owed: u32,
     /// Acknowledgements that are queued.
     pub acks: u32,

@@ -146,23 +146,23 @@ fn write_credits(before: usize, streams: &[Stream], out: &mut Vec<u8>) -> Result
 {
     let mut id = before as u32 * 2 + 1;
     for stream in streams {
-        write_credit(id, stream.owed, out)?;
+        write_credit(id, stream.due(), out)?;
         id += 2;
     }
     Ok(())
 }
 
 /// Writes all credit that is due, or nothing.
-fn put_credits(owed: u32, streams: &Streams, out: &mut Vec<u8>) -> Result<(), AllocError>
+fn put_credits(due: u32, streams: &Streams, out: &mut Vec<u8>) -> Result<(), AllocError>
     requires { length streams.now ≤ 1073741824 }
     ensures ok { OnOk result (out.new.items
-        ≡ out.old.items ++ bytes_of (credit_frames 0 owed ++ stream_credits 1 streams.now)) }
+        ≡ out.old.items ++ bytes_of (credit_frames 0 due ++ stream_credits 1 streams.now)) }
     ensures err { OnErr result (out.new.items ≡ out.old.items) }
 {
     let kept = out.len();
-    let (before, due) = streams.due();
-    write_credit(0, owed, out)?;
-    if write_credits(before, due, out).is_err() {
+    let (before, behind) = streams.due();
+    write_credit(0, due, out)?;
+    if write_credits(before, behind, out).is_err() {
         out.truncate(kept);
         return Err(AllocError);
     }
@@ -177,9 +177,10 @@ impl Machine {
         ensures after { OnOk result (state_of self.new ≡ emptied (state_of self.old)) }
         ensures err { OnErr result (state_of self.new ≡ state_of self.old) }
     {
-        put_credits(self.owed, &self.streams, &mut self.queued)?;
-        self.receive += self.owed;
-        self.owed = 0;
+        let due = self.due();
+        put_credits(due, &self.streams, &mut self.queued)?;
+        self.receive += due;
+        self.owed -= due;
         self.acks = 0;
         self.streams.tell();
         let empty = Vec::new(self.alloc);

@@ -1,5 +1,6 @@
 //! What is known of a stream.
 
+use crate::credit::WINDOW;
 use crate::window::Window;
 
 /// What the server may send on a stream at first: this side's SETTINGS_INITIAL_WINDOW_SIZE.
@@ -12,7 +13,7 @@ pub struct Stream {
     pub send: Window,
     /// What the server may still send.
     pub receive: u32,
-    /// Credit that the next output gives to the server.
+    /// Credit that the server wasn't told yet.
     pub owed: u32,
     /// Nothing more is sent.
     pub client_done: bool,
@@ -24,14 +25,14 @@ pub struct Stream {
     pub server_reset: bool,
 }
 
-/// A stream as it is opened.
+/// A stream as it is opened. It is owed what makes its window as large as the connection's.
 pub const OPENED: Stream = Stream {
     send: Window {
         ahead: 0,
         behind: 0,
     },
     receive: STREAM_WINDOW,
-    owed: 0,
+    owed: WINDOW - STREAM_WINDOW,
     client_done: false,
     client_reset: false,
     server_done: false,

@@ -1,4 +1,4 @@
-//! The streams of a connection in their order, and from which on they may be owed credit.
+//! The streams of a connection in their order, and from which on their credit may be due.
 //!
 //! So the walk that gives credit begins there, and goes over no stream of the calls that ended long ago.
 
@@ -16,7 +16,7 @@ use std::marker::Model;
 #[derive(Drop)]
 pub struct Streams {
     list: Vec<Stream>,
-    /// No stream before this one is owed credit.
+    /// No stream before this one has credit that is due.
     first_due: usize,
 }
 
@@ -34,22 +34,23 @@ impl Model for Streams {
 }
 
 impl Stream {
-    /// The stream once its credit was told.
+    /// The stream once what is due was told.
     fn told(self) -> Stream
-        requires { self.receive + self.owed ≤ 1048576 }
+        requires { self.receive + self.owed ≤ 16777216 }
         ensures { result ≡ told self }
     {
+        let due = self.due();
         Stream {
-            receive: self.receive + self.owed,
-            owed: 0,
+            receive: self.receive + due,
+            owed: self.owed - due,
             ..self
         }
     }
 }
 
-/// Tells the credit of the streams from the first on that may be owed some.
+/// Tells what is due of the streams from the first on that may have some.
 fn tell(streams: &mut [Stream], first: usize)
-    requires small { All (λ t. t.receive + t.owed ≤ 1048576) streams.old }
+    requires small { All (λ t. t.receive + t.owed ≤ 16777216) streams.old }
     requires due { IsDueFrom first streams.old }
     ensures told { streams.new ≡ map told streams.old }
     ensures due { IsDueFrom (length streams.new) streams.new }
@@ -91,7 +92,7 @@ impl Streams {
         ensures { self.new ≡ slice_set self.old at stream }
     {
         self.list[at] = stream;
-        if stream.owed == 0 {
+        if stream.due() == 0 {
             return;
         }
         self.first_due = self.first_due.min(at);
@@ -121,7 +122,7 @@ impl Streams {
         &self.list
     }
 
-    /// How many streams stand before those that may be owed credit, and these.
+    /// How many streams stand before those whose credit may be due, and these.
     pub fn due(&self) -> (usize, &[Stream])
         ensures same { stream_credits (result.0 * 2 + 1) result.1.now ≡ stream_credits 1 self.now }
         ensures count { result.0 + length result.1.now ≡ length self.now }
@@ -130,9 +131,9 @@ impl Streams {
         (self.first_due, due)
     }
 
-    /// Tells all credit.
+    /// Tells all credit that is due.
     pub fn tell(&mut self)
-        requires { All (λ t. t.receive + t.owed ≤ 1048576) self.old }
+        requires { All (λ t. t.receive + t.owed ≤ 16777216) self.old }
         ensures { self.new ≡ map told self.old }
     {
         tell(&mut self.list, self.first_due);
