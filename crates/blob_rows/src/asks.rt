@@ -4,7 +4,7 @@ use crate::answers::write_digests;
 use crate::lines::{read_lines, read_name};
 use crate::names::Names;
 use rx_base::{Bytes, Digest, Items};
-use rx_exec_messages::{Ask, Caller, NamedBlob, Operation, Script};
+use rx_exec_messages::{Ask, Caller, NamedBlob, Operation, Script, StateFault};
 use rx_rows::{Answer, Row, RowFault};
 use rx_world::{CallFault, Dialect, Toy, World};
 use std::alloc::Global;
@@ -137,10 +137,10 @@ fn write_stored(
 }
 
 /// Writes the name of an operation, or the fault.
-fn write_state(state: &Result<Operation, CallFault>, answer: &mut Answer) -> Result<(), RowFault> {
+fn write_state(state: &Result<Operation, StateFault>, answer: &mut Answer) -> Result<(), RowFault> {
     match state {
         Ok(operation) => answer.text(operation.name.as_str().as_bytes())?,
-        Err(fault) => answer.value(fault)?,
+        Err(fault) => answer.value(&fault.call_fault())?,
     }
     Ok(())
 }

@@ -14,6 +14,7 @@ use Rattle.rx_exec_messages.specs.Calls.{AreBlobs, IsNamedFor}
 use Rattle.rx_exec_messages.specs.Dialects.{dialect_of}
 use Rattle.rx_exec_messages.specs.declared.answers.Capabilities.{Capabilities}
 use Rattle.rx_exec_messages.specs.declared.answers.Operation.{Operation}
+use Rattle.rx_exec_messages.specs.declared.state_faults.StateFault.{StateFault}
 use Rattle.rx_world.specs.declared.call_faults.CallFault.{CallFault}
 use Rattle.rx_world.specs.declared.commands.Command.{Command}
 use Rattle.rx_world.specs.declared.outcomes.Outcome.{Outcome}
@@ -92,7 +93,7 @@ no_answer value IsSuch h t none ended answer e = subst (λ (x : Answer). IfOk (v
 states_by : (messages : List (List ℕ)) (IsSuch : Operation → Type 0) → AllByRecursion (λ x. x ≡ message) messages → IsSuch done_state → AllByRecursion (λ x. IfOk (operation_by x) IsSuch) messages
 states_by [] IsSuch all such = tt
 states_by (x ∷ messages) IsSuch all such = (
-  subst (λ (m : List ℕ). IfOk (operation_by m) IsSuch) (sym all.0) (subst (λ (r : Result Operation CallFault). IfOk r IsSuch) (sym state_told) such),
+  subst (λ (m : List ℕ). IfOk (operation_by m) IsSuch) (sym all.0) (subst (λ (r : Result Operation StateFault). IfOk r IsSuch) (sym state_told) such),
   states_by messages IsSuch all.1 such,
 )
 

@@ -2,7 +2,7 @@
 
 use crate::farms::{read_answer, read_refusal};
 use rx_base::{Bytes, Digest, Items, Text};
-use rx_exec_messages::{Capabilities, NamedBlob, Operation};
+use rx_exec_messages::{Capabilities, NamedBlob, Operation, StateFault};
 use rx_fakes::{Ahead, MemoryDial, Script};
 use rx_grpc::GrpcCaller;
 use rx_messages::ActionResult;
@@ -85,6 +85,17 @@ pub(crate) fn write_fault(fault: CallFault, answer: &mut Answer) -> Result<(), A
     answer.value(&code)
 }
 
+/// Writes the fault of a state: that of a call, or `over` with the status of the execution.
+pub(crate) fn write_state_fault(fault: StateFault, answer: &mut Answer) -> Result<(), AllocError> {
+    match fault {
+        StateFault::Stream(fault) => write_fault(fault, answer),
+        StateFault::Over(code) => {
+            answer.word("over")?;
+            answer.value(&code)
+        }
+    }
+}
+
 /// Writes a version, or `none`.
 fn write_version(version: Option<SemVer>, answer: &mut Answer) -> Result<(), AllocError> {
     match version {
@@ -156,7 +167,7 @@ fn next_state(caller: &mut GrpcCaller<MemoryDial>, answer: &mut Answer) -> Resul
     }
     match caller.hear_operation() {
         Ok(operation) => Ok(write_operation(operation, answer)?),
-        Err(fault) => Ok(write_fault(fault, answer)?),
+        Err(fault) => Ok(write_state_fault(fault, answer)?),
     }
 }
 

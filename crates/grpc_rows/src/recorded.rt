@@ -10,7 +10,7 @@ ghost use Rattle.rx_world.specs.declared.versions.Dialect.{Dialect};
 ghost use Rattle.rx_grpc.specs.Honest.{IsGenuineBy, VouchesBy};
 ghost use Rattle.grpc_rows.specs.Recorded.{IsFront, empty_result, recorded};
 
-use crate::callers::{write_fault, write_operation};
+use crate::callers::{write_fault, write_operation, write_state_fault};
 use rx_base::{Text, digest_of};
 use rx_fakes::Script;
 use rx_grpc::GrpcCaller;
@@ -133,6 +133,6 @@ pub(crate) fn run_recorded(alloc: Global, answer: &mut Answer) -> Result<(), Row
     }
     match client.hear_operation() {
         Ok(operation) => Ok(write_operation(operation, answer)?),
-        Err(fault) => Ok(write_fault(fault, answer)?),
+        Err(fault) => Ok(write_state_fault(fault, answer)?),
     }
 }

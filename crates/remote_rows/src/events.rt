@@ -4,7 +4,7 @@ use crate::faults::read_blobs;
 use crate::results::{read_name, read_result};
 use rx_base::{Bytes, Items, Text};
 use rx_exec_messages::{ExecuteResponse, Operation};
-use rx_farm_values::{read_capabilities, read_fault};
+use rx_farm_values::{read_capabilities, read_code, read_fault};
 use rx_remote::Heard;
 use rx_rows::{Row, RowFault};
 use rx_world::{Attempt, Decision};
@@ -21,6 +21,7 @@ pub(crate) fn read_heard(alloc: Global, word: &str, row: &mut Row<'_>) -> Result
         "done" => read_done(alloc, row),
         "fetched" => read_fetched(alloc, row),
         "fault" => read_call(row),
+        "over" => read_over(row),
         "blobs" => read_transfer(alloc, row),
         "stopped" => read_stopped(row),
         _ => Err(RowFault::BadCall),
@@ -78,6 +79,11 @@ fn read_fetched(alloc: Global, row: &mut Row<'_>) -> Result<Heard, RowFault> {
 /// `fault FAULT`: the call failed.
 fn read_call(row: &mut Row<'_>) -> Result<Heard, RowFault> {
     Ok(Heard::Fault(read_fault(row)?))
+}
+
+/// `over CODE`: the execution is over, and failed with this status.
+fn read_over(row: &mut Row<'_>) -> Result<Heard, RowFault> {
+    Ok(Heard::Over(read_code(row)?))
 }
 
 /// `blobs FAULT`: the upload or the fetch failed.

@@ -44,6 +44,7 @@ fn read_answer(alloc: Global, word: &str, row: &mut Row<'_>) -> Result<ScriptLin
         Heard::Cached(result) => Ok(ScriptLine::Cached(result)),
         Heard::Next(operation) => Ok(ScriptLine::Operation(operation)),
         Heard::Fault(fault) => Ok(ScriptLine::Fault(fault)),
+        Heard::Over(code) => Ok(ScriptLine::Over(code)),
         _ => Err(RowFault::BadCall),
     }
 }

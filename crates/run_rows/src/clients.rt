@@ -7,7 +7,7 @@ ghost use Rattle.rx_world.specs.Causes.{Rose};
 
 use crate::seats::{Hands, Seat};
 use rx_base::{Bytes, Digest, Items};
-use rx_exec_messages::{Caller, Capabilities, NamedBlob, Operation};
+use rx_exec_messages::{Caller, Capabilities, NamedBlob, Operation, StateFault};
 use rx_messages::ActionResult;
 use rx_world::{CallFault, Refused, World};
 
@@ -123,8 +123,10 @@ impl<W: World, C: Caller<W>, H: Hands> Caller<W> for MeetingClient<C, H> {
         answer
     }
 
-    fn next_operation(&mut self) -> Result<Operation, CallFault> {
-        self.enter()?;
+    fn next_operation(&mut self) -> Result<Operation, StateFault> {
+        if let Err(fault) = self.enter() {
+            return Err(StateFault::Stream(fault));
+        }
         let answer = self.client.next_operation();
         self.count(answer.is_err());
         answer

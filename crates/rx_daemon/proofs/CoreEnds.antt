@@ -14,7 +14,7 @@ use Rattle.rx_local.specs.Local.{HasTold}
 use Rattle.rx_remote.specs.declared.asks.Ask.{Ask}
 use Rattle.rx_remote.specs.declared.asks.Ask.TheVariants.{Capabilities, End as Ends, Execute, Fetch, GetResult, NextOperation, Upload, Wait}
 use Rattle.rx_remote.specs.declared.asks.Heard.{Heard}
-use Rattle.rx_remote.specs.declared.asks.Heard.TheVariants.{Begun, Blobs, Cached, Fault, Fetched, Next, Stopped, Told, Uploaded}
+use Rattle.rx_remote.specs.declared.asks.Heard.TheVariants.{Begun, Blobs, Cached, Fault, Fetched, Next, Over, Stopped, Told, Uploaded}
 use Rattle.rx_remote.specs.declared.marks.Marks.{Marks}
 use Rattle.rx_remote.specs.declared.phases.Phase.{Phase}
 use Rattle.rx_remote.specs.declared.tasks.Task.{Task}
@@ -52,6 +52,7 @@ ends-unheard blobs end Begun fits = fits
 ends-unheard blobs end (Next operation) fits = cc
 ends-unheard blobs end (Fetched texts) fits = cc
 ends-unheard blobs end (Fault fault) fits = fits
+ends-unheard blobs end (Over code) fits = cc
 ends-unheard blobs end (Blobs fault) fits = fits
 ends-unheard blobs end (Stopped decision) fits = fits refl
 
@@ -85,6 +86,7 @@ unstopped task marks phase Begun e = refl
 unstopped task marks phase (Next operation) e = refl
 unstopped task marks phase (Fetched texts) e = refl
 unstopped task marks phase (Fault fault) e = refl
+unstopped task marks phase (Over code) e = refl
 unstopped task marks phase (Blobs fault) e = refl
 
 pub if-none : (found : Option Decision) (P : Decision → Type 0) → found ≡ None → IfSome found P

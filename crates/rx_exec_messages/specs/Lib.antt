@@ -5,6 +5,7 @@ pub mod Exchanged
 pub mod Executions
 pub mod Operations
 pub mod Scripts
+pub mod StateFaults
 pub mod Streams
 pub mod Tellings
 pub mod Traces

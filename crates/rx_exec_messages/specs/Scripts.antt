@@ -20,7 +20,7 @@ use Rattle.rx_exec_messages.specs.declared.script_lines.Running.TheVariants as r
 use Rattle.rx_exec_messages.specs.declared.script_lines.ScriptLine.{ScriptLine}
 use Rattle.rx_exec_messages.specs.declared.script_lines.ScriptLine.TheVariants.{Blobs, Cached, Capabilities as Says}
 use Rattle.rx_exec_messages.specs.declared.script_lines.ScriptLine.TheVariants.{Executes, Fault, Lacks}
-use Rattle.rx_exec_messages.specs.declared.script_lines.ScriptLine.TheVariants.{Operation, Resumes, Stored}
+use Rattle.rx_exec_messages.specs.declared.script_lines.ScriptLine.TheVariants.{Operation, Over, Resumes, Stored}
 use Rattle.rx_exec_messages.specs.declared.script_state.ScriptState.{ScriptState}
 
 -- the action of an execution
@@ -55,6 +55,7 @@ LineAgrees blob command outcome Stored = Unit {0}
 LineAgrees blob command outcome (Blobs blobs) = Unit {0}
 LineAgrees blob command outcome (Executes action) = Unit {0}
 LineAgrees blob command outcome (Resumes name) = Unit {0}
+LineAgrees blob command outcome (Over code) = Unit {0}
 LineAgrees blob command outcome (Fault fault) = Unit {0}
 
 -- At each digest the script vouches for the outcomes with which each result of its lines agrees.
@@ -77,6 +78,7 @@ IsGenuineLine blob operation dialect running (Lacks digests) = Unit {0}
 IsGenuineLine blob operation dialect running Stored = Unit {0}
 IsGenuineLine blob operation dialect running (Executes action) = Unit {0}
 IsGenuineLine blob operation dialect running (Resumes name) = Unit {0}
+IsGenuineLine blob operation dialect running (Over code) = Unit {0}
 IsGenuineLine blob operation dialect running (Fault fault) = Unit {0}
 
 -- the action that runs once a line was answered
@@ -89,6 +91,7 @@ running_after operation running (Lacks digests) = running
 running_after operation running Stored = running
 running_after operation running (Blobs blobs) = running
 running_after operation running (Operation state) = running
+running_after operation running (Over code) = running
 running_after operation running (Fault fault) = running
 
 -- Each line is genuine for what runs when it is answered.
@@ -119,6 +122,7 @@ left_by (Some (Blobs blobs)) lines = []
 left_by (Some (Executes action)) lines = []
 left_by (Some (Resumes name)) lines = []
 left_by (Some (Operation state)) lines = []
+left_by (Some (Over code)) lines = []
 left_by None lines = []
 
 -- the lines that are left when a call wasn't served by this one, or none

@@ -9,8 +9,9 @@ ghost use Rattle.rx_exec_messages.specs.declared.exchanges.Exchange.{Exchange};
 ghost use Rattle.rx_exec_messages.specs.declared.exchanges.Exchange.TheVariants as exchanges;
 ghost use Rattle.rx_exec_messages.specs.Calls.{AddsCall, AgreesWithAll, AreBlobs, HasCallCause, IsNamedFor, IsPartOf, RefusesOneOf, ResponseAgrees, Stays, digests_of};
 ghost use Rattle.rx_exec_messages.specs.Dialects.{dialect_of};
+ghost use Rattle.rx_exec_messages.specs.StateFaults.{as_call};
 
-use crate::{Capabilities, NamedBlob, Operation};
+use crate::{Capabilities, NamedBlob, Operation, StateFault};
 use rx_base::{Bytes, Digest, Items};
 use rx_messages::ActionResult;
 use rx_world::{CallFault, World};
@@ -123,8 +124,9 @@ pub trait Caller<W: World> {
         ensures stays { Stays vouches genuine dialect self.old self.new }
         ensures cause { HasCallCause (faults self.old) (faults self.new) result };
 
-    /// The next state of the execution that was begun or waited for last.
-    fn next_operation(&mut self) -> Result<Operation, CallFault>
+    /// The next state of the execution that was begun or waited for last. A fault tells whether the
+    /// stream failed, or the execution, which then is over.
+    fn next_operation(&mut self) -> Result<Operation, StateFault>
         requires streaming { streaming self.old }
         ensures agrees { IfOk result (λ operation. IfSome operation.done
             (ResponseAgrees W.blob (vouches self.old) (running self.old))) }
@@ -136,5 +138,5 @@ pub trait Caller<W: World> {
         ensures told { AddsCall (conversation self.old) (conversation self.new)
             (exchanges.NextOperation result) }
         ensures stays { Stays vouches genuine dialect self.old self.new }
-        ensures cause { HasCallCause (faults self.old) (faults self.new) result };
+        ensures cause { HasCallCause (faults self.old) (faults self.new) (as_call result) };
 }

@@ -1,6 +1,6 @@
 //! Calls on a farm with their answers, as a client's conversation has them.
 
-use crate::{Capabilities, Operation};
+use crate::{Capabilities, Operation, StateFault};
 use rx_base::{Bytes, Digest, Items, Text};
 use rx_messages::ActionResult;
 use rx_world::CallFault;
@@ -53,6 +53,6 @@ pub enum Exchange {
         answer: Result<(), CallFault>,
     },
     NextOperation {
-        answer: Result<Operation, CallFault>,
+        answer: Result<Operation, StateFault>,
     },
 }

@@ -16,6 +16,7 @@ mod script_answers;
 mod script_calls;
 mod script_lines;
 mod script_state;
+mod state_faults;
 mod streams;
 mod told;
 mod trace;
@@ -31,5 +32,6 @@ pub use executions::{
 pub use operations::OperationMessage;
 pub use script::Script;
 pub use script_lines::{Ask, ScriptLine};
+pub use state_faults::StateFault;
 pub use streams::{ReadRequest, ReadResponse, WriteRequest, WriteResponse};
 pub use versions::Version;

@@ -8,7 +8,7 @@ use crate::script_lines::Running;
 use crate::script_state::ScriptState;
 use crate::told::{Call, Told};
 use crate::trace::Trace;
-use crate::{Ask, Caller, Capabilities, NamedBlob, Operation, ScriptLine};
+use crate::{Ask, Caller, Capabilities, NamedBlob, Operation, ScriptLine, StateFault};
 use rx_base::{Bytes, Digest, Items, digest_of};
 use rx_messages::ActionResult;
 use rx_world::{CallFault, Dialect, World};
@@ -174,7 +174,7 @@ impl<W: World> Caller<W> for Script {
         answer
     }
 
-    fn next_operation(&mut self) -> Result<Operation, CallFault> {
+    fn next_operation(&mut self) -> Result<Operation, StateFault> {
         let answer = self.state.next_operation::<W>();
         self.tell(Call::NextOperation {
             answer: Snapshot::of(&answer),

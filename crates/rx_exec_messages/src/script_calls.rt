@@ -4,11 +4,12 @@ ghost use Rattle.std.specs.Prelude.{◌≡◌, ◌∷◌, [], IfErr, IfOk, IfSom
 ghost use Rattle.rx_exec_messages.specs.Calls.{AgreesWithAll, AreBlobs, HasCallCause, IsNamedFor, IsPartOf, RefusesOneOf, ResponseAgrees, digests_of};
 ghost use Rattle.rx_exec_messages.specs.Dialects.{dialect_of};
 ghost use Rattle.rx_exec_messages.specs.Scripts.{IsGenuine, Keeps, Vouches, running_of};
+ghost use Rattle.rx_exec_messages.specs.StateFaults.{as_call};
 
 use crate::script_answers::{all_go_by, digests_of, missing_of, only_text, texts_of};
 use crate::script_lines::Running;
 use crate::script_state::ScriptState;
-use crate::{Ask, Capabilities, NamedBlob, Operation, ScriptLine};
+use crate::{Ask, Capabilities, NamedBlob, Operation, ScriptLine, StateFault};
 use rx_base::{Bytes, Digest, Items, NoMemory, Text, TryClone};
 use rx_messages::ActionResult;
 use rx_world::{CallFault, World};
@@ -207,7 +208,7 @@ impl ScriptState {
     }
 
     /// An answer to `next_operation`.
-    pub(crate) fn next_operation<W: World>(&mut self) -> Result<Operation, CallFault>
+    pub(crate) fn next_operation<W: World>(&mut self) -> Result<Operation, StateFault>
         requires { self.old.is_streaming ≡ true }
         ensures agrees { IfOk result (λ operation. IfSome operation.done
             (ResponseAgrees W.blob (Vouches W.blob self.old) (running_of W.operation self.old))) }
@@ -217,9 +218,11 @@ impl ScriptState {
         ensures streaming { IfOk result (λ operation.
             operation.done ≡ None → self.new.is_streaming ≡ true) }
         ensures stays { Keeps W.blob W.operation self.old self.new }
-        ensures cause { HasCallCause self.old.faults self.new.faults result }
+        ensures cause { HasCallCause self.old.faults self.new.faults (as_call result) }
     {
-        self.keep(Ok(Ask::NextOperation))?;
+        if let Err(fault) = self.keep(Ok(Ask::NextOperation)) {
+            return Err(StateFault::Stream(fault));
+        }
         match self.lines.pop_front() {
             Some(ScriptLine::Operation(operation)) => {
                 if operation.done.is_some() {
@@ -227,7 +230,12 @@ impl ScriptState {
                 }
                 Ok(operation)
             }
-            line => Err(self.fail(line)),
+            Some(ScriptLine::Over(code)) => {
+                self.is_streaming = false;
+                self.count(CallFault::Status(code));
+                Err(StateFault::Over(code))
+            }
+            line => Err(StateFault::Stream(self.fail(line))),
         }
     }
 }

@@ -26,6 +26,8 @@ pub enum ScriptLine {
     Resumes(Text),
     /// To `next_operation`: this state.
     Operation(Operation),
+    /// To `next_operation`: that the execution is over, and failed with this status.
+    Over(u32),
     /// To any call: this fault. A refusal of a blob fits the calls that ask for that blob.
     Fault(CallFault),
 }

@@ -1,7 +1,7 @@
 //! Calls with their answers, as a script's conversation keeps them: for contracts alone.
 
 use crate::trace::Trace;
-use crate::{Capabilities, NamedBlob, Operation};
+use crate::{Capabilities, NamedBlob, Operation, StateFault};
 use rx_base::{Bytes, Digest, Items};
 use rx_messages::ActionResult;
 use rx_world::CallFault;
@@ -50,7 +50,7 @@ pub(crate) enum Call {
         answer: Snapshot<Result<(), CallFault>>,
     },
     NextOperation {
-        answer: Snapshot<Result<Operation, CallFault>>,
+        answer: Snapshot<Result<Operation, StateFault>>,
     },
 }
 

@@ -7,6 +7,8 @@ use Rattle.rx_exec_messages.specs.Calls.{IsNamedFor, ResultAgrees}
 use Rattle.rx_exec_messages.specs.Scripts.{ResultIsOf}
 use Rattle.rx_exec_messages.specs.declared.answers.Operation.{Operation}
 use Rattle.rx_exec_messages.specs.declared.executions.ExecuteResponse.{ExecuteResponse}
+use Rattle.rx_exec_messages.specs.declared.state_faults.StateFault.{StateFault}
+use Rattle.rx_exec_messages.specs.declared.state_faults.StateFault.TheVariants.{Stream}
 use Rattle.rx_world.specs.declared.call_faults.CallFault.{CallFault}
 use Rattle.rx_world.specs.declared.call_faults.CallFault.TheVariants.{NoMemory}
 use Rattle.rx_world.specs.declared.commands.Command.{Command}
@@ -27,7 +29,6 @@ use Rattle.rx_grpc.specs.Running.{HasBegun, IsRunning}
 use Rattle.rx_grpc.specs.StreamedCalls.{Came, GoesOn, HearsItems, HearsMessage, HearsState, IsBegun, message_of, state_of}
 use Rattle.rx_grpc.proofs.CarriedLemmas.{IsCarried, by-always, carried, carried-under, next-on, state-shown}
 use Rattle.rx_grpc.proofs.KeepLemmas.{keeps-all, keeps-both, keeps-on}
-use Rattle.rx_grpc.proofs.RefusedLemmas.{ok-by}
 
 ok-in : (r : Result (List ℕ) CallFault) (m message : List ℕ) → r ≡ Ok m → r ≡ Ok message → m ≡ message
 ok-in r m message is e = cc
@@ -131,11 +132,15 @@ still-runs : {D L : Type 0} (rule : D → List ℕ → List ℕ → Type 0) (lin
 still-runs rule link new instance begun (Ok m) state r e = r
 still-runs rule link new instance begun (Err fault) state r e = absurd cc
 
-pub runs-on : {D L : Type 0} (rule : D → List ℕ → List ℕ → Type 0) (link : links.Ghosts L) (old new : ChannelOf D L) (instance : List ℕ) (begun : Begun) (state : Operation) (result : Result Operation CallFault)
-    → result ≡ Ok state → HasNext rule link old new instance begun (λ message. Gives NoMemory (λ (x : Operation). x) result (state_of message)) → IsRunning rule link new instance begun None
+pub runs-on : {D L : Type 0} (rule : D → List ℕ → List ℕ → Type 0) (link : links.Ghosts L) (old new : ChannelOf D L) (instance : List ℕ) (begun : Begun) (state : Operation) (result : Result Operation StateFault)
+    → result ≡ Ok state → HasNext rule link old new instance begun (λ message. Gives (Stream NoMemory) (λ (x : Operation). x) result (state_of message)) → IsRunning rule link new instance begun None
 runs-on rule link old new instance begun state result is h = still-runs rule link new instance begun h.message state h.runs (rw is at h.is_such)
 
 -- ---- what it tells
+
+ok-state : {A : Type 0} (P : A → Type 0) (result given : Result A StateFault) → Gives (Stream NoMemory) (λ x. x) result given → IfOk given P → IfOk result P
+ok-state P (Ok x) given is p = subst (λ r. IfOk r P) is p
+ok-state P (Err e) given is p = tt
 
 state-by : (rule : List ℕ → List ℕ → Type 0) (authority : List ℕ) (asked : Asked) (message : Result (List ℕ) CallFault) (IsSuch : Operation → Type 0) (P : Asked → Heard → Type 0)
     → IfOk message (IsShown rule authority asked) → Always rule authority P → ((heard : Heard) → P asked heard → IfStates IsSuch heard) → IfOk (state_of message) IsSuch
@@ -143,11 +148,11 @@ state-by rule authority asked (Ok message) IsSuch P shown all pick =
     state-shown rule authority asked shown.given message IsSuch shown.shown (pick shown.shown.heard_is (by-always (item_behind (length shown.given)) rule authority asked shown.given (StreamItems.Message message) P all shown.shown))
 state-by rule authority asked (Err fault) IsSuch P shown all pick = tt
 
-state-is : {D L : Type 0} (rule : D → List ℕ → List ℕ → Type 0) (link : links.Ghosts L) (old new : ChannelOf D L) (instance : List ℕ) (begun : Begun) (result : Result Operation CallFault) (IsSuch : Operation → Type 0) (P : Asked → Heard → Type 0)
-    → (h : HasNext rule link old new instance begun (λ message. Gives NoMemory (λ (x : Operation). x) result (state_of message)))
+state-is : {D L : Type 0} (rule : D → List ℕ → List ℕ → Type 0) (link : links.Ghosts L) (old new : ChannelOf D L) (instance : List ℕ) (begun : Begun) (result : Result Operation StateFault) (IsSuch : Operation → Type 0) (P : Asked → Heard → Type 0)
+    → (h : HasNext rule link old new instance begun (λ message. Gives (Stream NoMemory) (λ (x : Operation). x) result (state_of message)))
     → Always (rule old.dial) old.authority P → ((heard : Heard) → P h.asked heard → IfStates IsSuch heard) → IfOk result IsSuch
 state-is rule link old new instance begun result IsSuch P h all pick =
-    ok-by IsSuch result (state_of h.message) h.is_such (state-by (rule old.dial) old.authority h.asked h.message IsSuch P h.shown all pick)
+    ok-state IsSuch result (state_of h.message) h.is_such (state-by (rule old.dial) old.authority h.asked h.message IsSuch P h.shown all pick)
 
 each-result : {D L : Type 0} (rule : D → List ℕ → List ℕ → Type 0) (c : CallerOf D L) (result : Option ActionResult)
     → ((blob : Digest → List ℕ) (operation : List ℕ → Digest) (command : Command) (outcome : Outcome) → VouchesBy rule blob operation c (action_of operation c.begun) command outcome → ResultIsOf blob command outcome result)
@@ -161,26 +166,26 @@ each-done : {D L : Type 0} (rule : D → List ℕ → List ℕ → Type 0) (c : 
 each-done rule c (Some response) each = each-result rule c response.result each
 each-done rule c None each = tt
 
-each-state : {D L : Type 0} (rule : D → List ℕ → List ℕ → Type 0) (c : CallerOf D L) (result : Result Operation CallFault)
+each-state : {D L : Type 0} (rule : D → List ℕ → List ℕ → Type 0) (c : CallerOf D L) (result : Result Operation StateFault)
     → ((blob : Digest → List ℕ) (operation : List ℕ → Digest) (command : Command) (outcome : Outcome) → VouchesBy rule blob operation c (action_of operation c.begun) command outcome → IfOk result (StateAgrees blob command outcome))
     → IfOk result (λ (state : Operation). IfSome state.done (HonestResponse rule c))
 each-state rule c (Ok state) each = each-done rule c state.done each
 each-state rule c (Err fault) each = tt
 
-pub state-honest : {D L : Type 0} (rule : D → List ℕ → List ℕ → Type 0) (link : links.Ghosts L) (c : CallerOf D L) (new : ChannelOf D L) (result : Result Operation CallFault)
-    → HasNext rule link c.channel new c.instance c.begun (λ message. Gives NoMemory (λ (x : Operation). x) result (state_of message)) → IfOk result (λ (state : Operation). IfSome state.done (HonestResponse rule c))
+pub state-honest : {D L : Type 0} (rule : D → List ℕ → List ℕ → Type 0) (link : links.Ghosts L) (c : CallerOf D L) (new : ChannelOf D L) (result : Result Operation StateFault)
+    → HasNext rule link c.channel new c.instance c.begun (λ message. Gives (Stream NoMemory) (λ (x : Operation). x) result (state_of message)) → IfOk result (λ (state : Operation). IfSome state.done (HonestResponse rule c))
 state-honest rule link c new result h =
     each-state rule c result (λ blob operation command outcome vouched.
     state-is rule link c.channel new c.instance c.begun result (StateAgrees blob command outcome) (ResultsAgree blob operation c.instance (action_of operation c.begun) command outcome) h vouched (λ heard agree. agree.ran c.begun h.asks refl))
 
-each-name : {D L : Type 0} (rule : D → List ℕ → List ℕ → Type 0) (c : CallerOf D L) (result : Result Operation CallFault)
+each-name : {D L : Type 0} (rule : D → List ℕ → List ℕ → Type 0) (c : CallerOf D L) (result : Result Operation StateFault)
     → ((blob : Digest → List ℕ) (operation : List ℕ → Digest) (dialect : Dialect) → IsGenuineBy rule blob operation dialect c → IfOk result (λ (state : Operation). IsNamedFor operation (action_of operation c.begun) state.name))
     → IfOk result (λ (state : Operation). HonestName rule c state.name)
 each-name rule c (Ok state) each = each
 each-name rule c (Err fault) each = tt
 
-pub name-honest : {D L : Type 0} (rule : D → List ℕ → List ℕ → Type 0) (link : links.Ghosts L) (c : CallerOf D L) (new : ChannelOf D L) (result : Result Operation CallFault)
-    → HasNext rule link c.channel new c.instance c.begun (λ message. Gives NoMemory (λ (x : Operation). x) result (state_of message)) → IfOk result (λ (state : Operation). HonestName rule c state.name)
+pub name-honest : {D L : Type 0} (rule : D → List ℕ → List ℕ → Type 0) (link : links.Ghosts L) (c : CallerOf D L) (new : ChannelOf D L) (result : Result Operation StateFault)
+    → HasNext rule link c.channel new c.instance c.begun (λ message. Gives (Stream NoMemory) (λ (x : Operation). x) result (state_of message)) → IfOk result (λ (state : Operation). HonestName rule c state.name)
 name-honest rule link c new result h =
     each-name rule c result (λ blob operation dialect genuine.
     state-is rule link c.channel new c.instance c.begun result (λ (state : Operation). IsNamedFor operation (action_of operation c.begun) state.name) (AnswersHonestly blob operation dialect c.instance) h genuine (λ heard honest. honest.names c.begun h.asks))

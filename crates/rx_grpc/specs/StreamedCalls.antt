@@ -6,6 +6,7 @@ use Rattle.rx_base.specs.Results.{◌>>=◌}
 use Rattle.rx_codec.specs.Decoding.{any_form, decoded}
 use Rattle.rx_exec_messages.specs.Streams.{read_response_from, read_response_parts}
 use Rattle.rx_exec_messages.specs.declared.answers.Operation.{Operation}
+use Rattle.rx_exec_messages.specs.declared.state_faults.StateFault.{StateFault}
 use Rattle.rx_exec_messages.specs.declared.streams.ReadResponse.{ReadResponse}
 use Rattle.rx_world.specs.declared.call_faults.CallFault.{CallFault}
 use Rattle.rx_world.specs.declared.call_faults.CallFault.TheVariants as Faults
@@ -14,7 +15,7 @@ use Rattle.rx_grpc.specs.declared.stream_item.StreamItem.{StreamItem}
 use Rattle.rx_grpc.specs.declared.stream_item.StreamItem.TheVariants as StreamItems
 use Rattle.rx_grpc.specs.declared.transfer_fault.TransferFault.{TransferFault}
 use Rattle.rx_grpc.specs.Channel.{ChannelOf, HasCauseOn, IsRuled, Keeps, Stops, stream_for}
-use Rattle.rx_grpc.specs.Operations.{operation_by}
+use Rattle.rx_grpc.specs.Operations.{by_stream, operation_by}
 use Rattle.rx_grpc.specs.Questions.{Asked}
 use Rattle.rx_grpc.specs.Replies.{failed, read}
 use Rattle.rx_grpc.specs.Request.{request_fields}
@@ -102,8 +103,8 @@ abbrev pub HearsState : {D L : Type 0} → (D → List ℕ → List ℕ → Type
 HearsState dial_rule link (Some message) old new IsSuch = (new ≡ old) × IsSuch (Ok message)
 HearsState dial_rule link None old new IsSuch = HearsMessage dial_rule link old new (λ came. IsSuch (message_of came))
 
-abbrev pub state_of : Result (List ℕ) CallFault → Result Operation CallFault
-state_of message = message >>= operation_by
+abbrev pub state_of : Result (List ℕ) CallFault → Result Operation StateFault
+state_of message = by_stream message >>= operation_by
 
 -- ---- the bytes of a blob
 

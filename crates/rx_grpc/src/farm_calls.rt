@@ -7,7 +7,7 @@ ghost use Rattle.rx_grpc.specs.Honest.{IsGenuineBy, VouchesBy};
 
 use crate::caller::GrpcCaller;
 use rx_base::{Bytes, Digest, Items};
-use rx_exec_messages::{Caller, Capabilities, NamedBlob, Operation};
+use rx_exec_messages::{Caller, Capabilities, NamedBlob, Operation, StateFault};
 use rx_messages::ActionResult;
 use rx_world::{CallFault, Dial, World};
 
@@ -62,7 +62,7 @@ impl<W: World, D: Dial + Drop> Caller<W> for GrpcCaller<D> {
         self.hear_wait(name)
     }
 
-    fn next_operation(&mut self) -> Result<Operation, CallFault> {
+    fn next_operation(&mut self) -> Result<Operation, StateFault> {
         self.hear_operation()
     }
 }

@@ -4,7 +4,9 @@
 ghost use Rattle.std.specs.Prelude.{◌≡◌, ◌∷◌, [], length, true, List, ℕ, None, IfErr, IfOk, IfSome, OnOk};
 ghost use Rattle.rx_base.specs.Results.{Gives};
 ghost use Rattle.rx_world.specs.declared.call_faults.CallFault.TheVariants.{NoMemory as starved};
+ghost use Rattle.rx_exec_messages.specs.declared.state_faults.StateFault.TheVariants.{Stream as by_bytes};
 ghost use Rattle.rx_exec_messages.specs.Calls.{HasCallCause, RefusesOneOf};
+ghost use Rattle.rx_exec_messages.specs.StateFaults.{as_call};
 ghost use Rattle.rx_grpc.specs.declared.caller.Begun.TheVariants.{Executed as executed, Waited as waited};
 ghost use Rattle.rx_codec.specs.FieldBytes.{fields_bytes};
 ghost use Rattle.rx_grpc.specs.Caller.{Hears};
@@ -22,7 +24,7 @@ use crate::streamed_calls::{begin_states, next_state};
 use crate::uploads::write_blob;
 use rx_base::{Bytes, Digest, NoMemory, Text, TryClone};
 use rx_codec::Message;
-use rx_exec_messages::{ExecuteRequest, Operation, WaitExecutionRequest};
+use rx_exec_messages::{ExecuteRequest, Operation, StateFault, WaitExecutionRequest};
 use rx_world::{CallFault, Dial};
 use std::alloc::Global;
 use uuid::Uuid;
@@ -119,11 +121,29 @@ impl<D: Dial + Drop> GrpcCaller<D> {
         self.count_fault(answer)
     }
 
+    /// Counts the fault of a state, unless it is want of memory.
+    fn count_state(
+        &mut self,
+        answer: Result<Operation, StateFault>,
+    ) -> Result<Operation, StateFault>
+        ensures same { result ≡ answer }
+        ensures cause { HasCallCause self.old.faults self.new.faults (as_call result) }
+        ensures rest { self.new ≡ record self.old { faults = self.new.faults } }
+    {
+        match answer {
+            Ok(state) => Ok(state),
+            Err(fault) => {
+                let _ = self.count_fault::<Operation>(Err(fault.call_fault()));
+                Err(fault)
+            }
+        }
+    }
+
     /// The next state of the execution that was begun or waited for last.
-    pub fn hear_operation(&mut self) -> Result<Operation, CallFault>
+    pub fn hear_operation(&mut self) -> Result<Operation, StateFault>
         requires { self.old.streaming ≡ true }
         ensures heard { HearsState D.rule D.L.Link self.old.first self.old.channel self.new.channel
-            (λ message. Gives starved (λ x. x) result (state_of message)) }
+            (λ message. Gives (by_bytes starved) (λ x. x) result (state_of message)) }
         ensures agrees { IfOk result (λ operation.
             IfSome operation.done (HonestResponse D.rule self.old)) }
         ensures named { IfOk result (λ operation. HonestName D.rule self.old operation.name) }
@@ -131,7 +151,7 @@ impl<D: Dial + Drop> GrpcCaller<D> {
         ensures begun { self.new.begun ≡ self.old.begun }
         ensures streaming { IfOk result (λ operation.
             operation.done ≡ None → self.new.streaming ≡ true) }
-        ensures cause { HasCallCause self.old.faults self.new.faults result }
+        ensures cause { HasCallCause self.old.faults self.new.faults (as_call result) }
     {
         let first = self.first.take();
         self.streaming = false;
@@ -139,7 +159,7 @@ impl<D: Dial + Drop> GrpcCaller<D> {
         if let Ok(operation) = &answer {
             self.streaming = operation.done.is_none();
         }
-        self.count_fault(answer)
+        self.count_state(answer)
     }
 
     /// The bytes of one blob, as a stream.

@@ -3,6 +3,7 @@
 ghost use Rattle.std.specs.Prelude.{◌≡◌, true, IfOk, OnOk};
 ghost use Rattle.rx_base.specs.Results.{Gives};
 ghost use Rattle.rx_world.specs.declared.call_faults.CallFault.TheVariants.{NoMemory as starved};
+ghost use Rattle.rx_exec_messages.specs.declared.state_faults.StateFault.TheVariants.{Stream as by_bytes};
 ghost use Rattle.rx_codec.specs.FieldBytes.{fields_bytes};
 ghost use Rattle.rx_grpc.specs.Item.{is_message};
 ghost use Rattle.rx_grpc.specs.Questions.{one};
@@ -18,7 +19,7 @@ use crate::stream_item::StreamItem;
 use crate::transfer_fault::TransferFault;
 use rx_base::Bytes;
 use rx_codec::Message;
-use rx_exec_messages::Operation;
+use rx_exec_messages::{Operation, StateFault};
 use rx_world::{CallFault, Dial};
 use std::alloc::Global;
 
@@ -103,17 +104,17 @@ pub fn next_state<D: Dial + Drop>(
     alloc: Global,
     channel: &mut Channel<D>,
     first: Option<Bytes>,
-) -> Result<Operation, CallFault>
+) -> Result<Operation, StateFault>
     requires { is_answering channel.old.transport ≡ true }
     ensures heard { HearsState D.rule D.L.Link first channel.old channel.new (λ message.
-        Gives starved (λ x. x) result (state_of message)) }
+        Gives (by_bytes starved) (λ x. x) result (state_of message)) }
     ensures open { OnOk result (is_answering channel.new.transport ≡ true) }
 {
     match first {
         Some(message) => operation_by(alloc, message.as_slice()),
         None => match next_message(channel) {
             Ok(message) => operation_by(alloc, message.as_slice()),
-            Err(fault) => Err(fault),
+            Err(fault) => Err(StateFault::Stream(fault)),
         },
     }
 }

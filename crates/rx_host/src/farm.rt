@@ -11,7 +11,7 @@ use crate::hands::Hands;
 use crate::pauses::Pauses;
 use crate::world::HostWorld;
 use rx_base::{Bytes, Digest, Items};
-use rx_exec_messages::{Caller, Capabilities, NamedBlob, Operation};
+use rx_exec_messages::{Caller, Capabilities, NamedBlob, Operation, StateFault};
 use rx_grpc::GrpcCaller;
 use rx_messages::ActionResult;
 use rx_world::{CallFault, World};
@@ -89,6 +89,14 @@ impl<H: Hands> HostFarm<H> {
     }
 }
 
+/// Whether a state came, or why not, as of a call.
+fn as_call(answer: &Result<Operation, StateFault>) -> Result<(), CallFault> {
+    match answer {
+        Ok(_) => Ok(()),
+        Err(fault) => Err(fault.call_fault()),
+    }
+}
+
 impl<H: Hands> Caller<HostWorld> for HostFarm<H> {
     ghost conversation = { λ c. None };
 
@@ -110,7 +118,7 @@ impl<H: Hands> Caller<HostWorld> for HostFarm<H> {
         self.caller
             .channel()
             .dial()
-            .begin_call(false, self.pauses.take());
+            .begin_call(0, self.pauses.take());
         let answer = self.caller.hear_capabilities();
         self.pauses.heed(&answer);
         self.follow_up(&answer);
@@ -121,7 +129,7 @@ impl<H: Hands> Caller<HostWorld> for HostFarm<H> {
         self.caller
             .channel()
             .dial()
-            .begin_call(false, self.pauses.take());
+            .begin_call(0, self.pauses.take());
         let answer = self.caller.hear_result(action);
         self.pauses.heed(&answer);
         self.follow_up(&answer);
@@ -132,7 +140,7 @@ impl<H: Hands> Caller<HostWorld> for HostFarm<H> {
         self.caller
             .channel()
             .dial()
-            .begin_call(false, self.pauses.take());
+            .begin_call(0, self.pauses.take());
         let answer = self.caller.hear_missing(digests);
         self.pauses.heed(&answer);
         self.follow_up(&answer);
@@ -143,7 +151,7 @@ impl<H: Hands> Caller<HostWorld> for HostFarm<H> {
         self.caller
             .channel()
             .dial()
-            .begin_call(false, self.pauses.take());
+            .begin_call(0, self.pauses.take());
         let answer = self.caller.hear_update(blobs);
         self.pauses.heed(&answer);
         self.follow_up(&answer);
@@ -154,7 +162,7 @@ impl<H: Hands> Caller<HostWorld> for HostFarm<H> {
         self.caller
             .channel()
             .dial()
-            .begin_call(false, self.pauses.take());
+            .begin_call(0, self.pauses.take());
         let answer = self.caller.hear_read(digests);
         self.pauses.heed(&answer);
         self.follow_up(&answer);
@@ -165,7 +173,7 @@ impl<H: Hands> Caller<HostWorld> for HostFarm<H> {
         self.caller
             .channel()
             .dial()
-            .begin_call(false, self.pauses.take());
+            .begin_call(bytes.len() as u64, self.pauses.take());
         let answer = self.caller.hear_write(digest, bytes);
         self.pauses.heed(&answer);
         self.follow_up(&answer);
@@ -176,7 +184,7 @@ impl<H: Hands> Caller<HostWorld> for HostFarm<H> {
         self.caller
             .channel()
             .dial()
-            .begin_call(false, self.pauses.take());
+            .begin_call(digest.size, self.pauses.take());
         let answer = self.caller.hear_blob(digest);
         self.pauses.heed(&answer);
         self.follow_up(&answer);
@@ -187,7 +195,7 @@ impl<H: Hands> Caller<HostWorld> for HostFarm<H> {
         self.caller
             .channel()
             .dial()
-            .begin_call(true, self.pauses.take());
+            .begin_command(self.pauses.take());
         let answer = self.caller.hear_execute(action, skip_cache);
         self.pauses.heed(&answer);
         self.follow_up(&answer);
@@ -199,7 +207,7 @@ impl<H: Hands> Caller<HostWorld> for HostFarm<H> {
         self.caller
             .channel()
             .dial()
-            .begin_call(true, self.pauses.take());
+            .begin_command(self.pauses.take());
         let answer = self.caller.hear_wait(name);
         self.pauses.heed(&answer);
         self.follow_up(&answer);
@@ -207,20 +215,21 @@ impl<H: Hands> Caller<HostWorld> for HostFarm<H> {
         answer
     }
 
-    fn next_operation(&mut self) -> Result<Operation, CallFault> {
+    fn next_operation(&mut self) -> Result<Operation, StateFault> {
         self.caller
             .channel()
             .dial()
-            .begin_call(true, self.pauses.take());
+            .begin_command(self.pauses.take());
         if !self.caller.is_streaming() {
             self.streaming = false;
-            let answer = self.caller.count_fault(Err(CallFault::Cut));
+            let answer = self.caller.count_fault::<Operation>(Err(CallFault::Cut));
             self.pauses.heed(&answer);
-            return answer;
+            return Err(StateFault::Stream(CallFault::Cut));
         }
         let answer = self.caller.hear_operation();
-        self.pauses.heed(&answer);
-        self.follow_up(&answer);
+        let told = as_call(&answer);
+        self.pauses.heed(&told);
+        self.follow_up(&told);
         self.streaming = self.caller.is_streaming();
         answer
     }

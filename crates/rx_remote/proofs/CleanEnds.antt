@@ -25,14 +25,14 @@ use Rattle.rx_blobs.specs.declared.blob_fault.BlobFault.TheVariants as blobs
 use Rattle.rx_remote.specs.declared.asks.Ask.{Ask}
 use Rattle.rx_remote.specs.declared.asks.Ask.TheVariants.{End, Execute, Fetch, NextOperation, Upload}
 use Rattle.rx_remote.specs.declared.asks.Heard.{Heard}
-use Rattle.rx_remote.specs.declared.asks.Heard.TheVariants.{Begun, Blobs, Cached, Fault, Fetched, Next, Stopped, Told, Uploaded}
+use Rattle.rx_remote.specs.declared.asks.Heard.TheVariants.{Begun, Blobs, Cached, Fault, Fetched, Next, Over, Stopped, Told, Uploaded}
 use Rattle.rx_remote.specs.declared.marks.Found.{Found}
 use Rattle.rx_remote.specs.declared.marks.Marks.{Marks}
 use Rattle.rx_remote.specs.declared.phases.Phase.{Phase}
 use Rattle.rx_remote.specs.declared.phases.Phase.TheVariants as phases
 use Rattle.rx_remote.specs.declared.tasks.Task.{Task}
-use Rattle.rx_remote.specs.Faults.{has_code, is_no_memory}
-use Rattle.rx_remote.specs.History.{after_blobs, after_cached, after_fault, after_missing, after_next, after_range, after_response, again, asks_again, by_name, counts_as_miss, excludes, failed, blamed, done, fetch_again, finished, first_ask, judged, most_waits, next_of, skips, unless_asked_again, unless_blamed}
+use Rattle.rx_remote.specs.Faults.{has_code, is_no_memory, lacked_blobs}
+use Rattle.rx_remote.specs.History.{after_blobs, after_cached, after_fault, after_missing, after_next, after_over, after_range, after_response, again, asks_again, by_name, counts_as_miss, excludes, failed, blamed, done, fetch_again, finished, first_ask, judged, most_waits, next_of, run_again, runs_again, skips, unless_asked_again, unless_blamed}
 use Rattle.rx_remote.specs.Honest.{HasAgreed, IsHonestDone, IsHonestHistory}
 use Rattle.rx_remote.specs.Legal.{IsLegal}
 use Rattle.rx_remote.specs.Marks.{Turn, found_as, found_by, found_in_done, found_of, marks_of, origin_of, phase_of}
@@ -71,6 +71,7 @@ found-turn blob command outcome ask (Uploaded left_out) earlier h e = e
 found-turn blob command outcome ask Begun earlier h e = e
 found-turn blob command outcome ask (Fetched texts) earlier h e = e
 found-turn blob command outcome ask (Fault fault) earlier h e = e
+found-turn blob command outcome ask (Over code) earlier h e = e
 found-turn blob command outcome ask (Blobs fault) earlier h e = e
 found-turn blob command outcome ask (Stopped decision) earlier h e = e
 
@@ -131,6 +132,12 @@ fault-none task marks phase fault =
 missing-none : (marks : Marks) (phase : Phase) → NoDone (after_missing marks phase)
 unfolding after_missing
 missing-none marks phase = either-none (counts_as_miss marks phase) (Upload false) (failed (causes.CallFailed marks.faults)) (λ outcome d. cc d.1) (λ outcome d. cc d.1)
+
+pub over-none : (task : Task) (marks : Marks) (code : ℕ) → NoDone (after_over task marks code)
+unfolding after_over
+over-none task marks code =
+    either-none (runs_again marks code) (run_again task marks code) (failed (causes.CallFailed marks.faults))
+    (either-none (lacked_blobs code) (Upload true) (Execute (skips task marks)) (λ outcome d. cc d.1) (λ outcome d. cc d.1)) (λ outcome d. cc d.1)
 
 pub blobs-none : (task : Task) (marks : Marks) (phase : Phase) (fault : BlobFault) → NoDone (after_blobs task marks phase fault)
 blobs-none task marks phase (blobs.Call fault) outcome d = fault-none task marks phase fault outcome d
@@ -215,6 +222,8 @@ turn-clean tool blob task tree all ask (Fetched texts) earlier outcome l h d =
     (h.0 (map digest_of texts) l.1) d
 turn-clean tool blob task tree all ask (Fault fault) earlier outcome l h d =
     absurd (fault-none task (marks_of task.command (record { ask = ask; heard = Fault fault } ∷ earlier)) (phase_of ask) fault outcome d)
+turn-clean tool blob task tree all ask (Over code) earlier outcome l h d =
+    absurd (over-none task (marks_of task.command (record { ask = ask; heard = Over code } ∷ earlier)) code outcome d)
 turn-clean tool blob task tree all ask (Blobs fault) earlier outcome l h d =
     absurd (blobs-none task (marks_of task.command (record { ask = ask; heard = Blobs fault } ∷ earlier)) (phase_of ask) fault outcome d)
 turn-clean tool blob task tree all ask (Stopped decision) earlier outcome l h d = absurd (cc d.1)

@@ -3,7 +3,7 @@ use Rattle.std.proofs.Common.{◌≡◌, ◌≤◌, ℕ, ◌+◌, List, [], ◌�
 use Rattle.rx_world.specs.Causes.{Rose}
 use Rattle.rx_blobs.specs.declared.blob_fault.BlobFault.TheVariants as blobs
 use Rattle.rx_remote.specs.declared.asks.Heard.{Heard}
-use Rattle.rx_remote.specs.declared.asks.Heard.TheVariants.{Begun, Blobs, Cached, Fault, Fetched, Next, Stopped, Told, Uploaded}
+use Rattle.rx_remote.specs.declared.asks.Heard.TheVariants.{Begun, Blobs, Cached, Fault, Fetched, Next, Over, Stopped, Told, Uploaded}
 use Rattle.rx_world.specs.declared.call_faults.CallFault.{CallFault}
 use Rattle.rx_world.specs.declared.call_faults.CallFault.TheVariants as calls
 use Rattle.rx_remote.specs.Faults.{faults_after, with_fault}
@@ -34,6 +34,7 @@ rose-fault faults (calls.BlobRefused digest code) old now new r l c = rose-more 
 -- with one answer more
 pub rose-on : (faults : List CallFault) (heard : Heard) (old now new : ℕ) → RoseBy (length faults) old now → now ≤ new → IsCountedHeard now new heard → RoseBy (length (faults_after faults heard)) old new
 rose-on faults (Fault fault) old now new r l c = rose-fault faults fault old now new r l c
+rose-on faults (Over code) old now new r l c = rose-more faults (calls.Status code) old now new r c
 rose-on faults (Blobs (blobs.Call fault)) old now new r l c = rose-fault faults fault old now new r l (λ e. c)
 rose-on faults (Blobs (blobs.Missing digest)) old now new r l c = rose-more faults (calls.BlobRefused digest 5) old now new r c
 rose-on faults (Blobs (blobs.Refused digest code)) old now new r l c = rose-more faults (calls.BlobRefused digest code) old now new r c

@@ -16,14 +16,14 @@ use Rattle.rx_blobs.specs.declared.blob_fault.BlobFault.TheVariants as blobs
 use Rattle.rx_remote.specs.declared.asks.Ask.{Ask}
 use Rattle.rx_remote.specs.declared.asks.Ask.TheVariants.{Capabilities, End, Execute, Fetch, GetResult, NextOperation, Upload, Wait}
 use Rattle.rx_remote.specs.declared.asks.Heard.{Heard}
-use Rattle.rx_remote.specs.declared.asks.Heard.TheVariants.{Begun, Blobs, Cached, Fault, Fetched, Next, Stopped, Told, Uploaded}
+use Rattle.rx_remote.specs.declared.asks.Heard.TheVariants.{Begun, Blobs, Cached, Fault, Fetched, Next, Over, Stopped, Told, Uploaded}
 use Rattle.rx_remote.specs.declared.marks.Found.{Found}
 use Rattle.rx_remote.specs.declared.marks.Marks.{Marks}
 use Rattle.rx_remote.specs.declared.phases.Phase.{Phase}
 use Rattle.rx_remote.specs.declared.phases.Phase.TheVariants as phases
 use Rattle.rx_remote.specs.declared.tasks.Task.{Task}
-use Rattle.rx_remote.specs.Faults.{has_code, is_no_memory}
-use Rattle.rx_remote.specs.History.{after_cached, after_fault, after_missing, after_next, after_range, after_response, again, asks_again, by_name, counts_as_miss, excludes, failed, blamed, done, fetch_again, finished, first_ask, judged, most_waits, next_of, unless_asked_again, unless_blamed}
+use Rattle.rx_remote.specs.Faults.{has_code, is_no_memory, lacked_blobs}
+use Rattle.rx_remote.specs.History.{after_cached, after_fault, after_missing, after_next, after_over, after_range, after_response, again, asks_again, by_name, counts_as_miss, excludes, failed, blamed, done, fetch_again, finished, first_ask, judged, most_waits, next_of, run_again, runs_again, unless_asked_again, unless_blamed}
 use Rattle.rx_remote.specs.Legal.{IsLegal}
 use Rattle.rx_remote.specs.Marks.{Turn, found_as, found_by, found_in_done, found_of, marks_of, origin_of, phase_of}
 
@@ -102,6 +102,11 @@ missing-no : (marks : Marks) (phase : Phase) (digests : List Digest) → after_m
 unfolding after_missing
 missing-no marks phase digests e = either-no (counts_as_miss marks phase) _ _ digests (λ f. cc f) (λ f. cc f) e
 
+over-no : (task : Task) (marks : Marks) (code : ℕ) (digests : List Digest) → after_over task marks code ≡ Fetch digests → ⊥
+unfolding after_over
+over-no task marks code digests e =
+    either-no (runs_again marks code) _ _ digests (either-no (lacked_blobs code) _ _ digests (λ f. cc f) (λ f. cc f)) (λ f. cc f) e
+
 asked-fetch : (ask : Ask) → phase_of ask ≡ phases.Fetch → (ds : List Digest) × (ask ≡ Fetch ds)
 asked-fetch (Fetch ds) e = (ds, refl)
 asked-fetch Capabilities e = absurd (cc e)
@@ -157,6 +162,8 @@ turn-wants task ask (Fetched texts) earlier digests is before e = absurd (finish
 turn-wants task ask (Fault fault) earlier digests is before e =
     let marks = marks_of task.command (record { ask = ask; heard = Fault fault } ∷ earlier) in
     refetch task marks ask earlier digests is refl before (fault-fetch task marks (phase_of ask) fault digests e)
+turn-wants task ask (Over code) earlier digests is before e =
+    absurd (over-no task (marks_of task.command (record { ask = ask; heard = Over code } ∷ earlier)) code digests e)
 turn-wants task ask (Blobs (blobs.Call fault)) earlier digests is before e =
     let marks = marks_of task.command (record { ask = ask; heard = Blobs (blobs.Call fault) } ∷ earlier) in
     refetch task marks ask earlier digests is refl before (fault-fetch task marks (phase_of ask) fault digests e)

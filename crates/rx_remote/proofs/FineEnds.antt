@@ -16,7 +16,7 @@ use Rattle.rx_blobs.specs.Faults.{IsBadBlob}
 use Rattle.rx_remote.specs.declared.asks.Ask.{Ask}
 use Rattle.rx_remote.specs.declared.asks.Ask.TheVariants.{Fetch}
 use Rattle.rx_remote.specs.declared.asks.Heard.{Heard}
-use Rattle.rx_remote.specs.declared.asks.Heard.TheVariants.{Begun, Blobs, Cached, Fault, Fetched, Next, Stopped, Told, Uploaded}
+use Rattle.rx_remote.specs.declared.asks.Heard.TheVariants.{Begun, Blobs, Cached, Fault, Fetched, Next, Over, Stopped, Told, Uploaded}
 use Rattle.rx_remote.specs.declared.marks.Marks.{Marks}
 use Rattle.rx_remote.specs.declared.tasks.Task.{Task}
 use Rattle.rx_remote.specs.Fine.{IsFine}
@@ -26,7 +26,7 @@ use Rattle.rx_remote.specs.Marks.{Turn, found_as, found_of, marks_of, origin_of,
 use Rattle.rx_results.proofs.AgreementLemmas.{agrees-unspoiled}
 use Rattle.rx_remote.specs.Fine.{IsFineCause}
 use Rattle.rx_remote.specs.Reading.{BlobsGive}
-use Rattle.rx_remote.proofs.PlainEnds.{IsPlain, blobs-ends, either-ends, fault-ends, finished-ends, range-ends, spent-ends}
+use Rattle.rx_remote.proofs.PlainEnds.{IsPlain, blobs-ends, either-ends, fault-ends, finished-ends, over-ends, range-ends, spent-ends}
 
 plain : IsPlain IsFineCause
 plain = record {
@@ -78,6 +78,7 @@ turn-fine blob task outcome ask (Next operation) earlier h =
 turn-fine blob task outcome ask (Fetched texts) earlier h = finished-ends IsFineCause plain (found_of task.command earlier) texts
 turn-fine blob task outcome ask (Fault fault) earlier h =
     fault-ends IsFineCause plain task (marks_of task.command (record { ask = ask; heard = Fault fault } ∷ earlier)) (phase_of ask) fault
+turn-fine blob task outcome ask (Over code) earlier h = over-ends IsFineCause plain task (marks_of task.command (record { ask = ask; heard = Over code } ∷ earlier)) code
 turn-fine blob task outcome ask (Blobs fault) earlier h =
     blobs-ends IsFineCause plain task (marks_of task.command (record { ask = ask; heard = Blobs fault } ∷ earlier)) (phase_of ask) fault (fine-blobs fault h)
 turn-fine blob task outcome ask (Stopped decision) earlier h = tt

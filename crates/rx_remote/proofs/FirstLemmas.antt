@@ -13,7 +13,7 @@ use Rattle.rx_exec_messages.specs.declared.callers.Caller as callers
 use Rattle.rx_remote.specs.declared.asks.Ask.{Ask}
 use Rattle.rx_remote.specs.declared.asks.Ask.TheVariants.{Capabilities, End, Upload}
 use Rattle.rx_remote.specs.declared.asks.Heard.{Heard}
-use Rattle.rx_remote.specs.declared.asks.Heard.TheVariants.{Begun, Blobs, Cached, Fault, Fetched, Next, Stopped, Told, Uploaded}
+use Rattle.rx_remote.specs.declared.asks.Heard.TheVariants.{Begun, Blobs, Cached, Fault, Fetched, Next, Over, Stopped, Told, Uploaded}
 use Rattle.rx_remote.specs.declared.marks.Marks.{Marks}
 use Rattle.rx_remote.specs.declared.phases.Phase.TheVariants as phases
 use Rattle.rx_remote.specs.declared.states.RemoteState.{RemoteState}
@@ -68,6 +68,7 @@ first-same task (Next operation) earlier f none on = absurd (cc f)
 first-same task (Fetched texts) earlier f none on = absurd (cc f)
 first-same task (Fault fault) earlier f none on =
     same-fault task (marks_of task.command (record { ask = Capabilities; heard = Fault fault } ∷ earlier)) fault on
+first-same task (Over code) earlier f none on = absurd (cc f)
 first-same task (Blobs fault) earlier f none on = absurd f
 first-same task (Stopped decision) earlier f none on = absurd (on refl)
 
@@ -80,6 +81,7 @@ heard-told Begun told e = absurd (cc e)
 heard-told (Next operation) told e = absurd (cc e)
 heard-told (Fetched texts) told e = absurd (cc e)
 heard-told (Fault fault) told e = absurd (cc e)
+heard-told (Over code) told e = absurd (cc e)
 heard-told (Blobs fault) told e = absurd (cc e)
 heard-told (Stopped decision) told e = absurd (cc e)
 

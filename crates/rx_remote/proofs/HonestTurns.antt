@@ -6,7 +6,7 @@ use Rattle.rx_exec_messages.specs.Calls.{IsNamedFor}
 use Rattle.rx_remote.specs.declared.asks.Ask.{Ask}
 use Rattle.rx_remote.specs.declared.asks.Ask.TheVariants.{Capabilities, End, Execute, Fetch, GetResult, NextOperation, Upload, Wait}
 use Rattle.rx_remote.specs.declared.asks.Heard.{Heard}
-use Rattle.rx_remote.specs.declared.asks.Heard.TheVariants.{Begun, Blobs, Cached, Fault, Fetched, Next, Stopped, Told, Uploaded}
+use Rattle.rx_remote.specs.declared.asks.Heard.TheVariants.{Begun, Blobs, Cached, Fault, Fetched, Next, Over, Stopped, Told, Uploaded}
 use Rattle.rx_remote.specs.declared.phases.Phase.{Phase}
 use Rattle.rx_remote.specs.declared.phases.Phase.TheVariants as phases
 use Rattle.rx_remote.specs.declared.states.RemoteState.{RemoteState}
@@ -64,6 +64,7 @@ named-turn operation action running ask (Uploaded left_out) earlier all fits run
 named-turn operation action running ask Begun earlier all fits runs names n = named-since operation action (phase_of ask) (name_of earlier) n
 named-turn operation action running ask (Fetched texts) earlier all fits runs names n = named-since operation action (phase_of ask) (name_of earlier) n
 named-turn operation action running ask (Fault fault) earlier all fits runs names n = named-since operation action (phase_of ask) (name_of earlier) n
+named-turn operation action running ask (Over code) earlier all fits runs names n = named-since operation action (phase_of ask) (name_of earlier) n
 named-turn operation action running ask (Blobs fault) earlier all fits runs names n = named-since operation action (phase_of ask) (name_of earlier) n
 named-turn operation action running ask (Stopped decision) earlier all fits runs names n = named-since operation action (phase_of ask) (name_of earlier) n
 
@@ -95,6 +96,7 @@ turn-runs task operation action old new ask (Cached result) history all on fits 
 turn-runs task operation action old new ask (Uploaded left_out) history all on fits is named before r u = absurd u
 turn-runs task operation action old new ask (Fetched texts) history all on fits is named before r u = absurd u
 turn-runs task operation action old new ask (Fault fault) history all on fits is named before r u = absurd u
+turn-runs task operation action old new ask (Over code) history all on fits is named before r u = absurd u
 turn-runs task operation action old new ask (Blobs fault) history all on fits is named before r u = absurd u
 turn-runs task operation action old new ask (Stopped decision) history all on fits is named before r u = absurd u
 

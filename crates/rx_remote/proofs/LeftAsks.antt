@@ -23,14 +23,14 @@ use Rattle.rx_blobs.specs.declared.blob_fault.BlobFault.TheVariants as blobs
 use Rattle.rx_remote.specs.declared.asks.Ask.{Ask}
 use Rattle.rx_remote.specs.declared.asks.Ask.TheVariants.{Capabilities, End, Execute, Fetch, GetResult, NextOperation, Upload, Wait}
 use Rattle.rx_remote.specs.declared.asks.Heard.{Heard}
-use Rattle.rx_remote.specs.declared.asks.Heard.TheVariants.{Begun, Blobs, Cached, Fault, Fetched, Next, Stopped, Told, Uploaded}
+use Rattle.rx_remote.specs.declared.asks.Heard.TheVariants.{Begun, Blobs, Cached, Fault, Fetched, Next, Over, Stopped, Told, Uploaded}
 use Rattle.rx_remote.specs.declared.marks.Found.{Found}
 use Rattle.rx_remote.specs.declared.marks.Marks.{Marks}
 use Rattle.rx_remote.specs.declared.phases.Phase.{Phase}
 use Rattle.rx_remote.specs.declared.phases.Phase.TheVariants as phases
 use Rattle.rx_remote.specs.declared.tasks.Task.{Task}
-use Rattle.rx_remote.specs.Faults.{has_code, is_no_memory}
-use Rattle.rx_remote.specs.History.{after_blobs, after_cached, after_fault, after_missing, after_next, after_range, after_response, again, asks_again, blamed, by_name, counts_as_miss, done, excludes, failed, fetch_again, finished, first_ask, judged, most_waits, next_of, skips, unless_asked_again, unless_blamed}
+use Rattle.rx_remote.specs.Faults.{has_code, is_no_memory, lacked_blobs}
+use Rattle.rx_remote.specs.History.{after_blobs, after_cached, after_fault, after_missing, after_next, after_over, after_range, after_response, again, asks_again, blamed, by_name, counts_as_miss, done, excludes, failed, fetch_again, finished, first_ask, judged, most_waits, next_of, run_again, runs_again, skips, unless_asked_again, unless_blamed}
 use Rattle.rx_remote.specs.Marks.{Turn, found_as, found_of, marks_of, name_of, origin_of, phase_of}
 use Rattle.rx_remote.specs.Turns.{IsLater, IsOther, IsUnderWay}
 
@@ -92,6 +92,13 @@ missing-left : (P : Ask → Type 0) → Allows P → (marks : Marks) (phase : Ph
 unfolding after_missing
 missing-left P allows marks phase =
     either-left P (counts_as_miss marks phase) (Upload false) (failed (causes.CallFailed marks.faults)) (allows.upload false) (fails P allows (causes.CallFailed marks.faults))
+
+over-left : (P : Ask → Type 0) → Allows P → (task : Task) (marks : Marks) (code : ℕ) → P (after_over task marks code)
+unfolding after_over
+over-left P allows task marks code =
+    either-left P (runs_again marks code) (run_again task marks code) (failed (causes.CallFailed marks.faults))
+    (either-left P (lacked_blobs code) (Upload true) (Execute (skips task marks)) (allows.upload true) (allows.execute (skips task marks)))
+    (fails P allows (causes.CallFailed marks.faults))
 
 -- ---- which turns leave the next operation, and a wait
 
@@ -160,6 +167,7 @@ turn-leaves task ask Begun earlier = inl (tt, refl)
 turn-leaves task ask (Next operation) earlier = next-leaves task (marks_of task.command (record { ask = ask; heard = Next operation } ∷ earlier)) operation.done
 turn-leaves task ask (Fetched texts) earlier = inr (inl (finished-left IsOther other (found_of task.command earlier) texts))
 turn-leaves task ask (Fault fault) earlier = inr (fault-name task (marks_of task.command (record { ask = ask; heard = Fault fault } ∷ earlier)) (phase_of ask) fault)
+turn-leaves task ask (Over code) earlier = inr (inl (over-left IsOther other task (marks_of task.command (record { ask = ask; heard = Over code } ∷ earlier)) code))
 turn-leaves task ask (Blobs fault) earlier = inr (blobs-name task (marks_of task.command (record { ask = ask; heard = Blobs fault } ∷ earlier)) (phase_of ask) fault)
 turn-leaves task ask (Stopped decision) earlier = inr (inl tt)
 
@@ -246,6 +254,7 @@ turn-later task ask Begun earlier l = tt
 turn-later task ask (Next operation) earlier l = next-later task (marks_of task.command (record { ask = ask; heard = Next operation } ∷ earlier)) operation.done
 turn-later task ask (Fetched texts) earlier l = finished-left IsLater later (found_of task.command earlier) texts
 turn-later task ask (Fault fault) earlier l = fault-later task (marks_of task.command (record { ask = ask; heard = Fault fault } ∷ earlier)) ask fault l
+turn-later task ask (Over code) earlier l = over-left IsLater later task (marks_of task.command (record { ask = ask; heard = Over code } ∷ earlier)) code
 turn-later task ask (Blobs fault) earlier l = blobs-later task (marks_of task.command (record { ask = ask; heard = Blobs fault } ∷ earlier)) ask fault l
 turn-later task ask (Stopped decision) earlier l = tt
 

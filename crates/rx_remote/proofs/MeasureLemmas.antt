@@ -18,14 +18,14 @@ use Rattle.rx_blobs.specs.declared.blob_fault.BlobFault.TheVariants as blobs
 use Rattle.rx_remote.specs.declared.asks.Ask.{Ask}
 use Rattle.rx_remote.specs.declared.asks.Ask.TheVariants.{Capabilities, End, Execute, Fetch, GetResult, NextOperation, Upload, Wait}
 use Rattle.rx_remote.specs.declared.asks.Heard.{Heard}
-use Rattle.rx_remote.specs.declared.asks.Heard.TheVariants.{Begun, Blobs, Cached, Fault, Fetched, Next, Stopped, Told, Uploaded}
+use Rattle.rx_remote.specs.declared.asks.Heard.TheVariants.{Begun, Blobs, Cached, Fault, Fetched, Next, Over, Stopped, Told, Uploaded}
 use Rattle.rx_remote.specs.declared.marks.Found.{Found}
 use Rattle.rx_remote.specs.declared.marks.Marks.{Marks}
 use Rattle.rx_remote.specs.declared.phases.Phase.{Phase}
 use Rattle.rx_remote.specs.declared.phases.Phase.TheVariants as phases
 use Rattle.rx_remote.specs.declared.tasks.Task.{Task}
 use Rattle.rx_remote.specs.Faults.{faults_after, is_no_memory, with_fault}
-use Rattle.rx_remote.specs.History.{after, after_cached, after_fault, after_missing, after_next, after_range, after_response, asks_again, blamed, counts_as_miss, done, excludes, failed, finished, first_ask, judged, most_waits, next_of, unless_asked_again, unless_blamed}
+use Rattle.rx_remote.specs.History.{after, after_cached, after_fault, after_missing, after_next, after_over, after_range, after_response, asks_again, blamed, counts_as_miss, done, excludes, failed, finished, first_ask, judged, most_waits, next_of, run_again, runs_again, unless_asked_again, unless_blamed}
 use Rattle.rx_remote.specs.Legal.{Fits, IsCall, IsLegal, IsOfBlobs}
 use Rattle.rx_remote.specs.Marks.{Turn, faults_of, found_as, marks_after, marks_of, marks_since, one_more, origin_of, phase_of}
 use Rattle.rx_remote.specs.Measure.{rank, turns_left}
@@ -127,6 +127,14 @@ missing-few : (marks : Marks) (phase : Phase) → phase_of (after_missing marks 
 unfolding after_missing
 missing-few marks phase on = few (length marks.faults) _ (missing-by marks phase (counts_as_miss marks phase) on)
 
+over-by : (task : Task) (marks : Marks) (code : ℕ) (b : Bool) → phase_of (cond b (run_again task marks code) (failed (causes.CallFailed marks.faults))) ≢ phases.Ended → b ≡ true
+over-by task marks code true on = refl
+over-by task marks code false on = absurd (on refl)
+
+over-few : (task : Task) (marks : Marks) (code : ℕ) → phase_of (after_over task marks code) ≢ phases.Ended → length marks.faults < 4
+unfolding after_over
+over-few task marks code on = few (length marks.faults) _ (over-by task marks code (runs_again marks code) on)
+
 -- ---- turns
 
 abbrev Lowers : Task → Marks → Ask → Heard → Type 0
@@ -188,6 +196,9 @@ turn-lowers task all marks ask (Fault fault) fits on =
     let new = marks_after task.command (marks_since marks (phase_of ask)) (Fault fault) in
     let few = fault-few task new (phase_of ask) fault on in
     fault-lowers marks new (phase_of ask) (phase_of (after_fault task new (phase_of ask) fault)) refl (with-longer marks.faults fault few.0) few.1
+turn-lowers task all marks ask (Over code) fits on =
+    let new = marks_after task.command (marks_since marks (phase_of ask)) (Over code) in
+    fault-lowers marks new (phase_of ask) (phase_of (after_over task new code)) refl (longer marks.faults (calls.Status code)) (over-few task new code on)
 turn-lowers task all marks ask (Blobs (blobs.Call fault)) fits on =
     let new = marks_after task.command (marks_since marks (phase_of ask)) (Blobs (blobs.Call fault)) in
     let few = fault-few task new (phase_of ask) fault on in
@@ -218,6 +229,7 @@ asked-on all ask Begun f e = let was = begun-rank ask f in let now = ap rank e i
 asked-on all ask (Next operation) f e = cc (sym (ap phase_of f) ∙ e)
 asked-on all ask (Fetched texts) f e = cc (sym (ap phase_of f) ∙ e)
 asked-on all ask (Fault fault) f e = subst IsCall e f
+asked-on all ask (Over code) f e = cc (sym (ap phase_of f) ∙ e)
 asked-on all ask (Blobs fault) f e = subst IsOfBlobs e f
 asked-on all ask (Stopped decision) f e = f e
 
@@ -231,6 +243,7 @@ turn-few task ask (Next operation) earlier few on = few
 turn-few task ask (Fetched texts) earlier few on = few
 turn-few task ask (Fault fault) earlier few on =
     (fault-few task (marks_of task.command (record { ask = ask; heard = Fault fault } ∷ earlier)) (phase_of ask) fault on).1
+turn-few task ask (Over code) earlier few on = over-few task (marks_of task.command (record { ask = ask; heard = Over code } ∷ earlier)) code on
 turn-few task ask (Blobs (blobs.Call fault)) earlier few on =
     (fault-few task (marks_of task.command (record { ask = ask; heard = Blobs (blobs.Call fault) } ∷ earlier)) (phase_of ask) fault on).1
 turn-few task ask (Blobs (blobs.Missing digest)) earlier few on =
@@ -269,6 +282,7 @@ heard-one faults Begun = omega arith
 heard-one faults (Next operation) = omega arith
 heard-one faults (Fetched texts) = omega arith
 heard-one faults (Fault fault) = with-one faults fault (is_no_memory fault) refl
+heard-one faults (Over code) = let n = longer faults (calls.Status code) in omega arith
 heard-one faults (Blobs (blobs.Call fault)) = with-one faults fault (is_no_memory fault) refl
 heard-one faults (Blobs (blobs.Missing digest)) = let n = longer faults (calls.BlobRefused digest 5) in omega arith
 heard-one faults (Blobs (blobs.Refused digest code)) = let n = longer faults (calls.BlobRefused digest code) in omega arith

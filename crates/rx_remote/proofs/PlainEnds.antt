@@ -13,9 +13,9 @@ use Rattle.rx_remote.specs.declared.marks.Marks.{Marks}
 use Rattle.rx_remote.specs.declared.phases.Phase.{Phase}
 use Rattle.rx_remote.specs.declared.phases.Phase.TheVariants as phases
 use Rattle.rx_remote.specs.declared.tasks.Task.{Task}
-use Rattle.rx_remote.specs.Faults.{has_code, is_no_memory}
+use Rattle.rx_remote.specs.Faults.{has_code, is_no_memory, lacked_blobs}
 use Rattle.rx_remote.specs.Fine.{IfEnded}
-use Rattle.rx_remote.specs.History.{after_blobs, after_fault, after_missing, after_range, again, asks_again, by_name, counts_as_miss, excludes, failed, fetch_again, finished, first_ask, most_waits, next_or_spent, skips, unless_asked_again}
+use Rattle.rx_remote.specs.History.{after_blobs, after_fault, after_missing, after_over, after_range, again, asks_again, by_name, counts_as_miss, excludes, failed, fetch_again, finished, first_ask, most_waits, next_or_spent, run_again, runs_again, skips, unless_asked_again}
 use Rattle.rx_world.specs.declared.remote_causes.RemoteCause.{RemoteCause}
 use Rattle.rx_remote.specs.Reading.{BlobsGive}
 
@@ -55,32 +55,49 @@ refetch-ends : (P : RemoteCause → Type 0) (found : Option Found) → IfEnded P
 refetch-ends P None = tt
 refetch-ends P (Some f) = tt
 
-again-ends : (P : RemoteCause → Type 0) → IsPlain P → (task : Task) (marks : Marks) (phase : Phase) (fault : CallFault) → IfEnded P (again task marks phase fault)
-again-ends P plain task marks phases.Capabilities fault = tt
-again-ends P plain task marks phases.GetResult fault = tt
-again-ends P plain task marks (phases.Upload fresh) fault = tt
-again-ends P plain task marks phases.Execute fault = either-ends P (has_code 9 fault) (Upload true) (Execute (skips task marks)) tt tt
-again-ends P plain task marks phases.NextOperation fault =
+again-ends : (P : RemoteCause → Type 0) → P causes.NoMemory → (task : Task) (marks : Marks) (phase : Phase) (fault : CallFault) → IfEnded P (again task marks phase fault)
+again-ends P memory task marks phases.Capabilities fault = tt
+again-ends P memory task marks phases.GetResult fault = tt
+again-ends P memory task marks (phases.Upload fresh) fault = tt
+again-ends P memory task marks phases.Execute fault = either-ends P (has_code 9 fault) (Upload true) (Execute (skips task marks)) tt tt
+again-ends P memory task marks phases.NextOperation fault =
     either-ends P (has_code 9 fault) (Upload true) (by_name task marks marks.name) tt (name-ends P task marks marks.name)
-again-ends P plain task marks phases.Wait fault =
+again-ends P memory task marks phases.Wait fault =
     either-ends P (has_code 5 fault) (Execute (skips task marks)) (by_name task marks marks.name) tt (name-ends P task marks marks.name)
-again-ends P plain task marks phases.Fetch fault = refetch-ends P marks.found
-again-ends P plain task marks phases.Ended fault = plain.memory
+again-ends P memory task marks phases.Fetch fault = refetch-ends P marks.found
+again-ends P memory task marks phases.Ended fault = memory
 
-unless-ends : (P : RemoteCause → Type 0) → IsPlain P → (task : Task) (marks : Marks) (phase : Phase) (fault : CallFault) (b : Bool) →
+-- of the calls that failed, an end tells the list of the marks
+unless-by : (P : RemoteCause → Type 0) (task : Task) (marks : Marks) (phase : Phase) (fault : CallFault) (b : Bool) → P causes.NoMemory → P (causes.CallFailed marks.faults) →
     IfEnded P (unless_asked_again task marks phase fault b)
-unless-ends P plain task marks phase fault true = again-ends P plain task marks phase fault
-unless-ends P plain task marks phase fault false = plain.calls marks.faults
+unless-by P task marks phase fault true memory calls = again-ends P memory task marks phase fault
+unless-by P task marks phase fault false memory calls = calls
+
+pub fault-by : (P : RemoteCause → Type 0) (task : Task) (marks : Marks) (phase : Phase) (fault : CallFault) → P causes.NoMemory → P (causes.CallFailed marks.faults) →
+    IfEnded P (after_fault task marks phase fault)
+unfolding after_fault
+fault-by P task marks phase fault memory calls =
+    either-ends P (is_no_memory fault) (failed causes.NoMemory) (unless_asked_again task marks phase fault (asks_again marks phase fault)) memory
+    (unless-by P task marks phase fault (asks_again marks phase fault) memory calls)
+
+pub over-by : (P : RemoteCause → Type 0) (task : Task) (marks : Marks) (code : ℕ) → P (causes.CallFailed marks.faults) → IfEnded P (after_over task marks code)
+unfolding after_over
+over-by P task marks code calls =
+    either-ends P (runs_again marks code) (run_again task marks code) (failed (causes.CallFailed marks.faults))
+    (either-ends P (lacked_blobs code) (Upload true) (Execute (skips task marks)) tt tt) calls
+
+pub missing-by : (P : RemoteCause → Type 0) (marks : Marks) (phase : Phase) → P (causes.CallFailed marks.faults) → IfEnded P (after_missing marks phase)
+unfolding after_missing
+missing-by P marks phase calls = either-ends P (counts_as_miss marks phase) (Upload false) (failed (causes.CallFailed marks.faults)) tt calls
 
 pub fault-ends : (P : RemoteCause → Type 0) → IsPlain P → (task : Task) (marks : Marks) (phase : Phase) (fault : CallFault) → IfEnded P (after_fault task marks phase fault)
-unfolding after_fault
-fault-ends P plain task marks phase fault =
-    either-ends P (is_no_memory fault) (failed causes.NoMemory) (unless_asked_again task marks phase fault (asks_again marks phase fault)) plain.memory
-    (unless-ends P plain task marks phase fault (asks_again marks phase fault))
+fault-ends P plain task marks phase fault = fault-by P task marks phase fault plain.memory (plain.calls marks.faults)
 
-pub missing-ends : (P : RemoteCause → Type 0) → IsPlain P → (marks : Marks) (phase : Phase) → IfEnded P (after_missing marks phase)
-unfolding after_missing
-missing-ends P plain marks phase = either-ends P (counts_as_miss marks phase) (Upload false) (failed (causes.CallFailed marks.faults)) tt (plain.calls marks.faults)
+pub over-ends : (P : RemoteCause → Type 0) → IsPlain P → (task : Task) (marks : Marks) (code : ℕ) → IfEnded P (after_over task marks code)
+over-ends P plain task marks code = over-by P task marks code (plain.calls marks.faults)
+
+missing-ends : (P : RemoteCause → Type 0) → IsPlain P → (marks : Marks) (phase : Phase) → IfEnded P (after_missing marks phase)
+missing-ends P plain marks phase = missing-by P marks phase (plain.calls marks.faults)
 
 -- of an upload or a fetch that failed
 pub blobs-ends : (P : RemoteCause → Type 0) → IsPlain P → (task : Task) (marks : Marks) (phase : Phase) (fault : BlobFault) → BlobsGive P fault →

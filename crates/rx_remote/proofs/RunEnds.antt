@@ -20,11 +20,12 @@ use Rattle.rx_exec_messages.specs.Exchanged.{HasExchanged}
 use Rattle.rx_remote.specs.declared.asks.Ask.{Ask}
 use Rattle.rx_remote.specs.declared.asks.Ask.TheVariants.{Capabilities as AskOfFarm, End}
 use Rattle.rx_remote.specs.declared.asks.Heard.{Heard}
-use Rattle.rx_remote.specs.declared.asks.Heard.TheVariants.{Begun, Blobs, Cached, Fault, Fetched, Next, Stopped, Told, Uploaded}
+use Rattle.rx_remote.specs.declared.asks.Heard.TheVariants.{Begun, Blobs, Cached, Fault, Fetched, Next, Over, Stopped, Told, Uploaded}
 use Rattle.rx_remote.specs.declared.states.RemoteState.{RemoteState}
 use Rattle.rx_remote.specs.declared.tasks.Task.{Task}
 use Rattle.rx_remote.specs.declared.turns.Going.{Going}
 use Rattle.rx_remote.specs.Actions.{Work}
+use Rattle.rx_remote.specs.Ends.{ListsFault}
 use Rattle.rx_remote.specs.Fine.{IsEndOf, IsFine, IsFineCause, IsSoundOutcome}
 use Rattle.rx_remote.specs.Grown.{Grew}
 use Rattle.rx_remote.specs.History.{next_of}
@@ -34,6 +35,7 @@ use Rattle.rx_remote.specs.Measure.{turns_left}
 use Rattle.rx_remote.specs.Runs.{EndsEarly, EndsEarlyOr, EndsUnder, HasRun, HasTold, IsEnded, IsRightEnd, IsUnder, blobs_under, dialect_after, dialect_told, key_under, task_of}
 use Rattle.rx_remote.specs.States.{IsStep}
 use Rattle.rx_remote.specs.Turns.{IsLater, IsTurn}
+use Rattle.rx_remote.proofs.CallEnds.{end-lists}
 use Rattle.rx_remote.proofs.CleanEnds.{done-clean}
 use Rattle.rx_remote.proofs.FineEnds.{honest-fine}
 use Rattle.rx_remote.proofs.LeftAsks.{turn-later}
@@ -56,6 +58,7 @@ told-stays stored dialect ask Begun l f = refl
 told-stays stored dialect ask (Next operation) l f = refl
 told-stays stored dialect ask (Fetched texts) l f = refl
 told-stays stored dialect ask (Fault fault) l f = refl
+told-stays stored dialect ask (Over code) l f = refl
 told-stays stored dialect ask (Blobs fault) l f = refl
 told-stays stored dialect ask (Stopped decision) l f = refl
 
@@ -122,6 +125,7 @@ memory-run w c work old new end e = record {
   ended = inl e;
   right = λ tree g v. memory-right w.tool work.command tree end e;
   sound = λ outcome origin is. absurd (cc (sym e ∙ is));
+  listed = subst (IsEndOf ListsFault) (sym e) tt;
 }
 
 -- an attempt that ended early
@@ -148,6 +152,7 @@ early-run w c work old new end h =
           let own = (key_under work (c.dialect old)).digest in
           ended-right w c own stored (task_of work) old new h.history end tree (h.ended own stored) g v;
       sound = ended-sound w c (key_under work dialect).digest stored (task_of work) old new h.history end e;
+      listed = end-lists (task_of work) h.history end e.leaves;
     }
 
 pub early-or : {C W : Type 0} (w : world.Ghosts W) (c : callers.Ghosts C W) (work : Work) (old new : C) (end : AnyEnd Outcome RemoteCause) →
@@ -174,6 +179,7 @@ under-run w c work old new dialect stored end members once own h = record {
   right = λ tree g v. ended-right w c (key_under work dialect).digest stored (task_of work) old new h.history end tree h.ended g
       (subst (λ (d : Dialect). c.vouches old (key_under work d).digest work.command (w.tool work.command tree)) (sym (own g)) v);
   sound = ended-sound w c (key_under work dialect).digest stored (task_of work) old new h.history end h.ended;
+  listed = end-lists (task_of work) h.history end h.ended.leaves;
 }
 
 pub under-or : {C W : Type 0} (w : world.Ghosts W) (c : callers.Ghosts C W) (work : Work) (old new : C) (dialect : Dialect) (action : Digest) (stored : List Digest)

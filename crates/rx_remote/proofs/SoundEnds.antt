@@ -19,7 +19,7 @@ use Rattle.rx_results.specs.Results.{fault_of, spoiled_of, wanted_of}
 use Rattle.rx_remote.specs.declared.asks.Ask.{Ask}
 use Rattle.rx_remote.specs.declared.asks.Ask.TheVariants.{End, Fetch, NextOperation}
 use Rattle.rx_remote.specs.declared.asks.Heard.{Heard}
-use Rattle.rx_remote.specs.declared.asks.Heard.TheVariants.{Begun, Blobs, Cached, Fault, Fetched, Next, Stopped, Told, Uploaded}
+use Rattle.rx_remote.specs.declared.asks.Heard.TheVariants.{Begun, Blobs, Cached, Fault, Fetched, Next, Over, Stopped, Told, Uploaded}
 use Rattle.rx_remote.specs.declared.marks.Found.{Found}
 use Rattle.rx_remote.specs.declared.marks.Marks.{Marks}
 use Rattle.rx_remote.specs.declared.tasks.Task.{Task}
@@ -32,7 +32,7 @@ use Rattle.rx_results.proofs.LimitLemmas.{outcome-limits}
 use Rattle.rx_results.proofs.OutcomeLemmas.{outcome-proper}
 use Rattle.rx_remote.specs.Fine.{IsSoundOutcome}
 use Rattle.rx_remote.specs.History.{blamed_on}
-use Rattle.rx_remote.proofs.CleanEnds.{IsDone, blobs-none, either-none, fault-none, no_digests, outcome-is, range-none}
+use Rattle.rx_remote.proofs.CleanEnds.{IsDone, blobs-none, either-none, fault-none, no_digests, outcome-is, over-none, range-none}
 use Rattle.rx_remote.proofs.Fetching.{IsUnblamed, Wants, fetch-wants}
 
 -- ---- a result with which nothing is wrong
@@ -110,6 +110,8 @@ turn-sound task all ask (Fetched texts) earlier outcome l d =
     finished-sound task.command (found_of task.command earlier) texts outcome (fetch-wants task all earlier l.2 (map digest_of texts) (sym l.0 ∙ l.1)) d
 turn-sound task all ask (Fault fault) earlier outcome l d =
     absurd (fault-none task (marks_of task.command (record { ask = ask; heard = Fault fault } ∷ earlier)) (phase_of ask) fault outcome d)
+turn-sound task all ask (Over code) earlier outcome l d =
+    absurd (over-none task (marks_of task.command (record { ask = ask; heard = Over code } ∷ earlier)) code outcome d)
 turn-sound task all ask (Blobs fault) earlier outcome l d =
     absurd (blobs-none task (marks_of task.command (record { ask = ask; heard = Blobs fault } ∷ earlier)) (phase_of ask) fault outcome d)
 turn-sound task all ask (Stopped decision) earlier outcome l d = absurd (cc d.1)

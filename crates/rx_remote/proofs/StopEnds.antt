@@ -20,7 +20,7 @@ use Rattle.rx_blobs.specs.declared.blob_fault.BlobFault.TheVariants as blobs
 use Rattle.rx_remote.specs.declared.asks.Ask.{Ask}
 use Rattle.rx_remote.specs.declared.asks.Ask.TheVariants.{Capabilities, End, Execute, Fetch, GetResult, NextOperation, Upload, Wait}
 use Rattle.rx_remote.specs.declared.asks.Heard.{Heard}
-use Rattle.rx_remote.specs.declared.asks.Heard.TheVariants.{Begun, Blobs, Cached, Fault, Fetched, Next, Stopped, Told, Uploaded}
+use Rattle.rx_remote.specs.declared.asks.Heard.TheVariants.{Begun, Blobs, Cached, Fault, Fetched, Next, Over, Stopped, Told, Uploaded}
 use Rattle.rx_remote.specs.declared.marks.Found.{Found}
 use Rattle.rx_remote.specs.declared.marks.Marks.{Marks}
 use Rattle.rx_remote.specs.declared.tasks.Task.{Task}
@@ -29,7 +29,7 @@ use Rattle.rx_remote.specs.Fine.{IfEnded}
 use Rattle.rx_remote.specs.History.{after_cached, after_next, after_response, blamed_on, done, failed, judged, next_of, unless_blamed}
 use Rattle.rx_remote.specs.Marks.{Turn, found_as, found_of, marks_of, origin_of, phase_of}
 use Rattle.rx_remote.specs.Reading.{BlobsGive, HeardGives}
-use Rattle.rx_remote.proofs.PlainEnds.{IsPlain, blobs-ends, either-ends, fault-ends, finished-ends, range-ends, spent-ends}
+use Rattle.rx_remote.proofs.PlainEnds.{IsPlain, blobs-ends, either-ends, fault-ends, finished-ends, over-ends, range-ends, spent-ends}
 
 -- every cause that is the farm's may come
 pub record IsFarms (P : RemoteCause → Type 0) : Type 0 where
@@ -72,6 +72,7 @@ heard-ends P farms task ask (Next operation) earlier given =
 heard-ends P farms task ask (Fetched texts) earlier given = finished-ends P farms.plain (found_of task.command earlier) texts
 heard-ends P farms task ask (Fault fault) earlier given =
     fault-ends P farms.plain task (marks_of task.command (record { ask = ask; heard = Fault fault } ∷ earlier)) (phase_of ask) fault
+heard-ends P farms task ask (Over code) earlier given = over-ends P farms.plain task (marks_of task.command (record { ask = ask; heard = Over code } ∷ earlier)) code
 heard-ends P farms task ask (Blobs fault) earlier given =
     blobs-ends P farms.plain task (marks_of task.command (record { ask = ask; heard = Blobs fault } ∷ earlier)) (phase_of ask) fault given
 heard-ends P farms task ask (Stopped decision) earlier given = given
@@ -116,6 +117,7 @@ heard-stop Begun = tt
 heard-stop (Next operation) = tt
 heard-stop (Fetched texts) = tt
 heard-stop (Fault fault) = tt
+heard-stop (Over code) = tt
 
 -- The decision of a stop is the one that was heard last.
 pub stop-heard : (task : Task) (ask : Ask) (heard : Heard) (earlier : List Turn) (decision : Decision) →

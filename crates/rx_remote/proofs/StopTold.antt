@@ -13,7 +13,7 @@ use Rattle.rx_blobs.specs.declared.blob_fault.BlobFault.TheVariants as blobs
 use Rattle.rx_remote.specs.declared.asks.Ask.{Ask}
 use Rattle.rx_remote.specs.declared.asks.Ask.TheVariants.{End}
 use Rattle.rx_remote.specs.declared.asks.Heard.{Heard}
-use Rattle.rx_remote.specs.declared.asks.Heard.TheVariants.{Begun, Blobs, Cached, Fault, Fetched, Next, Stopped, Told, Uploaded}
+use Rattle.rx_remote.specs.declared.asks.Heard.TheVariants.{Begun, Blobs, Cached, Fault, Fetched, Next, Over, Stopped, Told, Uploaded}
 use Rattle.rx_remote.specs.declared.phases.Phase.TheVariants as phases
 use Rattle.rx_remote.specs.declared.tasks.Task.{Task}
 use Rattle.rx_remote.specs.Ends.{StopTells, StopTellsCause, StopTellsEnd, stop_heard}
@@ -36,6 +36,7 @@ never-stop files answers before now Begun own = refl
 never-stop files answers before now (Next operation) own = refl
 never-stop files answers before now (Fetched texts) own = refl
 never-stop files answers before now (Fault fault) own = refl
+never-stop files answers before now (Over code) own = refl
 never-stop files answers before now (Blobs fault) own = refl
 
 pub quiet-never : (heard : Heard) → IsQuiet heard → stop_heard heard ≡ None
@@ -91,6 +92,7 @@ end-tells before now task ask Begun earlier end same e = answer-tells before now
 end-tells before now task ask (Next operation) earlier end same e = answer-tells before now task ask (Next operation) earlier end same tt e
 end-tells before now task ask (Fetched texts) earlier end same e = answer-tells before now task ask (Fetched texts) earlier end same tt e
 end-tells before now task ask (Fault fault) earlier end same e = answer-tells before now task ask (Fault fault) earlier end same tt e
+end-tells before now task ask (Over code) earlier end same e = answer-tells before now task ask (Over code) earlier end same tt e
 end-tells before now task ask (Blobs fault) earlier end same e =
     answer-tells before now task ask (Blobs fault) earlier end same (blobs-tell before now fault same) e
 
@@ -105,6 +107,7 @@ on-tells before now task ask Begun earlier same on = same
 on-tells before now task ask (Next operation) earlier same on = same
 on-tells before now task ask (Fetched texts) earlier same on = same
 on-tells before now task ask (Fault fault) earlier same on = same
+on-tells before now task ask (Over code) earlier same on = same
 on-tells before now task ask (Blobs fault) earlier same on = same
 
 -- an end after asks that changed nothing of what the stop tells

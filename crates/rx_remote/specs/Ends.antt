@@ -1,5 +1,5 @@
--- The end that an ask is, and the decision of a race, where an attempt heard of it.
-use Rattle.std.specs.Prelude.{◌≡◌, Option, None, Some}
+-- The end that an ask is, the decision of a race, where an attempt heard of it, and the calls that failed.
+use Rattle.std.specs.Prelude.{◌≡◌, ◌≤◌, length, Option, None, Some}
 use Rattle.rx_world.specs.declared.attempts.End.{End}
 use Rattle.rx_world.specs.declared.attempts.End.TheVariants as ends
 use Rattle.rx_world.specs.declared.decisions.Decision.{Decision}
@@ -10,7 +10,7 @@ use Rattle.rx_world.specs.Decisions.{StopsBy}
 use Rattle.rx_remote.specs.declared.asks.Ask.{Ask}
 use Rattle.rx_remote.specs.declared.asks.Ask.TheVariants.{Capabilities, End as Ends, Execute, Fetch, GetResult, NextOperation, Upload, Wait}
 use Rattle.rx_remote.specs.declared.asks.Heard.{Heard}
-use Rattle.rx_remote.specs.declared.asks.Heard.TheVariants.{Begun, Blobs, Cached, Fault, Fetched, Next, Stopped, Told, Uploaded}
+use Rattle.rx_remote.specs.declared.asks.Heard.TheVariants.{Begun, Blobs, Cached, Fault, Fetched, Next, Over, Stopped, Told, Uploaded}
 
 -- the decision that was heard
 abbrev pub stop_heard : Heard → Option Decision
@@ -22,6 +22,7 @@ stop_heard Begun = None
 stop_heard (Next operation) = None
 stop_heard (Fetched texts) = None
 stop_heard (Fault fault) = None
+stop_heard (Over code) = None
 stop_heard (Blobs fault) = None
 
 -- the end, where the ask is that
@@ -57,3 +58,17 @@ StopTellsCause before now causes.NoMemory = now ≡ before
 abbrev pub StopTellsEnd : Option Decision → Option Decision → End Outcome RemoteCause → Type 0
 StopTellsEnd before now (ends.Done outcome origin) = now ≡ before
 StopTellsEnd before now (ends.Failed cause) = StopTellsCause before now cause
+
+-- ---- what calls that failed tell
+
+-- one fault at least is listed
+abbrev pub ListsFault : RemoteCause → Type 0
+ListsFault (causes.CallFailed faults) = 1 ≤ length faults
+ListsFault (causes.BadBlob expected got) = Unit {0}
+ListsFault (causes.BadResult fault) = Unit {0}
+ListsFault causes.OperationsSpent = Unit {0}
+ListsFault (causes.Stopped decision) = Unit {0}
+ListsFault (causes.InputChanged input) = Unit {0}
+ListsFault (causes.WrongVersion low high) = Unit {0}
+ListsFault (causes.SourceFault path) = Unit {0}
+ListsFault causes.NoMemory = Unit {0}

@@ -1,9 +1,9 @@
 -- The faults of calls: which are asked again, and how they stand in the list of an attempt (google/rpc/code.proto).
-use Rattle.std.specs.Prelude.{ℕ, ◌==◌, ◌||◌, Bool, true, false, List, [], ◌∷◌, ◌++◌}
+use Rattle.std.specs.Prelude.{ℕ, ◌==◌, ◌&&◌, ◌||◌, Bool, true, false, not, List, [], ◌∷◌, ◌++◌}
 use Rattle.rx_blobs.specs.declared.blob_fault.BlobFault.{BlobFault}
 use Rattle.rx_blobs.specs.declared.blob_fault.BlobFault.TheVariants as blobs
 use Rattle.rx_remote.specs.declared.asks.Heard.{Heard}
-use Rattle.rx_remote.specs.declared.asks.Heard.TheVariants.{Begun, Blobs, Cached, Fault, Fetched, Next, Stopped, Told, Uploaded}
+use Rattle.rx_remote.specs.declared.asks.Heard.TheVariants.{Begun, Blobs, Cached, Fault, Fetched, Next, Over, Stopped, Told, Uploaded}
 use Rattle.rx_remote.specs.declared.phases.Phase.{Phase}
 use Rattle.rx_remote.specs.declared.phases.Phase.TheVariants as phases
 use Rattle.rx_world.specs.declared.call_faults.CallFault.{CallFault}
@@ -34,6 +34,7 @@ with_blobs faults blobs.NoMemory = faults
 
 abbrev pub faults_after : List CallFault → Heard → List CallFault
 faults_after faults (Fault fault) = with_fault faults fault
+faults_after faults (Over code) = faults ++ Status code ∷ []
 faults_after faults (Blobs fault) = with_blobs faults fault
 faults_after faults (Told capabilities) = faults
 faults_after faults (Cached result) = faults
@@ -59,6 +60,16 @@ is_retried TooLarge = false
 is_retried (BadMessage at) = false
 is_retried (BlobRefused digest code) = false
 is_retried NoMemory = false
+
+-- An execution that is over with this code is run again: 4, DEADLINE_EXCEEDED, tells there that the action took longer than its own
+-- timeout, and would again (remote_execution.proto, ExecuteResponse).
+unfoldable pub is_run_again : ℕ → Bool
+is_run_again code = is_retried_code code && not (code == 4)
+
+-- An execution that is over with this code lacked blobs: 9, FAILED_PRECONDITION, by the standard (remote_execution.proto, Execute), and 5,
+-- NOT_FOUND, as farms tell it of blobs that they had.
+unfoldable pub lacked_blobs : ℕ → Bool
+lacked_blobs code = code == 9 || code == 5
 
 -- a call that ended with this code
 abbrev pub has_code : ℕ → CallFault → Bool

@@ -5,13 +5,14 @@ use Rattle.rx_base.specs.declared.digests.Digest.{Digest}
 use Rattle.rx_world.specs.declared.call_faults.CallFault.{CallFault}
 use Rattle.rx_exec_messages.specs.declared.exchanges.Exchange.{Exchange}
 use Rattle.rx_exec_messages.specs.declared.exchanges.Exchange.TheVariants as calls
+use Rattle.rx_exec_messages.specs.declared.state_faults.StateFault.TheVariants as states
 use Rattle.rx_blobs.specs.declared.blob_fault.BlobFault.{BlobFault}
 use Rattle.rx_blobs.specs.Fetches.{IsFetch}
 use Rattle.rx_blobs.specs.Uploads.{IsUpload}
 use Rattle.rx_remote.specs.declared.asks.Ask.{Ask}
 use Rattle.rx_remote.specs.declared.asks.Ask.TheVariants as asks
 use Rattle.rx_remote.specs.declared.asks.Heard.{Heard}
-use Rattle.rx_remote.specs.declared.asks.Heard.TheVariants.{Begun, Blobs, Cached, Fault, Fetched, Next, Stopped, Told, Uploaded}
+use Rattle.rx_remote.specs.declared.asks.Heard.TheVariants.{Begun, Blobs, Cached, Fault, Fetched, Next, Over, Stopped, Told, Uploaded}
 use Rattle.rx_remote.specs.Marks.{Turn}
 
 -- the call by which an execution was begun, or waited for
@@ -31,7 +32,7 @@ IsFailedCall action asks.Capabilities fault part = part ≡ calls.Capabilities (
 IsFailedCall action asks.GetResult fault part = part ≡ calls.GetResult action (Err fault) ∷ []
 IsFailedCall action (asks.Execute skip_cache) fault part = part ≡ calls.Execute action skip_cache (Err fault) ∷ []
 IsFailedCall action (asks.Wait name) fault part = part ≡ calls.Wait name (Err fault) ∷ []
-IsFailedCall action asks.NextOperation fault part = part ≡ calls.NextOperation (Err fault) ∷ []
+IsFailedCall action asks.NextOperation fault part = part ≡ calls.NextOperation (Err (states.Stream fault)) ∷ []
 IsFailedCall action (asks.Upload fresh) fault part = ⊥
 IsFailedCall action (asks.Fetch digests) fault part = ⊥
 IsFailedCall action (asks.End end) fault part = ⊥
@@ -57,6 +58,7 @@ IsPart action stored ask Begun part = IsBegun action ask part
 IsPart action stored ask (Next operation) part = part ≡ calls.NextOperation (Ok operation) ∷ []
 IsPart action stored ask (Fetched texts) part = IsFetch (map digest_of texts) (Ok texts) part
 IsPart action stored ask (Fault fault) part = IsFailedCall action ask fault part
+IsPart action stored ask (Over code) part = part ≡ calls.NextOperation (Err (states.Over code)) ∷ []
 IsPart action stored ask (Blobs fault) part = IsFailedTransfer stored ask fault part
 IsPart action stored ask (Stopped decision) part = part ≡ []
 

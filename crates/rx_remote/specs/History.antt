@@ -20,13 +20,13 @@ use Rattle.rx_blobs.specs.declared.blob_fault.BlobFault.TheVariants as blobs
 use Rattle.rx_remote.specs.declared.asks.Ask.{Ask}
 use Rattle.rx_remote.specs.declared.asks.Ask.TheVariants.{Capabilities, End, Execute, Fetch, GetResult, NextOperation, Upload, Wait}
 use Rattle.rx_remote.specs.declared.asks.Heard.{Heard}
-use Rattle.rx_remote.specs.declared.asks.Heard.TheVariants.{Begun, Blobs, Cached, Fault, Fetched, Next, Stopped, Told, Uploaded}
+use Rattle.rx_remote.specs.declared.asks.Heard.TheVariants.{Begun, Blobs, Cached, Fault, Fetched, Next, Over, Stopped, Told, Uploaded}
 use Rattle.rx_remote.specs.declared.marks.Found.{Found}
 use Rattle.rx_remote.specs.declared.marks.Marks.{Marks}
 use Rattle.rx_remote.specs.declared.phases.Phase.{Phase}
 use Rattle.rx_remote.specs.declared.phases.Phase.TheVariants as phases
 use Rattle.rx_remote.specs.declared.tasks.Task.{Task}
-use Rattle.rx_remote.specs.Faults.{has_code, is_no_memory, is_own, is_retried}
+use Rattle.rx_remote.specs.Faults.{has_code, is_no_memory, is_own, is_retried, is_run_again, lacked_blobs}
 use Rattle.rx_remote.specs.Marks.{Turn, found_as, is_cached, marks_of, origin_of, phase_of}
 
 abbrev pub failed : RemoteCause → Ask
@@ -152,6 +152,21 @@ after_fault task marks phase fault =
     if is_no_memory fault then failed causes.NoMemory
     else unless_asked_again task marks phase fault (asks_again marks phase fault)
 
+-- ---- after an execution that is over, and failed
+
+-- the marks have the fault already
+abbrev pub runs_again : Marks → ℕ → Bool
+runs_again marks code = nat_lt (length marks.faults) most_faults && (is_run_again code || lacked_blobs code)
+
+-- An operation that is done never changes, so it isn't waited for: the action is executed anew, and first uploaded where blobs were lacking.
+abbrev pub run_again : Task → Marks → ℕ → Ask
+run_again task marks code = if lacked_blobs code then Upload true else Execute (skips task marks)
+
+unfoldable pub after_over : Task → Marks → ℕ → Ask
+after_over task marks code = if runs_again marks code then run_again task marks code else failed (causes.CallFailed marks.faults)
+
+-- ---- after blobs that failed
+
 -- a result of the cache whose blob is missing counts as a miss
 abbrev pub counts_as_miss : Marks → Phase → Bool
 counts_as_miss marks phase = nat_lt (length marks.faults) most_faults && (is_fetch phase && is_cached marks.found)
@@ -179,6 +194,7 @@ after task marks phase Begun = NextOperation
 after task marks phase (Next operation) = after_next task marks operation.done
 after task marks phase (Fetched texts) = finished marks.found texts
 after task marks phase (Fault fault) = after_fault task marks phase fault
+after task marks phase (Over code) = after_over task marks code
 after task marks phase (Blobs fault) = after_blobs task marks phase fault
 after task marks phase (Stopped decision) = failed (causes.Stopped decision)
 

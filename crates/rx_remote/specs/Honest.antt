@@ -7,7 +7,7 @@ use Rattle.rx_world.specs.declared.outcomes.Outcome.{Outcome}
 use Rattle.rx_remote.specs.declared.asks.Ask.{Ask}
 use Rattle.rx_remote.specs.declared.asks.Ask.TheVariants as asks
 use Rattle.rx_remote.specs.declared.asks.Heard.{Heard}
-use Rattle.rx_remote.specs.declared.asks.Heard.TheVariants.{Begun, Blobs, Cached, Fault, Fetched, Next, Stopped, Told, Uploaded}
+use Rattle.rx_remote.specs.declared.asks.Heard.TheVariants.{Begun, Blobs, Cached, Fault, Fetched, Next, Over, Stopped, Told, Uploaded}
 use Rattle.rx_exec_messages.specs.declared.executions.ExecuteResponse.{ExecuteResponse}
 use Rattle.rx_results.specs.Agreement.{Agrees}
 use Rattle.rx_blobs.specs.Faults.{IsBadBlob}
@@ -32,6 +32,7 @@ IsHonestHeard blob command outcome ask (Told capabilities) = Unit {0}
 IsHonestHeard blob command outcome ask (Uploaded left_out) = Unit {0}
 IsHonestHeard blob command outcome ask Begun = Unit {0}
 IsHonestHeard blob command outcome ask (Fault fault) = Unit {0}
+IsHonestHeard blob command outcome ask (Over code) = Unit {0}
 IsHonestHeard blob command outcome ask (Stopped decision) = Unit {0}
 
 abbrev pub IsHonestHistory : (Digest → List ℕ) → Command → Outcome → List Turn → Type 0

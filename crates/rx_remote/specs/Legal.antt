@@ -5,7 +5,7 @@ use Rattle.rx_base.specs.declared.digests.Digest.{Digest}
 use Rattle.rx_remote.specs.declared.asks.Ask.{Ask}
 use Rattle.rx_remote.specs.declared.asks.Ask.TheVariants.{Capabilities, Fetch, GetResult, NextOperation, Upload}
 use Rattle.rx_remote.specs.declared.asks.Heard.{Heard}
-use Rattle.rx_remote.specs.declared.asks.Heard.TheVariants.{Begun, Blobs, Cached, Fault, Fetched, Next, Stopped, Told, Uploaded}
+use Rattle.rx_remote.specs.declared.asks.Heard.TheVariants.{Begun, Blobs, Cached, Fault, Fetched, Next, Over, Stopped, Told, Uploaded}
 use Rattle.rx_remote.specs.declared.phases.Phase.{Phase}
 use Rattle.rx_remote.specs.declared.phases.Phase.TheVariants as phases
 use Rattle.rx_remote.specs.declared.tasks.Task.{Task}
@@ -53,6 +53,7 @@ Fits blobs ask Begun = IsBeginning (phase_of ask)
 Fits blobs ask (Next operation) = ask ≡ NextOperation
 Fits blobs ask (Fetched texts) = ask ≡ Fetch (map digest_of texts)
 Fits blobs ask (Fault fault) = IsCall (phase_of ask)
+Fits blobs ask (Over code) = ask ≡ NextOperation
 Fits blobs ask (Blobs fault) = IsOfBlobs (phase_of ask)
 Fits blobs ask (Stopped decision) = phase_of ask ≢ phases.Ended
 

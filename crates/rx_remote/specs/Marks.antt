@@ -8,7 +8,7 @@ use Rattle.rx_remote.specs.declared.asks.Ask.TheVariants as asks
 use Rattle.rx_blobs.specs.declared.blob_fault.BlobFault.{BlobFault}
 use Rattle.rx_blobs.specs.declared.blob_fault.BlobFault.TheVariants as blobs
 use Rattle.rx_remote.specs.declared.asks.Heard.{Heard}
-use Rattle.rx_remote.specs.declared.asks.Heard.TheVariants.{Begun, Blobs, Cached, Fault, Fetched, Next, Stopped, Told, Uploaded}
+use Rattle.rx_remote.specs.declared.asks.Heard.TheVariants.{Begun, Blobs, Cached, Fault, Fetched, Next, Over, Stopped, Told, Uploaded}
 use Rattle.rx_world.specs.declared.call_faults.CallFault.{CallFault}
 use Rattle.rx_exec_messages.specs.declared.executions.ExecuteResponse.{ExecuteResponse}
 use Rattle.rx_remote.specs.declared.marks.Found.{Found}
@@ -54,6 +54,7 @@ name_after name (Uploaded left_out) = name
 name_after name Begun = name
 name_after name (Fetched texts) = name
 name_after name (Fault fault) = name
+name_after name (Over code) = name
 name_after name (Blobs fault) = name
 name_after name (Stopped decision) = name
 
@@ -91,6 +92,7 @@ misses Begun = false
 misses (Next operation) = false
 misses (Fetched texts) = false
 misses (Fault fault) = false
+misses (Over code) = false
 misses (Stopped decision) = false
 
 abbrev pub is_missed : List Turn → Bool
@@ -111,6 +113,7 @@ waits_after waits (Uploaded left_out) = waits
 waits_after waits Begun = waits
 waits_after waits (Fetched texts) = waits
 waits_after waits (Fault fault) = waits
+waits_after waits (Over code) = waits
 waits_after waits (Blobs fault) = waits
 waits_after waits (Stopped decision) = waits
 
@@ -144,6 +147,7 @@ found_after command earlier (Uploaded left_out) = earlier
 found_after command earlier Begun = earlier
 found_after command earlier (Fetched texts) = earlier
 found_after command earlier (Fault fault) = earlier
+found_after command earlier (Over code) = earlier
 found_after command earlier (Blobs fault) = earlier
 found_after command earlier (Stopped decision) = earlier
 

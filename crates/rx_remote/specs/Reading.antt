@@ -17,7 +17,7 @@ use Rattle.rx_world.specs.Sources.{given_bytes}
 use Rattle.rx_blobs.specs.declared.blob_fault.BlobFault.{BlobFault}
 use Rattle.rx_blobs.specs.declared.blob_fault.BlobFault.TheVariants as blobs
 use Rattle.rx_remote.specs.declared.asks.Heard.{Heard}
-use Rattle.rx_remote.specs.declared.asks.Heard.TheVariants.{Begun, Blobs, Cached, Fault, Fetched, Next, Stopped, Told, Uploaded}
+use Rattle.rx_remote.specs.declared.asks.Heard.TheVariants.{Begun, Blobs, Cached, Fault, Fetched, Next, Over, Stopped, Told, Uploaded}
 
 -- the answer is a read of one of the files
 pub record IsReadOf (files : List InputFile) (answer : Given) : Type 0 where
@@ -97,6 +97,7 @@ HeardGives IsSuch Begun = Unit {0}
 HeardGives IsSuch (Next operation) = Unit {0}
 HeardGives IsSuch (Fetched texts) = Unit {0}
 HeardGives IsSuch (Fault fault) = Unit {0}
+HeardGives IsSuch (Over code) = Unit {0}
 
 -- what was heard names no such cause but the farm's
 abbrev pub IsQuiet : Heard → Type 0

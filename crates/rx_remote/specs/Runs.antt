@@ -26,7 +26,7 @@ use Rattle.rx_action.specs.declared.action_keys.ActionKey.{ActionKey}
 use Rattle.rx_action.specs.ActionKeys.{key_of}
 use Rattle.rx_remote.specs.declared.asks.Ask.TheVariants.{Capabilities as AskOfFarm, End as Ends}
 use Rattle.rx_remote.specs.declared.asks.Heard.{Heard}
-use Rattle.rx_remote.specs.declared.asks.Heard.TheVariants.{Begun as HasBegunNow, Blobs, Cached, Fault, Fetched, Next, Stopped, Told, Uploaded}
+use Rattle.rx_remote.specs.declared.asks.Heard.TheVariants.{Begun as HasBegunNow, Blobs, Cached, Fault, Fetched, Next, Over, Stopped, Told, Uploaded}
 use Rattle.rx_remote.specs.declared.begins.Begun.{Begun}
 use Rattle.rx_remote.specs.declared.begins.FirstTurn.{FirstTurn}
 use Rattle.rx_remote.specs.declared.jobs.RemoteJob.{RemoteJob}
@@ -35,6 +35,7 @@ use Rattle.rx_remote.specs.declared.states.RemoteState.{RemoteState}
 use Rattle.rx_remote.specs.declared.tasks.Task.{Task}
 use Rattle.rx_remote.specs.declared.turns.Going.{Going}
 use Rattle.rx_remote.specs.Actions.{Work, all_blobs}
+use Rattle.rx_remote.specs.Ends.{ListsFault}
 use Rattle.rx_remote.specs.Fine.{IsEndOf, IsFineCause, IsSoundOutcome}
 use Rattle.rx_remote.specs.Grown.{Grew}
 use Rattle.rx_remote.specs.History.{next_of}
@@ -68,6 +69,7 @@ dialect_after dialect HasBegunNow = dialect
 dialect_after dialect (Next operation) = dialect
 dialect_after dialect (Fetched texts) = dialect
 dialect_after dialect (Fault fault) = dialect
+dialect_after dialect (Over code) = dialect
 dialect_after dialect (Blobs fault) = dialect
 dialect_after dialect (Stopped decision) = dialect
 
@@ -133,6 +135,7 @@ pub record HasRun {C W : Type 0} (w : world.Ghosts W) (c : callers.Ghosts C W) (
   pub ended : EndsOr c work old new end
   pub right : IsRightFor w c work old end
   pub sound : IsSoundEnd work.command end
+  pub listed : IsEndOf ListsFault end
 
 -- ---- until the farm told of itself
 
@@ -172,6 +175,7 @@ told_in HasBegunNow = None
 told_in (Next operation) = None
 told_in (Fetched texts) = None
 told_in (Fault fault) = None
+told_in (Over code) = None
 told_in (Blobs fault) = None
 told_in (Stopped decision) = None
 

@@ -14,7 +14,7 @@ use Rattle.rx_blobs.specs.declared.blob_fault.BlobFault.TheVariants as blobs
 use Rattle.rx_remote.specs.declared.asks.Ask.{Ask}
 use Rattle.rx_remote.specs.declared.asks.Ask.TheVariants as asks
 use Rattle.rx_remote.specs.declared.asks.Heard.{Heard}
-use Rattle.rx_remote.specs.declared.asks.Heard.TheVariants.{Begun, Blobs, Cached, Fault, Fetched, Next, Stopped, Told, Uploaded}
+use Rattle.rx_remote.specs.declared.asks.Heard.TheVariants.{Begun, Blobs, Cached, Fault, Fetched, Next, Over, Stopped, Told, Uploaded}
 use Rattle.rx_remote.specs.declared.phases.Phase.TheVariants as phases
 use Rattle.rx_remote.specs.declared.states.RemoteState.{RemoteState}
 use Rattle.rx_remote.specs.declared.tasks.Task.{Task}
@@ -61,6 +61,7 @@ IsUnderWay (Cached result) = ⊥
 IsUnderWay (Uploaded left_out) = ⊥
 IsUnderWay (Fetched texts) = ⊥
 IsUnderWay (Fault fault) = ⊥
+IsUnderWay (Over code) = ⊥
 IsUnderWay (Blobs fault) = ⊥
 IsUnderWay (Stopped decision) = ⊥
 
@@ -84,6 +85,7 @@ Runs operation action old new ask (Cached result) = Unit {0}
 Runs operation action old new ask (Uploaded left_out) = Unit {0}
 Runs operation action old new ask (Fetched texts) = Unit {0}
 Runs operation action old new ask (Fault fault) = Unit {0}
+Runs operation action old new ask (Over code) = Unit {0}
 Runs operation action old new ask (Blobs fault) = Unit {0}
 Runs operation action old new ask (Stopped decision) = Unit {0}
 
@@ -96,6 +98,7 @@ Names operation running (Cached result) = Unit {0}
 Names operation running (Uploaded left_out) = Unit {0}
 Names operation running (Fetched texts) = Unit {0}
 Names operation running (Fault fault) = Unit {0}
+Names operation running (Over code) = Unit {0}
 Names operation running (Blobs fault) = Unit {0}
 Names operation running (Stopped decision) = Unit {0}
 
@@ -120,6 +123,7 @@ IsBlobCount before now blobs.NoMemory = Unit {0}
 
 abbrev pub IsCountedHeard : ℕ → ℕ → Heard → Type 0
 IsCountedHeard before now (Fault fault) = IsListedFault before now fault
+IsCountedHeard before now (Over code) = Rose before now
 IsCountedHeard before now (Blobs fault) = IsBlobCount before now fault
 IsCountedHeard before now (Told capabilities) = Unit {0}
 IsCountedHeard before now (Cached result) = Unit {0}

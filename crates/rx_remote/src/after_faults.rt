@@ -2,10 +2,11 @@
 
 ghost use Rattle.std.specs.Prelude.{◌≡◌, IfOk};
 ghost use Rattle.rx_world.specs.declared.remote_causes.RemoteCause.TheVariants as causes;
-ghost use Rattle.rx_remote.specs.History.{after_blobs, after_fault, after_missing, again, by_name, counts_as_miss, fetch_again, failed, skips_by};
+ghost use Rattle.rx_remote.specs.History.{after_blobs, after_fault, after_missing, after_over, again, by_name, counts_as_miss, fetch_again, failed, skips_by};
 
 use crate::retries::{
-    FAILED_PRECONDITION, MAX_FAULTS, NOT_FOUND, asks_again, has_code, is_no_memory,
+    FAILED_PRECONDITION, MAX_FAULTS, NOT_FOUND, asks_again, has_code, is_no_memory, lacked_blobs,
+    runs_again,
 };
 use crate::{Ask, Found, Marks, Phase, Task};
 use rx_base::{Items, NoMemory, TryClone};
@@ -120,6 +121,27 @@ pub(crate) fn after_fault(
         return again(alloc, task, marks, phase, fault);
     }
     call_failed(alloc, marks)
+}
+
+/// What is asked after an execution that is over with this status, which the marks have already. It
+/// is done, so it isn't waited for.
+#[tactic(auto, unfolding(crate::specs::History::after_over))]
+pub(crate) fn after_over(
+    alloc: Global,
+    task: &Task,
+    marks: &Marks,
+    code: u32,
+) -> Result<Ask, NoMemory>
+    ensures { IfOk result (λ ask. ask ≡ after_over task.now marks.now code) }
+{
+    if !runs_again(marks, code) {
+        return call_failed(alloc, marks);
+    }
+    if lacked_blobs(code) {
+        return Ok(Ask::Upload { fresh: true });
+    }
+    let skip_cache = skips(task.accept_cached, marks.missed);
+    Ok(Ask::Execute { skip_cache })
 }
 
 /// Whether a blob that is missing makes the cached result that needs it a miss.

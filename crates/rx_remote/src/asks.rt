@@ -45,6 +45,8 @@ pub enum Heard {
     Fetched(Items<Bytes>),
     /// The call failed.
     Fault(CallFault),
+    /// The execution is over, and failed with this status.
+    Over(u32),
     /// The upload or the fetch failed.
     Blobs(BlobFault),
     /// The race of the request's attempts is decided. Nothing was asked.

@@ -9,7 +9,7 @@ ghost use Rattle.rx_remote.specs.Turns.{IsTurn};
 
 use crate::Heard;
 use rx_base::{Digest, Text};
-use rx_exec_messages::Caller;
+use rx_exec_messages::{Caller, StateFault};
 use rx_world::World;
 
 /// What the farm says of itself.
@@ -74,6 +74,7 @@ pub(crate) fn ask_state<W: World, C: Caller<W>>(caller: &mut C) -> Heard
 {
     match caller.next_operation() {
         Ok(operation) => Heard::Next(operation),
-        Err(fault) => Heard::Fault(fault),
+        Err(StateFault::Stream(fault)) => Heard::Fault(fault),
+        Err(StateFault::Over(code)) => Heard::Over(code),
     }
 }

@@ -1,8 +1,8 @@
 //! Which faults are asked again, and how often.
 
 ghost use Rattle.std.specs.Prelude.{◌≡◌};
-ghost use Rattle.rx_remote.specs.Faults.{has_code, is_no_memory, is_own, is_retried, is_retried_code};
-ghost use Rattle.rx_remote.specs.History.{asks_again};
+ghost use Rattle.rx_remote.specs.Faults.{has_code, is_no_memory, is_own, is_retried, is_retried_code, is_run_again, lacked_blobs};
+ghost use Rattle.rx_remote.specs.History.{asks_again, runs_again};
 
 use crate::{Marks, Phase};
 use rx_world::CallFault;
@@ -86,6 +86,31 @@ fn is_own(phase: Phase, fault: CallFault) -> bool
         Phase::Wait => has_code(NOT_FOUND, fault),
         _ => false,
     }
+}
+
+/// Whether an action whose execution is over with this status is executed again. Its own timeout
+/// isn't waited for twice.
+#[tactic(auto, unfolding(crate::specs::Faults::is_run_again))]
+fn is_run_again(code: u32) -> bool
+    ensures { result ≡ is_run_again code }
+{
+    is_retried_code(code) && code != DEADLINE_EXCEEDED
+}
+
+/// Whether an execution that is over with this status lacked blobs.
+#[tactic(auto, unfolding(crate::specs::Faults::lacked_blobs))]
+pub(crate) fn lacked_blobs(code: u32) -> bool
+    ensures { result ≡ lacked_blobs code }
+{
+    code == FAILED_PRECONDITION || code == NOT_FOUND
+}
+
+/// Whether the action is executed again after an execution that is over with this status. The marks
+/// have the fault already.
+pub(crate) fn runs_again(marks: &Marks, code: u32) -> bool
+    ensures { result ≡ runs_again marks.now code }
+{
+    marks.faults.len() < MAX_FAULTS && (is_run_again(code) || lacked_blobs(code))
 }
 
 /// Whether an ask that failed so is asked again. The marks have the fault already.

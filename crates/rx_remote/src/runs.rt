@@ -6,7 +6,7 @@ ghost use Rattle.rx_base.specs.SortedPaths.{AreSorted};
 ghost use Rattle.rx_exec_messages.specs.Exchanged.{HasExchanged};
 ghost use Rattle.rx_world.specs.Inputs.{IsAsListed};
 ghost use Rattle.rx_remote.specs.Actions.{AreNamed, IsReady, stored_of};
-ghost use Rattle.rx_remote.specs.Ends.{StopTellsEnd};
+ghost use Rattle.rx_remote.specs.Ends.{ListsFault, StopTellsEnd};
 ghost use Rattle.rx_remote.specs.Fine.{IsEndOf};
 ghost use Rattle.rx_remote.specs.Reading.{HasRead, IsOwnCause, IsUnchanged};
 ghost use Rattle.rx_remote.specs.Runs.{EndsAfter, EndsOr, HasBegun, HasRun, HasTold, IsRightFor, IsSoundEnd, WasTold, task_of, work_of};
@@ -44,6 +44,8 @@ pub fn run_remote<W: World, C: Caller<W>, S: Sources<W>, T: Stop, R: Wait>(
     ensures right { IsRightFor W.World C.Caller (work_of job.now) caller.old result }
     // Whatever the farm told, a Done is proper and within the limits.
     ensures sound { IsSoundEnd job.now.command.now result }
+    // An end for calls that failed lists one fault at least.
+    ensures listed { IsEndOf ListsFault result }
     ensures stays { HasExchanged C.Caller caller.old caller.new (λ _. Unit {0}) }
     // A cause that isn't the farm's comes only so: a file changed, the source tree failed, or a stop was told.
     ensures own { HasRead W.World S.Sources job.now.files.now sources.old sources.new (λ answers.

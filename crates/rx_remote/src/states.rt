@@ -5,13 +5,14 @@ ghost use Rattle.rx_base.specs.SortedPaths.{AreSorted};
 ghost use Rattle.rx_remote.specs.declared.tasks.Task.{Task as AnyTask};
 ghost use Rattle.rx_remote.specs.declared.asks.Ask.TheVariants as asks;
 ghost use Rattle.rx_remote.specs.declared.asks.Heard.TheVariants as heard;
+ghost use Rattle.rx_remote.specs.declared.phases.Phase.TheVariants as phases;
 ghost use Rattle.rx_remote.specs.Ends.{stop_heard};
 ghost use Rattle.rx_remote.specs.Fine.{IsRightAfter, IsSoundAfter};
 ghost use Rattle.rx_remote.specs.History.{after_range, skips};
 ghost use Rattle.rx_remote.specs.Marks.{Turn, is_missing};
 ghost use Rattle.rx_remote.specs.States.{IsStateOf, IsStep, Leads};
 
-use crate::after_faults::{after_blobs, after_fault, failed, skips};
+use crate::after_faults::{after_blobs, after_fault, after_over, failed, skips};
 use crate::after_results::{after_operation, after_result, after_texts};
 use crate::marks::{add_blobs, add_fault};
 use crate::phases::phase_of;
@@ -92,6 +93,7 @@ fn after(
         Heard::Next(operation) => after_operation(alloc, task, marks, operation),
         Heard::Fetched(texts) => after_texts(alloc, task, marks, texts),
         Heard::Fault(fault) => after_call(alloc, task, marks, phase, fault),
+        Heard::Over(code) => after_failure(alloc, task, marks, code),
         Heard::Blobs(fault) => after_transfer(alloc, task, marks, phase, fault),
         Heard::Stopped(decision) => Ok((marks, failed(RemoteCause::Stopped { decision }))),
     }
@@ -119,6 +121,22 @@ fn after_call(
     let mut marks = marks;
     add_fault(&mut marks.faults, fault)?;
     let ask = after_fault(alloc, task, &marks, phase, fault)?;
+    Ok((marks, ask))
+}
+
+/// What an execution that is over leads to, which failed with this status.
+fn after_failure(
+    alloc: Global,
+    task: &Task,
+    marks: Marks,
+    code: u32,
+) -> Result<(Marks, Ask), NoMemory>
+    ensures { IfOk result (λ next. Leads task.now marks phases.NextOperation
+        (heard.Over code) next.0 next.1) }
+{
+    let mut marks = marks;
+    add_fault(&mut marks.faults, CallFault::Status(code))?;
+    let ask = after_over(alloc, task, &marks, code)?;
     Ok((marks, ask))
 }
 

@@ -7,7 +7,7 @@ ghost use Rattle.rx_toyfarm.specs.Farms.{action_of, dialect_by};
 
 use crate::farm::ToyFarm;
 use rx_base::{Bytes, Digest, Items};
-use rx_exec_messages::{Caller, Capabilities, NamedBlob, Operation};
+use rx_exec_messages::{Caller, Capabilities, NamedBlob, Operation, StateFault};
 use rx_messages::ActionResult;
 use rx_world::{CallFault, Contents, Toy};
 
@@ -72,8 +72,13 @@ impl<K: Contents> Caller<Toy<K>> for ToyFarm {
         self.count_fault(answer)
     }
 
-    fn next_operation(&mut self) -> Result<Operation, CallFault> {
-        let answer = self.go_on();
-        self.count_fault(answer)
+    fn next_operation(&mut self) -> Result<Operation, StateFault> {
+        match self.go_on() {
+            Ok(operation) => Ok(operation),
+            Err(fault) => {
+                let _ = self.count_fault::<Operation>(Err(fault.call_fault()));
+                Err(fault)
+            }
+        }
     }
 }

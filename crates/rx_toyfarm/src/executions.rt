@@ -9,8 +9,9 @@ use crate::farm::ToyFarm;
 use crate::jobs::job_of;
 use crate::names::{name_of, read_name};
 use crate::results::{Kept, result_of};
+use crate::store::Store;
 use rx_base::{Bytes, Digest, NoMemory, Text};
-use rx_exec_messages::{ExecuteResponse, Operation};
+use rx_exec_messages::{ExecuteResponse, Operation, StateFault};
 use rx_messages::Message;
 use rx_world::{CallFault, toy_run};
 
@@ -18,13 +19,27 @@ use rx_world::{CallFault, toy_run};
 const NOT_FOUND: u32 = 5;
 
 impl ToyFarm {
-    /// Begins an execution: the action is run at once, unless its result may be answered from the action cache.
+    /// Begins an execution: the action is run at once, unless its result may be answered from the action cache, or a
+    /// mishap befalls it.
     pub(crate) fn begin(&mut self, action: &Digest, skip_cache: bool) -> Result<(), CallFault>
         ensures begun { OnOk result (self.new.begun ≡ executed action.now) }
         ensures streaming { OnOk result (is_some self.new.execution ≡ true) }
         ensures says { self.new.says ≡ self.old.says }
         ensures faults { self.new.faults ≡ self.old.faults }
     {
+        if let Some(mishap) = self.mishap.take() {
+            if mishap.loses_blobs {
+                self.store = Store::new(self.alloc);
+            }
+            self.begun = Begun::Executed(*action);
+            self.execution = Some(Execution {
+                action: *action,
+                is_cached: false,
+                is_ending: false,
+                failed: Some(mishap.code),
+            });
+            return Ok(());
+        }
         let is_cached = !skip_cache && self.has_cached(action);
         if !is_cached {
             self.run(*action)?;
@@ -34,6 +49,7 @@ impl ToyFarm {
             action: *action,
             is_cached,
             is_ending: is_cached,
+            failed: None,
         });
         Ok(())
     }
@@ -92,12 +108,13 @@ impl ToyFarm {
             action,
             is_cached: false,
             is_ending: true,
+            failed: None,
         });
         Ok(())
     }
 
     /// The next state of the execution: first one that isn't done, unless the end is known by then, and then the end.
-    pub(crate) fn go_on(&mut self) -> Result<Operation, CallFault>
+    pub(crate) fn go_on(&mut self) -> Result<Operation, StateFault>
         ensures streaming { IfOk result (λ operation.
             operation.done ≡ None → is_some self.new.execution ≡ true) }
         ensures begun { self.new.begun ≡ self.old.begun }
@@ -105,10 +122,10 @@ impl ToyFarm {
         ensures faults { self.new.faults ≡ self.old.faults }
     {
         let Some(execution) = self.execution else {
-            return Err(CallFault::Cut);
+            return Err(StateFault::Stream(CallFault::Cut));
         };
         let Ok(name) = name_of(self.alloc, &execution.action) else {
-            return Err(CallFault::NoMemory);
+            return Err(StateFault::Stream(CallFault::NoMemory));
         };
         if !execution.is_ending {
             self.execution = Some(Execution {
@@ -117,8 +134,8 @@ impl ToyFarm {
             });
             return Ok(Operation { name, done: None });
         }
-        let response = self.response_of(execution)?;
         self.execution = None;
+        let response = self.response_of(execution)?;
         Ok(Operation {
             name,
             done: Some(response),
@@ -126,12 +143,19 @@ impl ToyFarm {
     }
 
     /// How an execution ended.
-    fn response_of(&self, execution: Execution) -> Result<ExecuteResponse, CallFault> {
+    fn response_of(&self, execution: Execution) -> Result<ExecuteResponse, StateFault> {
+        if let Some(code) = execution.failed {
+            return Err(StateFault::Over(code));
+        }
         let Some(kept) = self.results.get(&execution.action) else {
-            return Err(CallFault::Status(NOT_FOUND));
+            return Err(StateFault::Stream(CallFault::Status(NOT_FOUND)));
+        };
+        let result = match kept.read(self.alloc) {
+            Ok(result) => result,
+            Err(fault) => return Err(StateFault::Stream(fault)),
         };
         Ok(ExecuteResponse {
-            result: Some(kept.read(self.alloc)?),
+            result: Some(result),
             cached_result: execution.is_cached,
             status: None,
             message: Text::new(self.alloc),

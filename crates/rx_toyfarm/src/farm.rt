@@ -4,7 +4,7 @@ ghost use Rattle.std.specs.Prelude.{◌≡◌, None};
 ghost use Rattle.std.specs.Option.{is_some};
 ghost use Rattle.rx_exec_messages.specs.Calls.{HasCallCause};
 
-use crate::execution::{Begun, Execution};
+use crate::execution::{Begun, Execution, Mishap};
 use crate::results::Kept;
 use crate::store::Store;
 use rx_base::{Digest, digest_of};
@@ -31,6 +31,7 @@ pub struct ToyFarm {
     pub(crate) results: BTreeMap<Digest, Kept>,
     pub(crate) begun: Begun,
     pub(crate) execution: Option<Execution>,
+    pub(crate) mishap: Option<Mishap>,
     pub(crate) faults: u64,
 }
 
@@ -49,6 +50,7 @@ impl ToyFarm {
             results: BTreeMap::new(alloc),
             begun: Begun::Executed(digest_of(&[])),
             execution: None,
+            mishap: None,
             faults: 0,
         }
     }
@@ -65,6 +67,27 @@ impl ToyFarm {
         ensures { result ≡ is_some self.now.execution }
     {
         self.execution.is_some()
+    }
+
+    /// Has a mishap befall the next execution: its action isn't run, and it is over with this status, as where its worker
+    /// is lost.
+    pub fn fail_next(&mut self, code: u32)
+        ensures { self.new ≡ record self.old { mishap = self.new.mishap } }
+    {
+        self.mishap = Some(Mishap {
+            code,
+            loses_blobs: false,
+        });
+    }
+
+    /// The same, and by then the farm has lost each of its blobs.
+    pub fn lose_next(&mut self, code: u32)
+        ensures { self.new ≡ record self.old { mishap = self.new.mishap } }
+    {
+        self.mishap = Some(Mishap {
+            code,
+            loses_blobs: true,
+        });
     }
 
     /// Counts the fault of an answer, unless it is want of memory.

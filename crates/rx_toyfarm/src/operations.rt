@@ -3,11 +3,11 @@
 use crate::farm::ToyFarm;
 use crate::farm_fault::Broken;
 use crate::replies::{Reply, code_of, named};
-use rx_base::{Bytes, Text};
+use rx_base::{Bytes, Items, Text};
 use rx_exec_messages::{
-    ExecuteRequest, ExecuteResponse, Operation, OperationMessage, WaitExecutionRequest,
+    ExecuteRequest, ExecuteResponse, Operation, OperationMessage, StateFault, WaitExecutionRequest,
 };
-use rx_messages::{Any, Message};
+use rx_messages::{Any, Message, Status};
 use rx_world::CallFault;
 use std::alloc::Global;
 
@@ -48,10 +48,29 @@ fn states_of(
         }
         match farm.go_on() {
             Ok(operation) => reply.add(alloc, &message_of(alloc, operation)?)?,
-            Err(fault) => return Ok(Reply::failed(alloc, code_of(fault)?)),
+            Err(StateFault::Stream(fault)) => return Ok(Reply::failed(alloc, code_of(fault)?)),
+            Err(StateFault::Over(code)) => {
+                reply.add(alloc, &failure_of(alloc, code))?;
+                break;
+            }
         }
     }
     Ok(reply)
+}
+
+/// The message of an execution that is over with this status.
+fn failure_of(alloc: Global, code: u32) -> OperationMessage {
+    OperationMessage {
+        name: Text::new(alloc),
+        metadata: None,
+        done: true,
+        error: Some(Status {
+            code: i32::try_from(code).unwrap_or(i32::MAX),
+            message: Text::new(alloc),
+            details: Items::new(alloc),
+        }),
+        response: None,
+    }
 }
 
 /// The message of a state.

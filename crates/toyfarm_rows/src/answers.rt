@@ -1,6 +1,7 @@
 //! Faults and results in answers.
 
 use rx_base::Digest;
+use rx_exec_messages::StateFault;
 use rx_messages::ActionResult;
 use rx_row_values::write_digest;
 use rx_rows::{Answer, RowFault};
@@ -36,6 +37,22 @@ pub(crate) fn write_fault(
         fault => answer.value(&fault)?,
     }
     Ok(())
+}
+
+/// Writes the fault of a state: that of a call, or `over` with the status of the execution.
+pub(crate) fn write_state_fault(
+    alloc: Global,
+    fault: StateFault,
+    answer: &mut Answer,
+) -> Result<(), RowFault> {
+    match fault {
+        StateFault::Stream(fault) => write_fault(alloc, fault, answer),
+        StateFault::Over(code) => {
+            answer.word("over")?;
+            answer.value(&code)?;
+            Ok(())
+        }
+    }
 }
 
 /// Writes the code of a result, the digests of both texts, and each file.

@@ -1,6 +1,6 @@
 //! Calls on actions. A row names an action by the bytes of its message.
 
-use crate::answers::{write_done, write_fault, write_result};
+use crate::answers::{write_done, write_fault, write_result, write_state_fault};
 use rx_base::digest_of;
 use rx_exec_messages::{Caller, ExecuteResponse};
 use rx_row_values::read_string;
@@ -61,7 +61,7 @@ pub(crate) fn next(alloc: Global, farm: &mut ToyFarm, answer: &mut Answer) -> Re
             answer.text(operation.name.as_str().as_bytes())?;
             write_end(alloc, &operation.done, answer)
         }
-        Err(fault) => write_fault(alloc, fault, answer),
+        Err(fault) => write_state_fault(alloc, fault, answer),
     }
 }
 

@@ -3,7 +3,7 @@
 use crate::{attempts, blobs, connections, executions};
 use rx_blobs::Presence;
 use rx_exec_messages::{Caller, Capabilities};
-use rx_farm_values::read_capabilities;
+use rx_farm_values::{read_capabilities, read_code};
 use rx_rows::{Answer, Calls, Row, RowFault};
 use rx_toyfarm::ToyFarm;
 use rx_world::Toy;
@@ -41,6 +41,14 @@ impl<'a, R: Wait> Calls for FarmCalls<'a, R> {
         match row.word()? {
             "farm" => {
                 *farm = ToyFarm::new(alloc, read_capabilities(row)?);
+                answer.word("ok")?;
+            }
+            "fail" => {
+                farm.fail_next(read_code(row)?);
+                answer.word("ok")?;
+            }
+            "lose" => {
+                farm.lose_next(read_code(row)?);
                 answer.word("ok")?;
             }
             "capabilities" => write_capabilities(farm, answer)?,

@@ -32,6 +32,11 @@ returns-in-Err-clause-sound g c =
     (early-or g.W.World g.C.Caller (work_of c.args.job.now) c.args.caller.now c.begin.new.caller c.in-Err.end
     (subst (λ (t : Task). EndsEarlyOr g.W.World g.C.Caller t c.args.caller.now c.begin.new.caller c.in-Err.end) c.in-Ok.ensures c.in-Err.ensures.ended)).sound
 
+pub returns-in-Err-clause-listed : goal.returns-in-Err-clause-listed
+returns-in-Err-clause-listed g c =
+    (early-or g.W.World g.C.Caller (work_of c.args.job.now) c.args.caller.now c.begin.new.caller c.in-Err.end
+    (subst (λ (t : Task). EndsEarlyOr g.W.World g.C.Caller t c.args.caller.now c.begin.new.caller c.in-Err.end) c.in-Ok.ensures c.in-Err.ensures.ended)).listed
+
 pub returns-in-Err-clause-own : goal.returns-in-Err-clause-own
 returns-in-Err-clause-own g c =
     own-unread g.W.World g.S.Sources c.args.job.now.files.now c.args.sources.now (g.T.Stop.told c.begin.new.stop) c.in-Err.end c.in-Err.ensures.own
@@ -46,6 +51,12 @@ returns-in-Ok-begin-clause-sound g c =
     (c.go_on.ensures.run c.args.caller.now
     (subst (λ (t : Task). HasTold g.W.World g.C.Caller t c.args.caller.now c.begin.new.caller c.in-Ok-begin.begun.told c.in-Ok-begin.begun.going) c.in-Ok.ensures
     c.in-Ok-begin.ensures.told)).sound
+
+pub returns-in-Ok-begin-clause-listed : goal.returns-in-Ok-begin-clause-listed
+returns-in-Ok-begin-clause-listed g c =
+    (c.go_on.ensures.run c.args.caller.now
+    (subst (λ (t : Task). HasTold g.W.World g.C.Caller t c.args.caller.now c.begin.new.caller c.in-Ok-begin.begun.told c.in-Ok-begin.begun.going) c.in-Ok.ensures
+    c.in-Ok-begin.ensures.told)).listed
 
 pub returns-in-Ok-begin-clause-stays : goal.returns-in-Ok-begin-clause-stays
 returns-in-Ok-begin-clause-stays g c =
