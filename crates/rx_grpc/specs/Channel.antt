@@ -103,3 +103,8 @@ abbrev pub IsLinkOf : {L : Type 0} → Option (TransportOf L) → Option (Bor L)
 IsLinkOf None link = link ≡ None
 IsLinkOf (Some t) None = ⊥
 IsLinkOf (Some t) (Some link) = link.now ≡ t.link
+
+-- the link that can take another call, with its connection
+abbrev pub rested : {L : Type 0} → Option (TransportOf L) → Option (TransportOf L)
+rested None = None
+rested (Some t) = if t.alive then Some t else None

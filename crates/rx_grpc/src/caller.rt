@@ -4,11 +4,14 @@ ghost use Rattle.std.specs.Prelude.{◌≡◌, ◌≢◌, ◌<◌, ◌^◌, ◌�
 ghost use Rattle.rx_world.specs.declared.call_faults.CallFault.TheVariants.{NoMemory as starved};
 ghost use Rattle.rx_world.specs.Causes.{Rose};
 ghost use Rattle.rx_exec_messages.specs.Calls.{HasCallCause};
-ghost use Rattle.rx_grpc.specs.Caller.{hung_up};
+ghost use Rattle.rx_world.specs.Links.{SameRule};
+ghost use Rattle.rx_grpc.specs.Caller.{hung_up, rested_by, resumed};
+ghost use Rattle.rx_grpc.specs.Channel.{IsRuled};
 ghost use Rattle.rx_grpc.specs.StatusText.{text_in};
 ghost use Rattle.rx_grpc.specs.declared.caller.Begun.TheVariants.{Executed as executed};
 
 use crate::channel::Channel;
+use crate::resting::Resting;
 use rand_chacha::ChaCha20Rng;
 use rand_core::SeedableRng;
 use rx_base::{Bytes, Digest, Text, digest_of};
@@ -124,6 +127,13 @@ impl<D: Dial + Drop> GrpcCaller<D> {
         &self.channel
     }
 
+    /// The instance of the farm; empty where it has but one.
+    pub fn instance(&self) -> &Text
+        ensures { result.now ≡ self.now.instance }
+    {
+        &self.instance
+    }
+
     /// Closes the connection, if there is one; an execution that goes on is given up. The next call makes another connection.
     pub fn hang_up(&mut self)
         ensures { self.new ≡ hung_up self.old }
@@ -131,6 +141,30 @@ impl<D: Dial + Drop> GrpcCaller<D> {
         self.streaming = false;
         self.first = None;
         self.channel.hang_up();
+    }
+
+    /// Takes the connection out, for another client of the same farm, where another call can be made on it and no execution goes on;
+    /// else it is closed, as `hang_up` does. The next call makes another connection.
+    pub fn rest(&mut self) -> Option<Resting<D::L>>
+        ensures rests { result ≡ rested_by self.old }
+        ensures ruled { IsRuled (D.rule self.old.channel.dial) D.L.rule result }
+        ensures left { self.new ≡ hung_up self.old }
+    {
+        let is_streaming = self.streaming;
+        self.streaming = false;
+        self.first = None;
+        let resting = self.channel.rest();
+        if is_streaming { None } else { resting }
+    }
+
+    /// The next call is made on this connection, unless the farm takes no more calls on it. An execution that goes on is given up.
+    pub fn resume(&mut self, resting: Resting<D::L>)
+        requires { SameRule (D.rule self.old.channel.dial) (D.L.rule resting.link) }
+        ensures { self.new ≡ resumed self.old resting }
+    {
+        self.streaming = false;
+        self.first = None;
+        self.channel.resume(resting);
     }
 
     /// Counts the fault of an answer, unless it is want of memory.

@@ -1,11 +1,12 @@
 //! A channel to one server: its calls share a link while that serves, and a new one is made where it doesn't.
 
-ghost use Rattle.std.specs.Prelude.{◌≡◌, ◌<◌, ◌^◌, ◌∷◌, [], false, true, length, None, IfErr, IfOk, MatchOption, OnErr, OnOk};
+ghost use Rattle.std.specs.Prelude.{◌≡◌, ◌<◌, ◌^◌, ◌∷◌, [], false, true, length, None, Some, IfErr, IfOk, MatchOption, OnErr, OnOk};
 ghost use Rattle.std.specs.List.{All};
 ghost use Rattle.rx_hpack.specs.Encoder.{IsWritable};
 ghost use Rattle.rx_hpack.specs.Header.{views};
+ghost use Rattle.rx_world.specs.Links.{SameRule};
 ghost use Rattle.rx_grpc.specs.Answer.{unary};
-ghost use Rattle.rx_grpc.specs.Channel.{Answers, Fails, HasCauseOn, IsLinkOf, IsRuled, Keeps, OpensOn, Stops, is_kept, stream_for};
+ghost use Rattle.rx_grpc.specs.Channel.{Answers, Fails, HasCauseOn, IsLinkOf, IsRuled, Keeps, OpensOn, Stops, is_kept, rested, stream_for};
 ghost use Rattle.rx_grpc.specs.Faults.{IsOther};
 ghost use Rattle.rx_grpc.specs.Request.{request_fields};
 ghost use Rattle.rx_grpc.specs.Sent.{AnsweredOn, AskedOn, AsksOn, NextAsksOn, SendsOn};
@@ -17,6 +18,7 @@ use crate::answer::Answer;
 use crate::body::{Body, NoBody};
 use crate::headers::{framed_message, request_headers};
 use crate::request::Request;
+use crate::resting::Resting;
 use crate::stream_item::StreamItem;
 use crate::transfer_fault::TransferFault;
 use crate::transport::Transport;
@@ -78,6 +80,13 @@ impl<D: Dial + Drop> Channel<D> {
         &self.dial
     }
 
+    /// `:authority` of all calls.
+    pub fn authority(&self) -> &[u8]
+        ensures { result.now ≡ self.now.authority }
+    {
+        &self.authority
+    }
+
     /// The link of the last call, also where that failed.
     pub fn link(&self) -> Option<&D::L>
         ensures { IsLinkOf self.now.transport result }
@@ -115,6 +124,27 @@ impl<D: Dial + Drop> Channel<D> {
         ensures { self.new ≡ record self.old { transport = None } }
     {
         self.transport = None;
+    }
+
+    /// Takes the link out, as it rests between two calls, where another call can be made on it; else it is closed. The next call makes
+    /// another one; a streamed answer that is open is given up.
+    pub fn rest(&mut self) -> Option<Resting<D::L>>
+        ensures rests { result ≡ rested self.old.transport }
+        ensures ruled { IsRuled (D.rule self.old.dial) D.L.rule result }
+        ensures left { self.new ≡ record self.old { transport = None } }
+    {
+        match self.transport.take() {
+            Some(transport) if transport.is_alive() => Some(Resting { transport }),
+            _ => None,
+        }
+    }
+
+    /// The next call is made on this link, unless the server takes no more streams. The link of the last call is closed.
+    pub fn resume(&mut self, resting: Resting<D::L>)
+        requires { SameRule (D.rule self.old.dial) (D.L.rule resting.link) }
+        ensures { self.new ≡ record self.old { transport = Some resting } }
+    {
+        self.transport = Some(resting.transport);
     }
 
     /// A call of one message that is answered by one: the message is sent to the method that the path names, as `/SERVICE/METHOD`.

@@ -25,6 +25,7 @@ impl<D: Dial + Drop> GrpcCaller<D> {
             Gives starved (λ x. x) result (capabilities_by heard)) }
         ensures honest { IfOk result (HonestVersions D.rule self.old) }
         ensures stays { StaysHonest D.rule self.old self.new }
+        ensures instance { self.new.instance ≡ self.old.instance }
         ensures begun { self.new.begun ≡ self.old.begun }
         ensures cause { HasCallCause self.old.faults self.new.faults result }
     {

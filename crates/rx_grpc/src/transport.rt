@@ -101,6 +101,13 @@ impl<L: Link + Drop> Transport<L> {
         &self.text
     }
 
+    /// Whether another call can be made on it.
+    pub fn is_alive(&self) -> bool
+        ensures { result ≡ self.now.alive }
+    {
+        self.alive
+    }
+
     /// Whether a streamed answer is open.
     pub fn is_answering(&self) -> bool
         ensures { result ≡ is_some self.now.opened }
