@@ -67,7 +67,7 @@ fn farm_at<H: Hands>(rt: HostRuntime, hands: H, address: &str) -> Result<HostFar
         return Err(Fault::NoMemory);
     }
     let address = Some(String::from_str(alloc, address)?);
-    let dial = HostDial::new(rt, hands, address, Halting::new(alloc)?);
+    let dial = HostDial::new(rt, hands, address, Halting::new(&rt, alloc)?);
     let caller = GrpcCaller::new(alloc, dial, name, Text::new(alloc), [0; 32]);
     Ok(HostFarm::new(caller))
 }

@@ -29,7 +29,7 @@ impl<H: Hands> Benches<H> {
     /// A maker whose runs nobody has halted.
     pub(crate) fn new(rt: HostRuntime, hands: H, root: &str) -> Result<Benches<H>, AllocError> {
         let alloc = rt.alloc();
-        let (halting, children) = (Halting::new(alloc)?, Children::new(alloc)?);
+        let (halting, children) = (Halting::new(&rt, alloc)?, Children::new(alloc)?);
         let maker = HostBenches::new(
             rt,
             hands,

@@ -41,7 +41,7 @@ impl<H: Hands> Links<H> {
         address: Option<String>,
         listener: Option<TcpListener>,
     ) -> Result<Links<H>, AllocError> {
-        let halting = Halting::new(rt.alloc())?;
+        let halting = Halting::new(&rt, rt.alloc())?;
         let dial = HostDial::new(rt, hands, address, halting.share()?);
         Ok(Links {
             rt,

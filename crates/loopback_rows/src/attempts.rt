@@ -106,7 +106,7 @@ fn client<H: Hands>(rt: HostRuntime, hands: H, address: &str) -> Result<HostFarm
         return Err(RowFault::BadCall);
     }
     let address = Some(String::from_str(alloc, address)?);
-    let dial = HostDial::new(rt, hands, address, Halting::new(alloc)?);
+    let dial = HostDial::new(rt, hands, address, Halting::new(&rt, alloc)?);
     let instance = Text::new(alloc);
     let caller = GrpcCaller::new(alloc, dial, authority, instance, [7; 32]);
     Ok(HostFarm::new(caller))

@@ -118,7 +118,7 @@ fn desk_over<H: Hands>(
 ) -> io::Result<ClientDesk<H>> {
     let Client { input, output, end } = client;
     let seed = draw_seed(&host.rt)?;
-    let halting = Halting::new(host.rt.alloc())?;
+    let halting = Halting::new(&host.rt, host.rt.alloc())?;
     halting.keep_client(&host.hands, end);
     let input = PromptSource::new(host.rt, input, halting.share()?);
     let output = PatientSink::new(host.rt, host.hands, output, host.children.share()?);

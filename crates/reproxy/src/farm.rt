@@ -27,9 +27,12 @@ pub(crate) fn farm_for<H: Hands>(
     if authority.len() > MOST_AUTHORITY {
         return Err(AllocError);
     }
-    let Ok(instance) = Text::copy_of(alloc, options.instance) else {
+    let name = options.instance;
+    let (Ok(instance), Ok(probed)) = (Text::copy_of(alloc, name), Text::copy_of(alloc, name)) else {
         return Err(AllocError);
     };
-    let dial = HostDial::new(host.rt, host.hands, address, halting).sharing(host.outage.share()?);
+    let dial = HostDial::new(host.rt, host.hands, address, halting)
+        .sharing(host.outage.share()?)
+        .probing(probed)?;
     Ok(HostFarm::new(GrpcCaller::new(alloc, dial, authority, instance, seed)))
 }

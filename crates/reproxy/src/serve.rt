@@ -49,7 +49,7 @@ fn desk_of<H: Hands, I: Read + Drop, O: Print + Drop>(
     let Some(options) = options else {
         return Ok(None);
     };
-    let halting = Halting::new(host.rt.alloc())?;
+    let halting = Halting::new(&host.rt, host.rt.alloc())?;
     let input = HostSource::new(input);
     let output = HostSink::new(output);
     let parts = parts_over(host, options, seed, &halting, input, output)?;

@@ -4,21 +4,21 @@ ghost use Rattle.std.specs.Prelude.{◌≡◌, IfOk, false};
 ghost use Rattle.rx_world.specs.declared.versions.Dialect.TheVariants.{New as new_dialect};
 ghost use Rattle.rx_host.specs.Farms.{any_bytes};
 
+use crate::connecting::connect;
+use crate::farm_limits::FarmLimits;
 use crate::halting::{Connecting, Halting, halted};
 use crate::hands::Hands;
-use crate::link::HostLink;
+use crate::link::{HostLink, Watch};
 use crate::outage::Outage;
+use crate::probe::Probe;
+use rx_base::Text;
 use rx_streams::Faults;
 use rx_world::{Dial, Failed};
-use std::alloc::Global;
+use std::alloc::{AllocError, Global};
 use std::io::{Error, ErrorKind};
-use std::net::{TcpStream, ToSocketAddrs};
 use std::sync::Arc;
-use std::time::{Duration, Instant};
+use std::time::Duration;
 use std::{io, thread};
-
-/// How long it may take to connect, over all addresses of a name.
-const CONNECT_SECONDS: u64 = 10;
 
 /// Connects to one farm, or to none: then each call is a fault. The first connection that can't be made is told on standard
 /// error, where sessions share what they know of the farm by one of them in 10 seconds.
@@ -28,6 +28,9 @@ pub struct HostDial<H> {
     hands: H,
     address: Option<String>,
     halting: Halting,
+    limits: FarmLimits,
+    /// Asks a farm that is silent while a command runs.
+    probe: Option<Probe>,
     outage: Option<Outage>,
     is_told: bool,
     /// Whether the last call for a connection tried none, since there is no farm or it is away.
@@ -45,6 +48,8 @@ impl<H: Hands> HostDial<H> {
             hands,
             address,
             halting,
+            limits: FarmLimits::usual(),
+            probe: None,
             outage: None,
             is_told: false,
             is_idle: false,
@@ -56,16 +61,31 @@ impl<H: Hands> HostDial<H> {
     pub fn sharing(self, outage: Outage) -> HostDial<H>
         ensures { ⟦<HostDial<H> as Dial>⟧.faults result ≡ ⟦<HostDial<H> as Dial>⟧.faults self }
     {
-        HostDial {
-            rt: self.rt,
-            hands: self.hands,
-            address: self.address,
-            halting: self.halting,
-            outage: Some(outage),
-            is_told: self.is_told,
-            is_idle: self.is_idle,
-            faults: self.faults,
+        let mut dial = self;
+        dial.outage = Some(outage);
+        dial
+    }
+
+    /// The same with other limits.
+    pub fn within(self, limits: FarmLimits) -> HostDial<H>
+        ensures { ⟦<HostDial<H> as Dial>⟧.faults result ≡ ⟦<HostDial<H> as Dial>⟧.faults self }
+    {
+        let mut dial = self;
+        dial.limits = limits;
+        dial
+    }
+
+    /// The same, which asks a farm that is silent while a command runs whether this instance of it still answers. Else its silence
+    /// is a fault.
+    pub fn probing(self, instance: Text) -> Result<HostDial<H>, AllocError>
+        ensures { IfOk result (λ dial.
+            ⟦<HostDial<H> as Dial>⟧.faults dial ≡ ⟦<HostDial<H> as Dial>⟧.faults self) }
+    {
+        let mut dial = self;
+        if let Some(address) = &dial.address {
+            dial.probe = Some(Probe::new(dial.rt, address.clone()?, instance)?);
         }
+        Ok(dial)
     }
 
     /// Lets go of the connections that are kept for halting.
@@ -73,10 +93,22 @@ impl<H: Hands> HostDial<H> {
         self.halting.let_go(&self.hands);
     }
 
-    /// A call begins: first comes this pause, unless no connection is tried. The call may be silent for as long as a
-    /// command runs, or may not.
-    pub(crate) fn begin_call(&self, is_given_time: bool, pause: Option<Duration>) {
-        self.halting.give_farm_time(is_given_time);
+    /// A call begins in which a command may run, so that it takes as long as that does. First comes this pause, unless no
+    /// connection is tried.
+    pub(crate) fn begin_command(&self, pause: Option<Duration>) {
+        self.rest(pause);
+        self.halting.begin_call(&self.rt, None);
+    }
+
+    /// A call begins in which so many bytes are moved as a stream, and no command runs. First comes this pause.
+    pub(crate) fn begin_call(&self, bytes: u64, pause: Option<Duration>) {
+        self.rest(pause);
+        let limit = self.limits.call_of(bytes);
+        self.halting.begin_call(&self.rt, Some(limit));
+    }
+
+    /// Pauses, unless no connection is tried.
+    fn rest(&self, pause: Option<Duration>) {
         if let Some(pause) = pause {
             if !self.is_idle {
                 self.halting.rest(&self.hands, pause);
@@ -122,11 +154,25 @@ impl<H: Hands> HostDial<H> {
         };
         let stream = connected?;
         self.halting.keep_connection(&self.hands, &stream)?;
+        HostLink::new(rt, stream, self.watch()?)
+    }
+
+    /// What a connection is watched by.
+    fn watch(&self) -> Result<Watch, AllocError> {
         let outage = match &self.outage {
             Some(outage) => Some(outage.share()?),
             None => None,
         };
-        HostLink::new(rt, stream, self.halting.share()?, outage)
+        let probe = match &self.probe {
+            Some(probe) => Some(probe.share()?),
+            None => None,
+        };
+        Ok(Watch {
+            halting: self.halting.share()?,
+            limits: self.limits,
+            outage,
+            probe,
+        })
     }
 
     /// Whether a connection is to be tried.
@@ -166,24 +212,6 @@ impl<H: Hands> HostDial<H> {
 /// Connects, and tells how that went.
 fn see_through(rt: HostRuntime, address: String, connecting: Arc<Connecting, Global>) {
     connecting.end(connect(&rt, address.as_str()));
-}
-
-/// Connects to one of the addresses of `HOST:PORT`. How long the look-up of a name may take is up to
-/// the system's resolver; it counts.
-fn connect(rt: &HostRuntime, address: &str) -> io::Result<TcpStream> {
-    let start = Instant::now(rt)?;
-    let mut last = Error::from(ErrorKind::TimedOut);
-    for one in address.to_socket_addrs(rt)? {
-        let left = Duration::from_secs(CONNECT_SECONDS).saturating_sub(start.elapsed(rt)?);
-        if left.is_zero() {
-            break;
-        }
-        match TcpStream::connect_timeout(rt, &one, left) {
-            Ok(stream) => return Ok(stream),
-            Err(error) => last = error,
-        }
-    }
-    Err(last)
 }
 
 impl<H: Hands> Dial for HostDial<H> {

@@ -1,6 +1,7 @@
 //! How an attempt of a session that lost its race is told to wait no longer: for its connection to the farm, or for
 //! the program that it runs. So is whoever waits for the client of the session, once its attempts have ended.
 
+use crate::call_time::CallTime;
 use crate::calls::Call;
 use rx_streams::SocketEnd;
 use std::alloc::{AllocError, Global};
@@ -37,8 +38,8 @@ struct Marks {
     are_runs_halted: AtomicBool,
     /// Whether the client may send nothing, or anything at any time.
     is_silence_allowed: AtomicBool,
-    /// Whether the farm may be silent for long, since a command runs there.
-    is_farm_given_time: AtomicBool,
+    /// Until when the call on the farm is to be over.
+    call: CallTime,
     waits: Mutex<Waits>,
     /// Tells that the farm was halted.
     farm_halted: Condvar,
@@ -52,12 +53,12 @@ pub struct Halting {
 
 impl Halting {
     /// Nothing is halted yet.
-    pub fn new(alloc: Global) -> Result<Halting, AllocError> {
+    pub fn new(clock: &impl Clock, alloc: Global) -> Result<Halting, AllocError> {
         let marks = Marks {
             is_farm_halted: AtomicBool::new(false),
             are_runs_halted: AtomicBool::new(false),
             is_silence_allowed: AtomicBool::new(false),
-            is_farm_given_time: AtomicBool::new(false),
+            call: CallTime::new(clock),
             waits: Mutex::new(Waits {
                 connecting: None,
                 connection: None,
@@ -142,16 +143,14 @@ impl Halting {
             .wait_timeout_while(hands, waits, pause, goes_on);
     }
 
-    /// The next call on the farm may be silent for as long as a command runs, or may not.
-    pub(crate) fn give_farm_time(&self, is_given: bool) {
-        self.marks
-            .is_farm_given_time
-            .store(is_given, Ordering::SeqCst);
+    /// The next call on the farm begins. It is to be over after this time, or may take as long as it takes.
+    pub(crate) fn begin_call(&self, clock: &impl Clock, limit: Option<Duration>) {
+        self.marks.call.begin(clock, limit);
     }
 
-    /// Whether the farm may be silent for as long as a command runs.
-    pub(crate) fn is_farm_given_time(&self) -> bool {
-        self.marks.is_farm_given_time.load(Ordering::SeqCst)
+    /// How much of the call's time is left, where it has one.
+    pub(crate) fn call_left(&self, clock: &impl Clock) -> Option<Duration> {
+        self.marks.call.left(clock)
     }
 
     /// Whether the runs were halted.

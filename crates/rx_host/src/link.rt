@@ -1,35 +1,90 @@
 //! A connection to a farm over TCP. Nothing is told of its bytes.
 
 ghost use Rattle.std.specs.Prelude.{◌≡◌, IfOk, None, false};
+ghost use Rattle.std.specs.Io.{ReadsAtMost};
 ghost use Rattle.rx_host.specs.Farms.{any_bytes};
 
+use crate::farm_limits::FarmLimits;
 use crate::halting::Halting;
 use crate::outage::Outage;
+use crate::probe::Probe;
 use crate::tells::tell;
-use rx_streams::{Faults, read_some, write_some};
+use crate::timed::{TimedStream, is_silence};
+use rx_streams::Faults;
 use rx_world::{Failed, Link};
 use std::io;
 use std::io::{Error, ErrorKind};
 use std::net::TcpStream;
 use std::time::Duration;
 
-/// How long a call waits for the farm's next bytes, or for the farm to take some. Then it is a fault
-/// of the link, so that a farm that died without a word doesn't hold up a build.
-const CALL_SECONDS: u64 = 60;
+/// How long the first byte of a farm may take. A server of HTTP/2 sends its settings at once (RFC 9113, 3.4).
+const FIRST_SECONDS: u64 = 10;
 
-/// The same in the calls in which the farm may tell nothing while a command runs.
-const COMMAND_SECONDS: u64 = 600;
+/// How often a farm that is silent while a command runs is asked whether it still answers.
+const MOST_PROBES: u32 = 1_000_000;
 
-/// One connection over TCP. What is sent leaves at once (no algorithm of Nagle, RFC 9293 3.7.4).
+/// What a connection is watched by.
+#[derive(Drop)]
+pub(crate) struct Watch {
+    pub(crate) halting: Halting,
+    pub(crate) limits: FarmLimits,
+    /// What is known of a farm that is away, where sessions share that.
+    pub(crate) outage: Option<Outage>,
+    /// Asks a farm that is silent while a command runs.
+    pub(crate) probe: Option<Probe>,
+}
+
+impl Watch {
+    /// How long the next read or write may wait.
+    fn patience(&self, rt: &HostRuntime, is_heard: bool) -> Duration {
+        let patience = match self.halting.call_left(rt) {
+            Some(left) => left.min(self.limits.call()),
+            None => self.limits.silence(),
+        };
+        if is_heard {
+            return patience;
+        }
+        patience.min(Duration::from_secs(FIRST_SECONDS))
+    }
+
+    /// Whether the farm is silent only because a command runs: then it answers when it is asked anew.
+    fn is_at_work(&self, rt: &HostRuntime, is_heard: bool) -> bool {
+        let is_running = self.halting.call_left(rt).is_none();
+        if !is_running || !is_heard || self.halting.is_farm_halted() {
+            return false;
+        }
+        match &self.probe {
+            Some(probe) => probe.is_answered(),
+            None => false,
+        }
+    }
+}
+
+/// Reads what came next. A farm that is at work may take its time.
+fn read_watched(
+    rt: &HostRuntime,
+    timed: &mut TimedStream,
+    watch: &Watch,
+    is_heard: bool,
+    into: &mut [u8],
+) -> io::Result<usize>
+    ensures { ReadsAtMost result into.new }
+{
+    for _ in 0..MOST_PROBES {
+        match timed.read(watch.patience(rt, is_heard), into) {
+            Err(error) if is_silence(error.kind()) && watch.is_at_work(rt, is_heard) => {}
+            answer => return answer,
+        }
+    }
+    Err(Error::from(ErrorKind::TimedOut))
+}
+
+/// One connection over TCP.
 #[derive(Drop)]
 pub struct HostLink {
     rt: HostRuntime,
-    stream: TcpStream,
-    halting: Halting,
-    /// What is known of a farm that is away, where sessions share that.
-    outage: Option<Outage>,
-    /// How long a read or a write may take, in seconds.
-    limit: u64,
+    timed: TimedStream,
+    watch: Watch,
     /// Whether anything came.
     is_heard: bool,
     pub(crate) ended: bool,
@@ -38,23 +93,14 @@ pub struct HostLink {
 
 impl HostLink {
     /// The link over a connection that nothing was sent or received on.
-    pub(crate) fn new(
-        rt: HostRuntime,
-        stream: TcpStream,
-        halting: Halting,
-        outage: Option<Outage>,
-    ) -> io::Result<HostLink>
+    pub(crate) fn new(rt: HostRuntime, stream: TcpStream, watch: Watch) -> io::Result<HostLink>
         ensures ended { IfOk result (λ link. link.ended ≡ false) }
         ensures faults { IfOk result (λ link. link.faults.count ≡ 0) }
     {
-        stream.set_nodelay(true)?;
-        limit_silence(&stream, CALL_SECONDS)?;
         Ok(HostLink {
             rt,
-            stream,
-            halting,
-            outage,
-            limit: CALL_SECONDS,
+            timed: TimedStream::new(stream)?,
+            watch,
             is_heard: false,
             ended: false,
             faults: Faults::new(),
@@ -66,29 +112,14 @@ impl HostLink {
         self.is_heard
     }
 
-    /// Has a read and a write take as long as the call that goes on may be silent. Where the system refuses that, the limit stays.
-    fn keep_limit(&mut self)
-        ensures ended { self.new.ended ≡ self.old.ended }
-        ensures faults { self.new.faults ≡ self.old.faults }
-    {
-        let limit = if self.halting.is_farm_given_time() {
-            COMMAND_SECONDS
-        } else {
-            CALL_SECONDS
-        };
-        if limit != self.limit && limit_silence(&self.stream, limit).is_ok() {
-            self.limit = limit;
-        }
-    }
-
-    /// Tells why a call failed, unless the farm was halted. A farm that was silent, though no command runs, is away.
+    /// Tells why a call failed, unless the farm was halted. A farm that was silent for too long is away.
     fn tell(&self, tried: &str, error: &Error) {
-        if self.halting.is_farm_halted() {
+        if self.watch.halting.is_farm_halted() {
             return;
         }
         tell(&self.rt, tried, "the farm", error);
-        if let Some(outage) = &self.outage {
-            if self.limit == CALL_SECONDS && is_silence(error.kind()) {
+        if let Some(outage) = &self.watch.outage {
+            if is_silence(error.kind()) {
                 outage.begin(&self.rt);
             }
         }
@@ -102,7 +133,7 @@ impl HostLink {
         if bytes.is_empty() {
             return;
         }
-        if let Some(outage) = &self.outage {
+        if let Some(outage) = &self.watch.outage {
             outage.end();
         }
         if self.is_heard {
@@ -115,18 +146,6 @@ impl HostLink {
             );
         }
     }
-}
-
-/// Has each read and each write fail that takes longer.
-fn limit_silence(stream: &TcpStream, seconds: u64) -> io::Result<()> {
-    let limit = Some(Duration::from_secs(seconds));
-    stream.set_read_timeout(limit)?;
-    stream.set_write_timeout(limit)
-}
-
-/// Whether a read or a write failed since its time was over, for which systems have two words.
-fn is_silence(kind: ErrorKind) -> bool {
-    kind == ErrorKind::TimedOut || kind == ErrorKind::WouldBlock
 }
 
 /// The protocol that a server's first bytes are of, where it isn't HTTP/2. A record of TLS begins with its type, here an alert
@@ -149,8 +168,8 @@ impl Link for HostLink {
     ghost faults = { λ l. l.faults.count };
 
     fn send(&mut self, piece: &[u8]) -> Result<usize, Failed> {
-        self.keep_limit();
-        match write_some(&mut self.stream, piece) {
+        let patience = self.watch.patience(&self.rt, self.is_heard);
+        match self.timed.write(patience, piece) {
             Ok(count) => Ok(count),
             Err(error) => {
                 self.tell("send to", &error);
@@ -160,8 +179,8 @@ impl Link for HostLink {
     }
 
     fn receive(&mut self, into: &mut [u8]) -> Result<usize, Failed> {
-        self.keep_limit();
-        match read_some(&mut self.stream, into) {
+        let read = read_watched(&self.rt, &mut self.timed, &self.watch, self.is_heard, into);
+        match read {
             Ok(count) => {
                 self.hear(into.get(..count).unwrap_or(&[]));
                 self.ended = self.ended || count == 0 && !into.is_empty();

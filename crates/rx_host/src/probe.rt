@@ -1,0 +1,172 @@
+//! A farm that is silent while a command runs is asked, over a connection of its own, whether it still answers.
+
+ghost use Rattle.std.specs.Prelude.{◌≡◌, IfOk, None, false};
+ghost use Rattle.rx_world.specs.declared.versions.Dialect.TheVariants.{New as new_dialect};
+ghost use Rattle.rx_host.specs.Farms.{any_bytes};
+
+use crate::call_time::CallTime;
+use crate::connecting::connect;
+use crate::timed::TimedStream;
+use rx_base::{NoMemory, Text, TryClone};
+use rx_grpc::GrpcCaller;
+use rx_streams::Faults;
+use rx_world::{CallFault, Dial, Failed, Link};
+use std::alloc::{AllocError, Global};
+use std::io;
+use std::sync::Arc;
+use std::time::Duration;
+
+/// How long an answer may take.
+const ANSWER_SECONDS: u64 = 10;
+
+/// The most bytes that the name of a farm may have.
+const MOST_AUTHORITY: usize = 4_294_967_295;
+
+/// Which farm is asked.
+#[derive(Drop)]
+struct Farm {
+    address: String,
+    instance: Text,
+}
+
+/// Asks a farm whether it answers.
+#[derive(Drop)]
+pub(crate) struct Probe {
+    rt: HostRuntime,
+    farm: Arc<Farm, Global>,
+}
+
+impl Probe {
+    /// Asks the farm at this address, of this instance.
+    pub(crate) fn new(
+        rt: HostRuntime,
+        address: String,
+        instance: Text,
+    ) -> Result<Probe, AllocError> {
+        let farm = Arc::new(rt.alloc(), Farm { address, instance })?;
+        Ok(Probe { rt, farm })
+    }
+
+    /// Another handle of the same.
+    pub(crate) fn share(&self) -> Result<Probe, AllocError> {
+        Ok(Probe {
+            rt: self.rt,
+            farm: Arc::try_clone(&self.farm)?,
+        })
+    }
+
+    /// Whether the farm tells within 10 seconds what it can do, or why it doesn't. Where there is no memory to ask, it is taken to.
+    pub(crate) fn is_answered(&self) -> bool {
+        self.ask().unwrap_or(true)
+    }
+
+    fn ask(&self) -> Result<bool, NoMemory> {
+        let alloc = self.rt.alloc();
+        let authority = Vec::from_slice(alloc, self.farm.address.as_bytes())?;
+        if authority.len() > MOST_AUTHORITY {
+            return Ok(false);
+        }
+        let dial = BriefDial {
+            rt: self.rt,
+            farm: Arc::try_clone(&self.farm)?,
+            faults: Faults::new(),
+        };
+        let instance = self.farm.instance.try_clone(alloc)?;
+        let mut caller = GrpcCaller::new(alloc, dial, authority, instance, [0; 32]);
+        match caller.hear_capabilities() {
+            Ok(_) | Err(CallFault::Status(_)) => Ok(true),
+            Err(CallFault::NoMemory) => Ok(true),
+            Err(_) => Ok(false),
+        }
+    }
+}
+
+/// Makes the connection of one question.
+#[derive(Drop)]
+struct BriefDial {
+    rt: HostRuntime,
+    farm: Arc<Farm, Global>,
+    faults: Faults,
+}
+
+impl BriefDial {
+    fn connect(&self) -> io::Result<BriefLink>
+        ensures ended { IfOk result (λ link. link.ended ≡ false) }
+        ensures faults { IfOk result (λ link. link.faults.count ≡ 0) }
+    {
+        let time = CallTime::new(&self.rt);
+        time.begin(&self.rt, Some(Duration::from_secs(ANSWER_SECONDS)));
+        let stream = connect(&self.rt, self.farm.address.as_str())?;
+        Ok(BriefLink {
+            rt: self.rt,
+            timed: TimedStream::new(stream)?,
+            time,
+            ended: false,
+            faults: Faults::new(),
+        })
+    }
+}
+
+impl Dial for BriefDial {
+    type L = BriefLink;
+
+    ghost rule = { λ d. any_bytes };
+
+    ghost dialect = { new_dialect };
+
+    ghost faults = { λ d. d.faults.count };
+
+    fn dial(&mut self) -> Result<BriefLink, Failed> {
+        match self.connect() {
+            Ok(link) => Ok(link),
+            Err(error) => Err(self.faults.failed(error)),
+        }
+    }
+}
+
+/// A connection for one question, whose answer is to come within its time.
+#[derive(Drop)]
+struct BriefLink {
+    rt: HostRuntime,
+    timed: TimedStream,
+    time: CallTime,
+    ended: bool,
+    faults: Faults,
+}
+
+impl BriefLink {
+    /// How much of its time is left.
+    fn left(&self) -> Duration {
+        let all = Duration::from_secs(ANSWER_SECONDS);
+        self.time.left(&self.rt).unwrap_or(all)
+    }
+}
+
+impl Link for BriefLink {
+    ghost wire = { λ l. None };
+
+    ghost ended = { λ l. l.ended };
+
+    ghost rule = { λ l. any_bytes };
+
+    ghost faults = { λ l. l.faults.count };
+
+    fn send(&mut self, piece: &[u8]) -> Result<usize, Failed> {
+        let left = self.left();
+        match self.timed.write(left, piece) {
+            Ok(count) => Ok(count),
+            Err(error) => Err(self.faults.failed(error)),
+        }
+    }
+
+    fn receive(&mut self, into: &mut [u8]) -> Result<usize, Failed> {
+        let left = self.left();
+        match self.timed.read(left, into) {
+            Ok(count) => {
+                self.ended = self.ended || count == 0 && !into.is_empty();
+                Ok(count)
+            }
+            Err(error) => Err(self.faults.failed(error)),
+        }
+    }
+}
