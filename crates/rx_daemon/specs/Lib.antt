@@ -5,6 +5,7 @@ pub mod Cuts
 pub mod Fronts
 pub mod Gates
 pub mod Kept
+pub mod Numbers
 pub mod Proxy
 pub mod Serves
 pub mod Words

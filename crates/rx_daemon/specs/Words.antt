@@ -1,13 +1,10 @@
 -- The words of the command line: `exec` or `serve`, and options in any order, each once at most.
 use Rattle.std.specs.Prelude.{ℕ, List, [], ◌∷◌, Bool, not, ◌&&◌, Option, None, Some, is_some, option_map, String, codes, if◌then◌else◌, length, nat_lt, string_bytes}
-use Rattle.std.specs.Char.{is_ascii_digit}
-use Rattle.std.specs.Int.{is_in_range}
-use Rattle.std.specs.List.{list_all}
 use Rattle.std.specs.Option.{option_and_then, unwrap_or}
 use Rattle.std.specs.Str.{bytes_eq}
-use Rattle.std.specs.Str.Parse.{digits_value}
 use Rattle.rx_daemon.specs.Addresses.{is_address, is_listening_address}
 use Rattle.rx_daemon.specs.Cuts.{after, before, begins, has}
+use Rattle.rx_daemon.specs.Numbers.{Numbers, no_numbers, with_number}
 
 -- what the words ask for
 pub record Options : Type 0 where
@@ -18,6 +15,8 @@ pub record Options : Type 0 where
   pub scratch : List ℕ
   pub sessions : ℕ
   pub slots : ℕ
+  pub call_timeout : ℕ
+  pub farm_silence : ℕ
 
 -- the values that options have so far, and the name whose value is the next word
 pub record Given : Type 0 where
@@ -26,32 +25,19 @@ pub record Given : Type 0 where
   pub remote : Option (List ℕ)
   pub instance : Option (List ℕ)
   pub scratch : Option (List ℕ)
-  pub sessions : Option ℕ
-  pub slots : Option ℕ
+  pub numbers : Numbers
   pub waiting : Option (List ℕ)
 
 abbrev pub nothing_given : Given
 nothing_given =
-    record { root = None; listen = None; remote = None; instance = None; scratch = None; sessions = None; slots = None; waiting = None }
+    record { root = None; listen = None; remote = None; instance = None; scratch = None; numbers = no_numbers; waiting = None }
 
 -- an option that has no value yet gets one that fits
 abbrev pub once : Option (List ℕ) → Bool → List ℕ → Option (List ℕ)
 once None fits value = if fits then Some value else None
 once (Some given) fits value = None
 
--- a number of sessions or of slots: 1 to 256 in decimal digits, without a sign or a leading zero
-unfoldable pub count_in : List ℕ → Option ℕ
-count_in text =
-    if list_all is_ascii_digit text && not (begins text (codes "0")) && is_in_range 1 256 (digits_value 10 text) then
-    Some (digits_value 10 text)
-    else None
-
--- the number of an option that has none yet
-abbrev pub once_counted : Option ℕ → Option ℕ → Option ℕ
-once_counted None count = count
-once_counted (Some given) count = None
-
--- an option and its value: --root PATH, --listen ADDRESS, --remote HOST:PORT, --instance NAME, --scratch DIR, --sessions N or --slots N
+-- an option and its value: --root PATH, --listen ADDRESS, --remote HOST:PORT, --instance NAME, --scratch DIR, or one with a number
 unfoldable pub with_option : Given → List ℕ → List ℕ → Option Given
 with_option given name value =
     if bytes_eq name (codes "--root") then
@@ -67,13 +53,7 @@ with_option given name value =
     else if bytes_eq name (codes "--scratch") then
     option_map (λ scratch. record given { scratch = Some scratch; waiting = None })
     (once given.scratch (begins value (codes "/")) value)
-    else if bytes_eq name (codes "--sessions") then
-    option_map (λ sessions. record given { sessions = Some sessions; waiting = None })
-    (once_counted given.sessions (count_in value))
-    else if bytes_eq name (codes "--slots") then
-    option_map (λ slots. record given { slots = Some slots; waiting = None })
-    (once_counted given.slots (count_in value))
-    else None
+    else option_map (λ numbers. record given { numbers = numbers; waiting = None }) (with_number given.numbers name value)
 
 abbrev pub equals_sign : ℕ
 equals_sign = 61
@@ -98,17 +78,23 @@ abbrev pub is_command : List ℕ → Bool → Bool
 is_command command listens =
     if bytes_eq command (codes "exec") then not listens else bytes_eq command (codes "serve") && listens
 
--- a root is wanted, and no name may lack its value; the instance is empty by default, and sandboxes are made in /tmp
-abbrev pub options_by : Option (List ℕ) → Option (List ℕ) → Given → Option Options
-options_by None (Some root) given = Some (record {
+-- the instance is empty by default, sandboxes are made in /tmp, and both limits of time are a minute
+abbrev pub options_below : List ℕ → Given → Options
+options_below root given = record {
   root = root;
   listen = given.listen;
   remote = given.remote;
   instance = unwrap_or given.instance [];
   scratch = unwrap_or given.scratch (codes "/tmp");
-  sessions = unwrap_or given.sessions 16;
-  slots = unwrap_or given.slots 4;
-})
+  sessions = unwrap_or given.numbers.sessions 16;
+  slots = unwrap_or given.numbers.slots 4;
+  call_timeout = unwrap_or given.numbers.call_timeout 60;
+  farm_silence = unwrap_or given.numbers.farm_silence 60;
+}
+
+-- a root is wanted, and no name may lack its value
+abbrev pub options_by : Option (List ℕ) → Option (List ℕ) → Given → Option Options
+options_by None (Some root) given = Some (options_below root given)
 options_by waiting root given = None
 
 abbrev pub options_of : List ℕ → Given → Option Options

@@ -9,6 +9,7 @@ mod asked;
 mod fronts;
 mod gate;
 mod kept;
+mod numbers;
 mod proxy;
 mod runs;
 mod serving;

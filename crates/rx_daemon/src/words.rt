@@ -2,9 +2,10 @@
 
 ghost use Rattle.std.specs.Prelude.{◌≡◌, is_some, option_copied};
 ghost use Rattle.rx_daemon.specs.Cuts.{begins};
-ghost use Rattle.rx_daemon.specs.Words.{count_in, is_command, nothing_given, once, once_counted, options_in, root_in, with_option, with_word, with_words};
+ghost use Rattle.rx_daemon.specs.Words.{is_command, nothing_given, once, options_below, options_in, root_in, with_option, with_word, with_words};
 
-use crate::addresses::{are_digits, is_address, is_listening_address};
+use crate::addresses::{is_address, is_listening_address};
+use crate::numbers::{Numbers, with_number};
 use std::marker::Model;
 
 /// Where sandboxes are made, unless it is given.
@@ -16,8 +17,11 @@ const SESSIONS: u16 = 16;
 /// How many local attempts run at once, unless it is given.
 const SLOTS: u16 = 4;
 
-/// How many of either may be given.
-const MOST_AT_ONCE: u16 = 256;
+/// How long a call on the farm may take in which no command runs, in seconds, unless it is given.
+const CALL_TIMEOUT: u16 = 60;
+
+/// How long the farm may be silent while a command runs, in seconds, unless it is given.
+const FARM_SILENCE: u16 = 60;
 
 /// The options of `reproxy exec` and of `reproxy serve`.
 #[derive(Debug, Drop)]
@@ -36,6 +40,11 @@ pub struct Options<'a> {
     pub sessions: u16,
     /// How many local attempts of `serve` run at once: 1 to 256.
     pub slots: u16,
+    /// How long a call on the farm may take in which no command runs, in seconds: 1 to 3600.
+    pub call_timeout: u16,
+    /// How long the farm may be silent while a command runs, in seconds: 1 to 3600. Then it is asked whether it still
+    /// answers.
+    pub farm_silence: u16,
 }
 
 impl<'a> Model for Options<'a> {
@@ -52,6 +61,8 @@ impl<'a> Model for Options<'a> {
       scratch = o.scratch.now;
       sessions = o.sessions;
       slots = o.slots;
+      call_timeout = o.call_timeout;
+      farm_silence = o.farm_silence;
     } };
 }
 
@@ -63,8 +74,7 @@ struct Given<'a> {
     remote: Option<&'a str>,
     instance: Option<&'a str>,
     scratch: Option<&'a str>,
-    sessions: Option<u16>,
-    slots: Option<u16>,
+    numbers: Numbers,
     /// The name of an option whose value is the next word.
     waiting: Option<&'a str>,
 }
@@ -81,8 +91,7 @@ impl<'a> Model for Given<'a> {
       remote = option_copied g.remote;
       instance = option_copied g.instance;
       scratch = option_copied g.scratch;
-      sessions = g.sessions;
-      slots = g.slots;
+      numbers = g.numbers;
       waiting = option_copied g.waiting;
     } };
 }
@@ -103,36 +112,6 @@ fn once<'a>(given: Option<&'a str>, fits: bool, value: &'a str) -> Option<&'a st
     }
 }
 
-/// A number of sessions or of slots: 1 to 256 in decimal digits, without a sign or a leading zero.
-#[tactic(auto, unfolding(crate::specs::Words::count_in))]
-fn count_in(text: &str) -> Option<u16>
-    ensures { result ≡ count_in text.now }
-{
-    if !are_digits(text) || begins(text, b"0") {
-        return None;
-    }
-    match text.parse::<u16>() {
-        Ok(count) => {
-            if 1 <= count && count <= MOST_AT_ONCE {
-                Some(count)
-            } else {
-                None
-            }
-        }
-        Err(_) => None,
-    }
-}
-
-/// The number of an option that has none yet.
-fn once_counted(given: Option<u16>, count: Option<u16>) -> Option<u16>
-    ensures { result ≡ once_counted given count }
-{
-    match given {
-        None => count,
-        Some(_) => None,
-    }
-}
-
 /// What was given, with one more option.
 #[tactic(auto, unfolding(crate::specs::Words::with_option))]
 fn with_option<'a>(given: Given<'a>, name: &str, value: &'a str) -> Option<Given<'a>>
@@ -148,9 +127,7 @@ fn with_option<'a>(given: Given<'a>, name: &str, value: &'a str) -> Option<Given
         "--remote" => given.remote = Some(once(given.remote, is_address(value), value)?),
         "--instance" => given.instance = Some(once(given.instance, !value.is_empty(), value)?),
         "--scratch" => given.scratch = Some(once(given.scratch, begins(value, b"/"), value)?),
-        "--sessions" => given.sessions = Some(once_counted(given.sessions, count_in(value))?),
-        "--slots" => given.slots = Some(once_counted(given.slots, count_in(value))?),
-        _ => return None,
+        _ => given.numbers = with_number(given.numbers, name, value)?,
     }
     Some(given)
 }
@@ -185,8 +162,7 @@ fn given_in(words: &[String]) -> Option<Given<'_>>
         remote: None,
         instance: None,
         scratch: None,
-        sessions: None,
-        slots: None,
+        numbers: Numbers::none(),
         waiting: None,
     };
     let mut rest = words;
@@ -207,9 +183,28 @@ fn is_command(command: &str, listens: bool) -> bool
     command == "serve" && listens
 }
 
+/// The options of a root, by what was given.
+fn options_below<'a>(root: &'a str, given: Given<'a>) -> Options<'a>
+    ensures { result ≡ options_below root.now given.entry }
+{
+    let numbers = given.numbers;
+    Options {
+        root,
+        listen: given.listen,
+        remote: given.remote,
+        instance: given.instance.unwrap_or(""),
+        scratch: given.scratch.unwrap_or(SCRATCH),
+        sessions: numbers.sessions.unwrap_or(SESSIONS),
+        slots: numbers.slots.unwrap_or(SLOTS),
+        call_timeout: numbers.call_timeout.unwrap_or(CALL_TIMEOUT),
+        farm_silence: numbers.farm_silence.unwrap_or(FARM_SILENCE),
+    }
+}
+
 /// What the words of a command line ask for: `exec` or `serve`, and `--root PATH`, of `serve` alone `--listen ADDRESS`,
-/// `[--remote HOST:PORT]`, `[--instance NAME]`, `[--scratch DIR]`, `[--sessions N]`, `[--slots N]`: the options in any order, each as two
-/// words or as `--name=value`.
+/// `[--remote HOST:PORT]`, `[--instance NAME]`, `[--scratch DIR]`, `[--sessions N]`, `[--slots N]`,
+/// `[--call-timeout SECONDS]`, `[--farm-silence SECONDS]`: the options in any order, each as two words or as
+/// `--name=value`.
 #[tactic(auto, unfolding(crate::specs::Words::options_in))]
 pub fn options_in(words: &[String]) -> Option<Options<'_>>
     ensures { result ≡ options_in words.now }
@@ -219,15 +214,7 @@ pub fn options_in(words: &[String]) -> Option<Options<'_>>
     if !is_command(command.as_str(), given.listen.is_some()) || given.waiting.is_some() {
         return None;
     }
-    Some(Options {
-        root: given.root?,
-        listen: given.listen,
-        remote: given.remote,
-        instance: given.instance.unwrap_or(""),
-        scratch: given.scratch.unwrap_or(SCRATCH),
-        sessions: given.sessions.unwrap_or(SESSIONS),
-        slots: given.slots.unwrap_or(SLOTS),
-    })
+    Some(options_below(given.root?, given))
 }
 
 /// The root in the words of a command line.
