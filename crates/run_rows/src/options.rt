@@ -25,6 +25,8 @@ pub(crate) fn show_options(
     answer.text(options.scratch.as_bytes())?;
     answer.number(u64::from(options.sessions))?;
     answer.number(u64::from(options.slots))?;
+    answer.number(u64::from(options.call_timeout))?;
+    answer.number(u64::from(options.farm_silence))?;
     if let Some(listen) = options.listen {
         answer.text(listen.as_bytes())?;
     }
