@@ -4,7 +4,7 @@ use rx_daemon::options_in;
 use std::alloc::{AllocError, Global};
 
 /// The options. The second one is of `serve` alone.
-const OPTIONS: [&str; 7] = [
+const OPTIONS: [&str; 9] = [
     "--root",
     "--listen",
     "--remote",
@@ -12,6 +12,8 @@ const OPTIONS: [&str; 7] = [
     "--scratch",
     "--sessions",
     "--slots",
+    "--call-timeout",
+    "--farm-silence",
 ];
 
 /// What the address of a farm begins with elsewhere.

@@ -62,6 +62,10 @@ pub(crate) fn settled(
     let sessions = options.sessions;
     words.push(format!(in alloc; "--sessions={sessions}")?)?;
     words.push(format!(in alloc; "--slots={slots}")?)?;
+    let call_timeout = options.call_timeout;
+    words.push(format!(in alloc; "--call-timeout={call_timeout}")?)?;
+    let farm_silence = options.farm_silence;
+    words.push(format!(in alloc; "--farm-silence={farm_silence}")?)?;
     Ok(words)
 }
 

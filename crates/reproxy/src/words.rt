@@ -22,6 +22,12 @@ reply to a request that watches waits until standard input has ended or said som
   --remote HOST:PORT  the farm, without TLS; default: none, and each remote attempt fails
   --instance NAME     the farm's instance; default: the one without a name
   --scratch DIR       where sandboxes are made; DIR begins with a slash; default: /tmp
+  --call-timeout SECONDS
+                      how long a call on the farm may take in which no command runs, 1 to 3600;
+                      default: 60
+  --farm-silence SECONDS
+                      how long the farm may be silent while a command runs, before it is asked
+                      whether it still answers, 1 to 3600; default: 60
 The options come in any order, each once at most, as two words or as --name=VALUE. A VALUE that
 begins with a dash needs the second form. --sessions and --slots may stand there, and change nothing.
 ";
@@ -40,6 +46,12 @@ Serves the clients that connect, many at once, until one asks for its end (rewra
   --sessions N        how many sessions run at once, 1 to 256; default: 16
   --slots N           how many commands run here at once, 1 to 256; default: as many as there are
                       processors
+  --call-timeout SECONDS
+                      how long a call on the farm may take in which no command runs, 1 to 3600;
+                      default: 60
+  --farm-silence SECONDS
+                      how long the farm may be silent while a command runs, before it is asked
+                      whether it still answers, 1 to 3600; default: 60
 The options come in any order, each once at most, as two words or as --name=VALUE. A VALUE that
 begins with a dash needs the second form.
 ";
