@@ -154,6 +154,14 @@ pub(crate) fn write_operation(operation: Operation, answer: &mut Answer) -> Resu
     }
 }
 
+/// Writes how many milliseconds are asked for, or `none`.
+fn write_delay(delay: Option<u64>, answer: &mut Answer) -> Result<(), AllocError> {
+    match delay {
+        Some(delay) => answer.number(delay),
+        None => answer.word("none"),
+    }
+}
+
 /// Writes the bytes of a blob.
 fn write_blob(text: Bytes, answer: &mut Answer) -> Result<(), AllocError> {
     answer.word("blob")?;
@@ -240,6 +248,7 @@ fn call_farm(
         },
         "faults" => answer.number(caller.faults()),
         "text" => answer.text(caller.status_text()),
+        "delay" => write_delay(caller.retry_delay(), answer),
         "hang_up" => {
             caller.hang_up();
             write_done(answer)
@@ -273,7 +282,7 @@ impl Callers {
         Ok(self.link(bytes, answer)?)
     }
 
-    /// `refuse STATUS TEXT`: one more link.
+    /// `refuse STATUS TEXT DETAILS`: one more link.
     pub(crate) fn refuse(
         &mut self,
         row: &mut Row<'_>,

@@ -28,6 +28,9 @@ const STATUS: &[u8; 13] = b"\x00\x0bgrpc-status";
 /// The same of the name `grpc-message`.
 const TEXT: &[u8; 14] = b"\x00\x0cgrpc-message";
 
+/// The same of the name `grpc-status-details-bin`.
+const DETAILS: &[u8; 25] = b"\x00\x17grpc-status-details-bin";
+
 /// GOAWAY (6.8) after stream 1, without an error.
 const GONE: &[u8; 17] = b"\x00\x00\x08\x07\x00\x00\x00\x00\x00\x00\x00\x00\x01\x00\x00\x00\x00";
 
@@ -66,25 +69,38 @@ fn push_message(
     push_frame(bytes, DATA, 0, 1, &body)
 }
 
-/// Adds a string literal of less than 127 bytes (RFC 7541 5.2).
+/// Adds a string literal of less than 255 bytes (RFC 7541 5.2).
 fn push_string(block: &mut Vec<u8>, string: &[u8]) -> Result<(), AllocError> {
-    block.extend_from_slice(&[(string.len() % 128) as u8])?;
+    let length = string.len();
+    if length < 127 {
+        block.extend_from_slice(&[length as u8])?;
+    } else {
+        block.extend_from_slice(&[127, ((length - 127) % 128) as u8])?;
+    }
     block.extend_from_slice(string)
 }
 
-/// Adds the trailers of stream 1: a status and, unless it is empty, the text with it.
+/// Adds a header to a block, unless its value is empty. `name` is that of a literal.
+fn push_header(block: &mut Vec<u8>, name: &[u8], value: &[u8]) -> Result<(), AllocError> {
+    if value.is_empty() {
+        return Ok(());
+    }
+    block.extend_from_slice(name)?;
+    push_string(block, value)
+}
+
+/// Adds the trailers of stream 1: a status, and the text and the details with it, unless they are empty.
 fn push_status(
     alloc: Global,
     bytes: &mut Vec<u8>,
     status: &[u8],
     text: &[u8],
+    details: &[u8],
 ) -> Result<(), AllocError> {
     let mut block = Vec::from_slice(alloc, STATUS)?;
     push_string(&mut block, status)?;
-    if !text.is_empty() {
-        block.extend_from_slice(TEXT)?;
-        push_string(&mut block, text)?;
-    }
+    push_header(&mut block, TEXT, text)?;
+    push_header(&mut block, DETAILS, details)?;
     push_frame(bytes, HEADERS, END_HEADERS + END_STREAM, 1, &block)
 }
 
@@ -107,20 +123,25 @@ pub(crate) fn read_answer(
         push_message(alloc, &mut bytes, &message, lacking)?;
     }
     if !status.is_empty() {
-        push_status(alloc, &mut bytes, &status, &[])?;
+        push_status(alloc, &mut bytes, &status, &[], &[])?;
         bytes.extend_from_slice(GONE)?;
     }
     Ok(bytes)
 }
 
-/// `STATUS TEXT`: what a link sends that refuses one call.
+/// `STATUS TEXT DETAILS`: what a link sends that refuses one call.
 pub(crate) fn read_refusal(alloc: Global, row: &mut Row<'_>) -> Result<Vec<u8>, RowFault> {
     let status = row.text(alloc)?;
     let text = row.text(alloc)?;
+    let details = if row.is_done() {
+        Vec::new(alloc)
+    } else {
+        row.text(alloc)?
+    };
     let mut bytes = Vec::new(alloc);
     push_frame(&mut bytes, SETTINGS, 0, 0, &[])?;
     push_frame(&mut bytes, HEADERS, END_HEADERS, 1, SUCCESS)?;
-    push_status(alloc, &mut bytes, &status, &text)?;
+    push_status(alloc, &mut bytes, &status, &text, &details)?;
     bytes.extend_from_slice(GONE)?;
     Ok(bytes)
 }

@@ -6,13 +6,13 @@ use Rattle.rx_h2frame.specs.Write.{four}
 use Rattle.rx_grpc.specs.declared.head.Head.{Head}
 use Rattle.rx_grpc.specs.declared.head.Head.TheVariants.{Success}
 use Rattle.rx_grpc.specs.Framing.{Whole, Lacks, size_of, sized, next_message, framed, AllSmall}
-use Rattle.rx_grpc.specs.Heard.{Heard, settled, read}
+use Rattle.rx_grpc.specs.Heard.{Heard, nothing, settled, read}
 use Rattle.rx_grpc.specs.Uses.{ReadsBack}
 use Rattle.rx_grpc.proofs.ReadLemmas.{settled_lacks, read_front, read_append}
 
 -- a reader that goes on, with these bytes of a message
-abbrev pub at : Head → List (List ℕ) → List ℕ → List ℕ → Heard
-at head messages text rest = record { head = head; rest = rest; messages = messages; end = None; status_text = text }
+abbrev pub at : Head → List (List ℕ) → Heard → List ℕ → Heard
+at head messages from rest = record from { head = head; rest = rest; messages = messages; end = None }
 
 abbrev pub prefix : ℕ → List ℕ
 prefix n = 0 ∷ four n
@@ -52,39 +52,39 @@ unfolding next_message
 no_message = refl
 
 -- the flag, and then the length
-pub read_flag : (head : Head) (ms : List (List ℕ)) (text : List ℕ) → read (at head ms text []) (0 ∷ []) ≡ at head ms text (0 ∷ [])
-read_flag head ms text =
-    read_front (at head ms text []) 1 0 [] refl no_message (omega arith)
-    ∙ settled_lacks (at head ms text (0 ∷ [])) 4 (short_lacks (0 ∷ []) (omega arith) (omega arith) refl)
+pub read_flag : (head : Head) (ms : List (List ℕ)) (from : Heard) → read (at head ms from []) (0 ∷ []) ≡ at head ms from (0 ∷ [])
+read_flag head ms from =
+    read_front (at head ms from []) 1 0 [] refl no_message (omega arith)
+    ∙ settled_lacks (at head ms from (0 ∷ [])) 4 (short_lacks (0 ∷ []) (omega arith) (omega arith) refl)
 
-pub read_size : (head : Head) (ms : List (List ℕ)) (text : List ℕ) (n : ℕ) → read (at head ms text (0 ∷ [])) (four n) ≡ settled (at head ms text (prefix n))
-read_size head ms text n = read_front (at head ms text (0 ∷ [])) 4 _ _ refl (short_lacks (0 ∷ []) (omega arith) (omega arith) refl) (omega arith)
+pub read_size : (head : Head) (ms : List (List ℕ)) (from : Heard) (n : ℕ) → read (at head ms from (0 ∷ [])) (four n) ≡ settled (at head ms from (prefix n))
+read_size head ms from n = read_front (at head ms from (0 ∷ [])) 4 _ _ refl (short_lacks (0 ∷ []) (omega arith) (omega arith) refl) (omega arith)
 
-pub read_body : (head : Head) (ms : List (List ℕ)) (text m : List ℕ) → length m ≤ 4194304 → read (settled (at head ms text (prefix (length m)))) m ≡ at head (ms ++ m ∷ []) text []
-read_body head ms text [] small = settled_whole (at head ms text (prefix 0)) [] (rw (append-nil (prefix 0)) at (message_sized 0 [] (omega arith)) ∙ sized_whole 0 (prefix 0) (omega arith) (omega arith))
-read_body head ms text (b ∷ m) small =
+pub read_body : (head : Head) (ms : List (List ℕ)) (from : Heard) (m : List ℕ) → length m ≤ 4194304 → read (settled (at head ms from (prefix (length m)))) m ≡ at head (ms ++ m ∷ []) from []
+read_body head ms from [] small = settled_whole (at head ms from (prefix 0)) [] (rw (append-nil (prefix 0)) at (message_sized 0 [] (omega arith)) ∙ sized_whole 0 (prefix 0) (omega arith) (omega arith))
+read_body head ms from (b ∷ m) small =
     let n = length (b ∷ m) in
     let lacks : next_message (prefix n) ≡ Lacks n = rw (append-nil (prefix n)) at (message_sized n [] small) ∙ (sized_lacks n (prefix n) small (omega arith) ∙ ap Lacks (omega arith)) in
     let whole : next_message (prefix n ++ b ∷ m) ≡ Whole (b ∷ m) = message_sized n (b ∷ m) small ∙ sized_whole n (prefix n ++ b ∷ m) small (omega arith) in
-    ap (λ (x : Heard). read x (b ∷ m)) (settled_lacks (at head ms text (prefix n)) n lacks)
-    ∙ (read_front (at head ms text (prefix n)) n b m refl lacks (omega arith)
-    ∙ settled_whole (at head ms text (prefix n ++ b ∷ m)) (b ∷ m) whole)
+    ap (λ (x : Heard). read x (b ∷ m)) (settled_lacks (at head ms from (prefix n)) n lacks)
+    ∙ (read_front (at head ms from (prefix n)) n b m refl lacks (omega arith)
+    ∙ settled_whole (at head ms from (prefix n ++ b ∷ m)) (b ∷ m) whole)
 
-pub read_message : (head : Head) (ms : List (List ℕ)) (text m : List ℕ) → length m ≤ 4194304 → read (at head ms text []) (prefix (length m) ++ m) ≡ at head (ms ++ m ∷ []) text []
-read_message head ms text m small =
-    read_append (at head ms text []) (0 ∷ []) (four (length m) ++ m)
-    ∙ (ap (λ (x : Heard). read x (four (length m) ++ m)) (read_flag head ms text)
-    ∙ (read_append (at head ms text (0 ∷ [])) (four (length m)) m
-    ∙ (ap (λ (x : Heard). read x m) (read_size head ms text (length m))
-    ∙ read_body head ms text m small)))
+pub read_message : (head : Head) (ms : List (List ℕ)) (from : Heard) (m : List ℕ) → length m ≤ 4194304 → read (at head ms from []) (prefix (length m) ++ m) ≡ at head (ms ++ m ∷ []) from []
+read_message head ms from m small =
+    read_append (at head ms from []) (0 ∷ []) (four (length m) ++ m)
+    ∙ (ap (λ (x : Heard). read x (four (length m) ++ m)) (read_flag head ms from)
+    ∙ (read_append (at head ms from (0 ∷ [])) (four (length m)) m
+    ∙ (ap (λ (x : Heard). read x m) (read_size head ms from (length m))
+    ∙ read_body head ms from m small)))
 
-pub read_framed : (messages : List (List ℕ)) (head : Head) (ms : List (List ℕ)) (text : List ℕ) → AllSmall messages → read (at head ms text []) (framed messages) ≡ at head (ms ++ messages) text []
-read_framed [] head ms text small = ap (λ (x : List (List ℕ)). at head x text []) (sym (append-nil ms))
-read_framed (m ∷ messages) head ms text small =
-    read_append (at head ms text []) (prefix (length m) ++ m) (framed messages)
-    ∙ (ap (λ (x : Heard). read x (framed messages)) (read_message head ms text m small.0)
-    ∙ (read_framed messages head (ms ++ m ∷ []) text small.1
-    ∙ ap (λ (x : List (List ℕ)). at head x text []) (append_assoc ms (m ∷ []) messages)))
+pub read_framed : (messages : List (List ℕ)) (head : Head) (ms : List (List ℕ)) (from : Heard) → AllSmall messages → read (at head ms from []) (framed messages) ≡ at head (ms ++ messages) from []
+read_framed [] head ms from small = ap (λ (x : List (List ℕ)). at head x from []) (sym (append-nil ms))
+read_framed (m ∷ messages) head ms from small =
+    read_append (at head ms from []) (prefix (length m) ++ m) (framed messages)
+    ∙ (ap (λ (x : Heard). read x (framed messages)) (read_message head ms from m small.0)
+    ∙ (read_framed messages head (ms ++ m ∷ []) from small.1
+    ∙ ap (λ (x : List (List ℕ)). at head x from []) (append_assoc ms (m ∷ []) messages)))
 
 pub reads_back : (messages : List (List ℕ)) → ReadsBack messages
-reads_back messages small = read_framed messages Success [] [] small
+reads_back messages small = read_framed messages Success [] nothing small

@@ -1,6 +1,6 @@
 -- What a call has heard of its answer, event by event and byte by byte (PROTOCOL-HTTP2.md of gRPC, "Responses"): a header
 -- list, messages, and trailers; or trailers alone.
-use Rattle.std.specs.Prelude.{ℕ, Bool, List, [], ◌∷◌, ◌++◌, Option, None, Some, if◌then◌else◌, codes}
+use Rattle.std.specs.Prelude.{ℕ, Bool, List, [], ◌∷◌, ◌++◌, ◌==◌, Option, None, Some, if◌then◌else◌, codes}
 use Rattle.rx_hpack.specs.Header.{Field}
 use Rattle.rx_h2conn.specs.Session.{Event, Headers, Bytes, Reset, Gone}
 use Rattle.rx_grpc.specs.declared.head.Head.{Head}
@@ -16,9 +16,10 @@ pub record Heard : Type 0 where
   pub messages : List (List ℕ)  -- the whole messages that weren't handed out, in order
   pub end : Option End  -- what ended the answer: nothing after it counts
   pub status_text : List ℕ  -- `grpc-message` of the list that ended it, as it was sent
+  pub details : Option (List ℕ)  -- `grpc-status-details-bin` of that list, as it was sent, where the status isn't 0
 
 abbrev pub nothing : Heard
-nothing = record { head = Waiting; rest = []; messages = []; end = None; status_text = [] }
+nothing = record { head = Waiting; rest = []; messages = []; end = None; status_text = []; details = None }
 
 abbrev pub ended_by : Heard → End → Heard
 ended_by h end = record h { end = Some end }
@@ -79,12 +80,20 @@ abbrev pub end_of : Option (List ℕ) → Head → End
 end_of None head = end_by head
 end_of (Some text) head = Status (status_number text)
 
+-- the details of a status come with it, where it isn't 0
+abbrev pub details_of : End → List Field → Option (List ℕ)
+details_of (Status code) list = if code == 0 then None else value_of (codes "grpc-status-details-bin") list
+details_of Compressed list = None
+details_of TooLarge list = None
+details_of NoStatus list = None
+
 -- the trailers, or an answer of headers alone ("Trailers-Only")
 abbrev pub trailed : Heard → List Field → Heard
 trailed h list = record h {
   head = headed h.head list;
   end = Some (end_of (value_of (codes "grpc-status") list) (headed h.head list));
   status_text = status_text_of list;
+  details = details_of (end_of (value_of (codes "grpc-status") list) (headed h.head list)) list;
 }
 
 abbrev pub listed : Heard → List Field → Bool → Heard

@@ -7,7 +7,7 @@ use Rattle.rx_grpc.specs.Framing.{Next, Whole, Lacks, IsCompressed, IsTooLarge, 
 use Rattle.rx_grpc.specs.Heard.{Heard}
 
 abbrev pub heard_of : Reader → Heard
-heard_of r = record { head = r.head; rest = r.rest.items; messages = r.messages.items; end = r.end; status_text = r.status_text.items }
+heard_of r = record { head = r.head; rest = r.rest.items; messages = r.messages.items; end = r.end; status_text = r.status_text.items; details = r.details }
 
 -- the code tells what the bytes begin with
 abbrev pub sees : List ℕ → Sign → Next

@@ -32,6 +32,7 @@ pub record TransportOf (L : Type 0) : Type 0 where
   pub opened : Option Opened
   pub call : Option OpenCall  -- the same, with all that it keeps
   pub text : List ℕ  -- that came with the status of the last answer, as far as that was heard
+  pub details : Option (List ℕ)  -- and the details that came with it, as they were sent
 
 -- a stream can be opened
 abbrev pub takes : {L : Type 0} → TransportOf L → Bool

@@ -11,6 +11,7 @@ ghost use Rattle.rx_grpc.specs.Seen.{HandsOut};
 ghost use Rattle.rx_grpc.specs.Uses.{FrontShows, IsOfEvents, ReadsBack, ShownStays, Use};
 
 use crate::answer::Answer;
+use crate::details::Details;
 use crate::end::End;
 use crate::head::Head;
 use crate::reader::Reader;
@@ -69,6 +70,7 @@ impl Answers {
             messages: VecDeque::new(alloc),
             end: None,
             status_text: Vec::new(alloc),
+            details: None,
             lacking: 1,
         };
         Answers { reader }
@@ -115,6 +117,13 @@ impl Answers {
         let mut text = Vec::new(alloc);
         percent_decode(&self.reader.status_text).append_to(&mut text)?;
         Ok(text)
+    }
+
+    /// The details that came with the status, where it isn't 0.
+    pub fn details(&self, alloc: Global) -> Result<Details, NoMemory>
+        ensures { IfOk result (λ details. details ≡ self.now.details) }
+    {
+        Details::read(alloc, &self.reader.details)
     }
 
     /// The one message that was heard, where nothing stands beside it.

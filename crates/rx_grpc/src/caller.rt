@@ -7,7 +7,8 @@ ghost use Rattle.rx_exec_messages.specs.Calls.{HasCallCause};
 ghost use Rattle.rx_world.specs.Links.{SameRule};
 ghost use Rattle.rx_grpc.specs.Caller.{hung_up, rested_by, resumed};
 ghost use Rattle.rx_grpc.specs.Channel.{IsRuled};
-ghost use Rattle.rx_grpc.specs.StatusText.{text_in};
+ghost use Rattle.rx_grpc.specs.RetryDelay.{retry_delay_of};
+ghost use Rattle.rx_grpc.specs.StatusText.{details_in, text_in};
 ghost use Rattle.rx_grpc.specs.declared.caller.Begun.TheVariants.{Executed as executed};
 
 use crate::channel::Channel;
@@ -118,6 +119,15 @@ impl<D: Dial + Drop> GrpcCaller<D> {
         ensures { result.now ≡ text_in self.now.channel.transport }
     {
         self.channel.status_text()
+    }
+
+    /// How many milliseconds the farm asks to wait before the call is made again, by the details of the status of the last answer
+    /// ("RetryInfo"): nanoseconds are rounded up, and a negative time is 0. `None` where it asked for nothing, and where what it said
+    /// can't be read.
+    pub fn retry_delay(&self) -> Option<u64>
+        ensures { result ≡ retry_delay_of (details_in self.now.channel.transport) }
+    {
+        self.channel.retry_delay()
     }
 
     /// The channel.

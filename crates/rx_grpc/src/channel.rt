@@ -9,8 +9,9 @@ ghost use Rattle.rx_grpc.specs.Answer.{unary};
 ghost use Rattle.rx_grpc.specs.Channel.{Answers, Fails, HasCauseOn, IsLinkOf, IsRuled, Keeps, OpensOn, Stops, is_kept, rested, stream_for};
 ghost use Rattle.rx_grpc.specs.Faults.{IsOther};
 ghost use Rattle.rx_grpc.specs.Request.{request_fields};
+ghost use Rattle.rx_grpc.specs.RetryDelay.{retry_delay_of};
 ghost use Rattle.rx_grpc.specs.Sent.{AnsweredOn, AskedOn, AsksOn, NextAsksOn, SendsOn};
-ghost use Rattle.rx_grpc.specs.StatusText.{KeepsText, KeepsTextOn, text_in};
+ghost use Rattle.rx_grpc.specs.StatusText.{KeepsText, KeepsTextOn, details_in, text_in};
 ghost use Rattle.rx_grpc.specs.Streamed.{Begins, NextCause, NextFailsOn, NextsOn, is_answering};
 ghost use Rattle.rx_grpc.specs.declared.transfer_fault.TransferFault.TheVariants.{NoMemory as starved};
 
@@ -105,6 +106,17 @@ impl<D: Dial + Drop> Channel<D> {
         match &self.transport {
             Some(transport) => transport.status_text(),
             None => &[],
+        }
+    }
+
+    /// How many milliseconds the details of that status ask to wait before the call is made again ("RetryInfo"). `None` where they
+    /// ask for nothing or can't be read, and where no text is kept.
+    pub fn retry_delay(&self) -> Option<u64>
+        ensures { result ≡ retry_delay_of (details_in self.now.transport) }
+    {
+        match &self.transport {
+            Some(transport) => transport.retry_delay(),
+            None => None,
         }
     }
 

@@ -8,6 +8,7 @@ ghost use Rattle.rx_grpc.specs.declared.came.Came.TheVariants.{Piece};
 
 use crate::call::Call;
 use crate::came::Came;
+use crate::details::Details;
 use crate::request::Request;
 use rx_base::NoMemory;
 use std::alloc::Global;
@@ -62,6 +63,13 @@ impl OpenCall {
             text.items ≡ percent_decode self.now.call.answers.status_text) }
     {
         self.call.answers.status_text(alloc)
+    }
+
+    /// The details that came with the status, where it isn't 0.
+    pub fn details(&self, alloc: Global) -> Result<Details, NoMemory>
+        ensures { IfOk result (λ details. details ≡ self.now.call.answers.details) }
+    {
+        self.call.answers.details(alloc)
     }
 
     /// Its stream, where one side of it is open yet.

@@ -3,7 +3,7 @@
 ghost use Rattle.std.specs.Prelude.{◌≡◌, ◌≤◌, ◌<◌, [], length, None, Some, OnOk, IfOk, codes};
 ghost use Rattle.rx_h2conn.specs.Event.{event_view};
 ghost use Rattle.rx_hpack.specs.Header.{views};
-ghost use Rattle.rx_grpc.specs.Heard.{bytes_read, closed, end_by, end_of, headed, listed, more, read, settled, step, trailed};
+ghost use Rattle.rx_grpc.specs.Heard.{bytes_read, closed, details_of, end_by, end_of, headed, listed, more, read, settled, step, trailed};
 ghost use Rattle.rx_grpc.specs.Seen.{Becomes, IsReady, heard_of};
 ghost use Rattle.rx_grpc.specs.Texts.{status_text_of, value_of};
 
@@ -28,6 +28,8 @@ pub struct Reader {
     pub end: Option<End>,
     /// `grpc-message` of the list that ended the answer, as it was sent.
     pub status_text: Vec<u8>,
+    /// `grpc-status-details-bin` of that list, as it was sent, where the status isn't 0.
+    pub details: Option<Bytes>,
     /// How many bytes at least the next message lacks.
     pub lacking: usize,
 }
@@ -60,6 +62,22 @@ fn status_text(alloc: Global, list: &[Header]) -> Result<Vec<u8>, NoMemory>
     match value_of(b"grpc-message", list) {
         Some(text) => Vec::from_slice(alloc, text),
         None => Ok(Vec::new(alloc)),
+    }
+}
+
+/// A copy of `grpc-status-details-bin`, where there is one and the status isn't 0.
+fn details_of(alloc: Global, end: End, list: &[Header]) -> Result<Option<Bytes>, NoMemory>
+    ensures { IfOk result (λ details. details ≡ details_of end (views list.now)) }
+{
+    match end {
+        End::Status(0) => Ok(None),
+        End::Status(_) => match value_of(b"grpc-status-details-bin", list) {
+            Some(details) => Ok(Some(Bytes::copy_of(alloc, details)?)),
+            None => Ok(None),
+        },
+        End::Compressed => Ok(None),
+        End::TooLarge => Ok(None),
+        End::NoStatus => Ok(None),
     }
 }
 
@@ -159,8 +177,10 @@ impl Reader {
     {
         self.status_text = status_text(self.alloc, list)?;
         let head = self.headed(list);
+        let end = end_of(list, head);
+        self.details = details_of(self.alloc, end, list)?;
         self.head = head;
-        self.end = Some(end_of(list, head));
+        self.end = Some(end);
         Ok(())
     }
 

@@ -56,7 +56,8 @@ pub fn answer_of<L: Link, B: Body>(
     ensures carries { OnOk result (Carries (L.wire link.old) (L.wire link.new) conn.old
         conn.new opened.old.room opened.new.room) }
     ensures text { OnOk result (HasText (L.wire link.new) (L.rule link.new) conn.new
-        opened.new.call.id opened.new.call.answers.status_text) }
+        opened.new.call.id opened.new.call.answers.status_text
+        opened.new.call.answers.details) }
     ensures fault { IfErr result (λ fault. FaultIs unary opened.old.room fault (L.wire link.old)
         (L.wire link.new) (L.rule link.new) conn.new opened.old.call.id) }
     ensures rule { SameRule (L.rule link.old) (L.rule link.new) }
@@ -92,7 +93,8 @@ fn item_behind_turns<L: Link>(
     ensures asks { IfOk result (Handing (L.wire link.old) (L.wire link.new) (L.rule link.old)
         (L.rule link.new) conn.old conn.new opened.old opened.new) }
     ensures text { OnOk result (HasText (L.wire link.new) (L.rule link.new) conn.new
-        opened.new.call.id opened.new.call.answers.status_text) }
+        opened.new.call.id opened.new.call.answers.status_text
+        opened.new.call.answers.details) }
     ensures fault { IfErr result (λ fault. FaultIs (item_behind opened.old.call.place)
         opened.old.room fault (L.wire link.old) (L.wire link.new) (L.rule link.new) conn.new
         opened.old.call.id) }
@@ -125,7 +127,8 @@ pub fn item_of<L: Link>(
     ensures asks { IfOk result (Handing (L.wire link.old) (L.wire link.new) (L.rule link.old)
         (L.rule link.new) conn.old conn.new opened.old opened.new) }
     ensures text { OnOk result (HasText (L.wire link.new) (L.rule link.new) conn.new
-        opened.new.call.id opened.new.call.answers.status_text) }
+        opened.new.call.id opened.new.call.answers.status_text
+        opened.new.call.answers.details) }
     ensures fault { IfErr result (λ fault. NextFault (opened_by opened.old) fault (L.wire link.old)
         (L.wire link.new) (L.rule link.new) conn.new) }
     ensures rule { SameRule (L.rule link.old) (L.rule link.new) }

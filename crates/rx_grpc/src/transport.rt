@@ -10,6 +10,7 @@ ghost use Rattle.rx_world.specs.Causes.{HasCauseOf};
 ghost use Rattle.rx_world.specs.Links.{IsNew, Meets, SameRule};
 ghost use Rattle.rx_grpc.specs.Answer.{unary};
 ghost use Rattle.rx_grpc.specs.Faults.{FaultIs};
+ghost use Rattle.rx_grpc.specs.RetryDelay.{retry_delay_of};
 ghost use Rattle.rx_grpc.specs.Shown.{IsOver};
 ghost use Rattle.rx_grpc.specs.Sent.{AsksBy, IsAnswered, IsAsked, IsToSend, NextAsks};
 ghost use Rattle.rx_grpc.specs.StatusText.{IsTextOf, KeepsTextOf};
@@ -19,6 +20,7 @@ ghost use Rattle.rx_grpc.specs.declared.transfer_fault.TransferFault.TheVariants
 
 use crate::answer::Answer;
 use crate::body::Body;
+use crate::details::Details;
 use crate::open_call::OpenCall;
 use crate::request::Request;
 use crate::stream::next_stream;
@@ -44,6 +46,8 @@ pub struct Transport<L: Link + Drop> {
     opened: Option<OpenCall>,
     /// The text that came with the status of the last answer, as far as that was heard.
     text: Vec<u8>,
+    /// The details that came with it.
+    details: Details,
 }
 
 impl<L: Link + Drop> Model for Transport<L> {
@@ -60,6 +64,7 @@ impl<L: Link + Drop> Model for Transport<L> {
       opened = opened_of t.opened;
       call = t.opened;
       text = t.text.items;
+      details = t.details;
     } };
 
     ghost invariant = { λ t. (t.alive ≡ true
@@ -84,6 +89,7 @@ impl<L: Link + Drop> Transport<L> {
             unfinished: None,
             opened: None,
             text: Vec::new(alloc),
+            details: Details::none(),
         })
     }
 
@@ -99,6 +105,13 @@ impl<L: Link + Drop> Transport<L> {
         ensures { result.now ≡ self.now.text }
     {
         &self.text
+    }
+
+    /// How many milliseconds the details of that status ask to wait.
+    pub fn retry_delay(&self) -> Option<u64>
+        ensures { result ≡ retry_delay_of self.now.details }
+    {
+        self.details.retry_delay()
     }
 
     /// Whether another call can be made on it.
@@ -167,14 +180,16 @@ impl<L: Link + Drop> Transport<L> {
             → IsAnswered unary (L.wire self.new.link) (L.rule self.new.link)
             (L.ended self.new.link) self.new.conn id fields messages [] answer) }
         ensures text { OnOk result (IsTextOf (L.wire self.new.link) (L.rule self.new.link)
-            self.new.conn id self.new.text) }
+            self.new.conn id self.new.text self.new.details) }
         ensures rule { SameRule (L.rule self.old.link) (L.rule self.new.link) }
         ensures cause { HasCauseOf lost (L.faults self.old.link) (L.faults self.new.link) result }
     {
         let mut opened = OpenCall::new(alloc, id, request);
         let answer = answer_of(alloc, &mut self.link, &mut self.conn, &mut opened, body)?;
         let text = opened.status_text(alloc)?;
+        let details = opened.details(alloc)?;
         self.text = text;
+        self.details = details;
         self.alive = opened.is_alive();
         self.unfinished = opened.stream_left();
         Ok(answer)
@@ -197,6 +212,7 @@ impl<L: Link + Drop> Transport<L> {
     {
         self.opened = Some(OpenCall::new(alloc, id, request));
         self.text = Vec::new(alloc);
+        self.details = Details::none();
         self.unfinished = Some(id);
         self.alive = true;
     }
@@ -220,7 +236,9 @@ impl<L: Link + Drop> Transport<L> {
         };
         let item = item_of(alloc, &mut self.link, &mut self.conn, &mut opened)?;
         let text = opened.status_text(alloc)?;
+        let details = opened.details(alloc)?;
         self.text = text;
+        self.details = details;
         self.alive = opened.is_alive();
         self.unfinished = opened.stream_left();
         if item.is_message() {

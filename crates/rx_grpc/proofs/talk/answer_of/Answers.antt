@@ -33,4 +33,5 @@ returns-in-Some-clause-asked g c =
 
 pub returns-in-Some-clause-text : goal.returns-in-Some-clause-text
 returns-in-Some-clause-text g c =
-    on_done c.in-Some.done (text_heard _ (g.L.Link.rule c.take_turn.new.link) _ _ c.take_turn.new.opened _ _ c.in_ok-take_turn.ensures.opened refl (ap (λ h. h.status_text) c.unary-shown.ensures.after ∙ answer_leaves c.unary-shown.result c.take_turn.new.opened.call.answers))
+    let left = answer_leaves c.unary-shown.result c.take_turn.new.opened.call.answers in
+    on_done c.in-Some.done (text_heard _ (g.L.Link.rule c.take_turn.new.link) _ _ c.take_turn.new.opened _ _ _ c.in_ok-take_turn.ensures.opened refl (ap (λ h. h.status_text) c.unary-shown.ensures.after ∙ left.0) (ap (λ h. h.details) c.unary-shown.ensures.after ∙ left.1))

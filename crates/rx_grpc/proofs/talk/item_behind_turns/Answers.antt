@@ -34,4 +34,5 @@ returns-in-Some-clause-asks g c =
 
 pub returns-in-Some-clause-text : goal.returns-in-Some-clause-text
 returns-in-Some-clause-text g c =
-    on_done c.in-Some.done (text_heard _ (g.L.Link.rule c.take_turn.new.link) _ _ c.take_turn.new.opened _ _ c.in_ok-take_turn.ensures.opened c.next_item-shown.ensures.id (ap (λ h. h.status_text) c.next_item-shown.ensures.answers ∙ item_leaves c.next_item-shown.result c.take_turn.new.opened.call.answers))
+    let left = item_leaves c.next_item-shown.result c.take_turn.new.opened.call.answers in
+    on_done c.in-Some.done (text_heard _ (g.L.Link.rule c.take_turn.new.link) _ _ c.take_turn.new.opened _ _ _ c.in_ok-take_turn.ensures.opened c.next_item-shown.ensures.id (ap (λ h. h.status_text) c.next_item-shown.ensures.answers ∙ left.0) (ap (λ h. h.details) c.next_item-shown.ensures.answers ∙ left.1))

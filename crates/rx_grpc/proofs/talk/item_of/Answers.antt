@@ -38,4 +38,5 @@ returns-clause-asks g c =
 
 pub returns-in-Some-clause-text : goal.returns-in-Some-clause-text
 returns-in-Some-clause-text g c =
-    on_done c.in-Some.done (text_heard _ (g.L.Link.rule c.args.link.now) _ _ c.args.opened.now _ _ c.requires c.next_item-shown.ensures.id (ap (λ h. h.status_text) c.next_item-shown.ensures.answers ∙ item_leaves c.next_item-shown.result c.args.opened.now.call.answers))
+    let left = item_leaves c.next_item-shown.result c.args.opened.now.call.answers in
+    on_done c.in-Some.done (text_heard _ (g.L.Link.rule c.args.link.now) _ _ c.args.opened.now _ _ _ c.requires c.next_item-shown.ensures.id (ap (λ h. h.status_text) c.next_item-shown.ensures.answers ∙ left.0) (ap (λ h. h.details) c.next_item-shown.ensures.answers ∙ left.1))

@@ -22,4 +22,4 @@ returns-clause-asked g c = λ fields messages asked send.
 
 pub returns-clause-text : goal.returns-clause-text
 returns-clause-text g c =
-    text_read _ (g.L.Link.rule c.answer_of.new.link) _ _ c.args.id _ _ c.in_ok-answer.ensures.text (c.in_ok-answer.ensures.id ∙ c.new-opened.ensures.id) c.in_ok-text.ensures
+    text_read _ (g.L.Link.rule c.answer_of.new.link) _ _ c.args.id _ _ _ _ c.in_ok-answer.ensures.text (c.in_ok-answer.ensures.id ∙ c.new-opened.ensures.id) c.in_ok-text.ensures c.in_ok-details.ensures

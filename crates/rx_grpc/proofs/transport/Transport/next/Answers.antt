@@ -22,14 +22,14 @@ invariant_of-self-else-is_message g c = (
 pub returns-clause-asks : goal.returns-clause-asks
 returns-clause-asks g c =
     elim c.if-is_message.branch [
-      | then-is_message w ↦ rw (w.self-is, ← c.self.view_is) (next_asks g.L.Link.wire g.L.Link.rule g.L.Link.ended (record { link = c.self.inside.link; conn = c.self.inside.conn; alive = true; opened = None; call = c.self.inside.opened; text = c.self.inside.text.items }) (record { link = c.item_of.new.link; conn = c.item_of.new.conn; alive = true; opened = None; call = Some c.item_of.new.opened; text = c.in_ok-text.text.items }) c.in-Some.opened c.item_of.new.opened c.in_ok-item.item (sym c.take.ensures.value ∙ c.in-Some.is) c.in_ok-item.ensures.asked c.in_ok-item.ensures.asks c.in_ok-item.ensures.next.id (λ _. refl))
-      | else-is_message w ↦ rw (w.self-is, ← c.self.view_is) (next_asks g.L.Link.wire g.L.Link.rule g.L.Link.ended (record { link = c.self.inside.link; conn = c.self.inside.conn; alive = true; opened = None; call = c.self.inside.opened; text = c.self.inside.text.items }) (record { link = c.item_of.new.link; conn = c.item_of.new.conn; alive = true; opened = None; call = c.take.new.self; text = c.in_ok-text.text.items }) c.in-Some.opened c.item_of.new.opened c.in_ok-item.item (sym c.take.ensures.value ∙ c.in-Some.is) c.in_ok-item.ensures.asked c.in_ok-item.ensures.asks c.in_ok-item.ensures.next.id (λ message. let bad : true ≡ false = sym message ∙ (sym c.is_message.ensures ∙ w.if-is_message.false) in cc))
+      | then-is_message w ↦ rw (w.self-is, ← c.self.view_is) (next_asks g.L.Link.wire g.L.Link.rule g.L.Link.ended (record { link = c.self.inside.link; conn = c.self.inside.conn; alive = true; opened = None; call = c.self.inside.opened; text = c.self.inside.text.items; details = c.self.inside.details }) (record { link = c.item_of.new.link; conn = c.item_of.new.conn; alive = true; opened = None; call = Some c.item_of.new.opened; text = c.in_ok-text.text.items; details = c.in_ok-details.details }) c.in-Some.opened c.item_of.new.opened c.in_ok-item.item (sym c.take.ensures.value ∙ c.in-Some.is) c.in_ok-item.ensures.asked c.in_ok-item.ensures.asks c.in_ok-item.ensures.next.id (λ _. refl))
+      | else-is_message w ↦ rw (w.self-is, ← c.self.view_is) (next_asks g.L.Link.wire g.L.Link.rule g.L.Link.ended (record { link = c.self.inside.link; conn = c.self.inside.conn; alive = true; opened = None; call = c.self.inside.opened; text = c.self.inside.text.items; details = c.self.inside.details }) (record { link = c.item_of.new.link; conn = c.item_of.new.conn; alive = true; opened = None; call = c.take.new.self; text = c.in_ok-text.text.items; details = c.in_ok-details.details }) c.in-Some.opened c.item_of.new.opened c.in_ok-item.item (sym c.take.ensures.value ∙ c.in-Some.is) c.in_ok-item.ensures.asked c.in_ok-item.ensures.asks c.in_ok-item.ensures.next.id (λ message. let bad : true ≡ false = sym message ∙ (sym c.is_message.ensures ∙ w.if-is_message.false) in cc))
     ]
 
 pub returns-clause-text : goal.returns-clause-text
 returns-clause-text g c =
     let was = ap opened_of (sym c.take.ensures.value ∙ c.in-Some.is) in
     elim c.if-is_message.branch [
-      | then-is_message w ↦ rw (w.self-is, ← c.self.view_is) (text_next g.L.Link.wire g.L.Link.rule _ _ c.in-Some.opened c.item_of.new.opened was c.in_ok-item.ensures.text c.in_ok-item.ensures.next.id c.in_ok-text.ensures)
-      | else-is_message w ↦ rw (w.self-is, ← c.self.view_is) (text_next g.L.Link.wire g.L.Link.rule _ _ c.in-Some.opened c.item_of.new.opened was c.in_ok-item.ensures.text c.in_ok-item.ensures.next.id c.in_ok-text.ensures)
+      | then-is_message w ↦ rw (w.self-is, ← c.self.view_is) (text_next g.L.Link.wire g.L.Link.rule _ _ c.in-Some.opened c.item_of.new.opened was c.in_ok-item.ensures.text c.in_ok-item.ensures.next.id c.in_ok-text.ensures c.in_ok-details.ensures)
+      | else-is_message w ↦ rw (w.self-is, ← c.self.view_is) (text_next g.L.Link.wire g.L.Link.rule _ _ c.in-Some.opened c.item_of.new.opened was c.in_ok-item.ensures.text c.in_ok-item.ensures.next.id c.in_ok-text.ensures c.in_ok-details.ensures)
     ]
