@@ -8,7 +8,7 @@ use rx_base::{Items, RelPath, Text, digest_of};
 use rx_blobs::Presence;
 use rx_farm_values::write_remote_cause;
 use rx_grpc::GrpcCaller;
-use rx_host::{Contents, Halting, Hands, HostDial, HostFarm, HostSources, HostWorld};
+use rx_host::{Contents, FarmShare, Halting, Hands, HostDial, HostFarm, HostSources, HostWorld};
 use rx_remote::{RemoteJob, run_remote};
 use rx_row_values::path_of;
 use rx_rows::{Answer, RowFault};
@@ -36,25 +36,36 @@ pub(crate) struct Job {
     pub(crate) accept_cached: bool,
 }
 
+/// How an attempt ends.
+pub(crate) type Ended = Result<End<Outcome, RemoteCause>, RowFault>;
+
 /// How an attempt ends. Its connection is closed then.
-pub(crate) fn run<H: Hands>(
-    rt: HostRuntime,
-    hands: H,
-    job: Job,
-) -> Result<End<Outcome, RemoteCause>, RowFault> {
-    let mut farm = client(rt, hands, job.address.as_str())?;
-    let end = run_over(rt, &hands, &mut farm, &job);
-    let _closed = farm.hang_up();
+pub(crate) fn run<H: Hands>(rt: HostRuntime, hands: H, job: &Job) -> Ended {
+    let share = FarmShare::new(&rt, rt.alloc())?;
+    run_sharing(rt, hands, job, &share)
+}
+
+/// How each of two attempts ends, of which the second one goes on on the connection that the first one left.
+pub(crate) fn run_twice<H: Hands>(rt: HostRuntime, hands: H, job: &Job) -> (Ended, Ended) {
+    match FarmShare::new(&rt, rt.alloc()) {
+        Ok(share) => {
+            let first = run_sharing(rt, hands, job, &share);
+            (first, run_sharing(rt, hands, job, &share))
+        }
+        Err(_) => (Err(RowFault::NoMemory), Err(RowFault::NoMemory)),
+    }
+}
+
+/// How an attempt ends. Its connection is left to the next one.
+fn run_sharing<H: Hands>(rt: HostRuntime, hands: H, job: &Job, share: &FarmShare) -> Ended {
+    let mut farm = client(rt, hands, job.address.as_str(), share)?;
+    let end = run_over(rt, &hands, &mut farm, job);
+    let _left = farm.hang_up();
     end
 }
 
 /// Writes the input, and looks at it. How the attempt on it ends.
-fn run_over<H: Hands>(
-    rt: HostRuntime,
-    hands: &H,
-    farm: &mut HostFarm<H>,
-    job: &Job,
-) -> Result<End<Outcome, RemoteCause>, RowFault> {
+fn run_over<H: Hands>(rt: HostRuntime, hands: &H, farm: &mut HostFarm<H>, job: &Job) -> Ended {
     let alloc = rt.alloc();
     let path = format!(in alloc; "{}/a", job.root)?;
     if fs::write(&rt, path.as_str(), job.text.as_slice()).is_err() {
@@ -81,7 +92,7 @@ fn attempt<H: Hands>(
     sources: &mut HostSources<HostRuntime>,
     files: &[InputFile],
     accept_cached: bool,
-) -> Result<End<Outcome, RemoteCause>, RowFault> {
+) -> Ended {
     let tree = tree_of(alloc, files)?;
     let job = RemoteJob {
         command: &command(alloc)?,
@@ -99,14 +110,19 @@ fn attempt<H: Hands>(
 }
 
 /// A client of the farm at an address. The names of its uploads are drawn from one seed.
-fn client<H: Hands>(rt: HostRuntime, hands: H, address: &str) -> Result<HostFarm<H>, RowFault> {
+fn client<H: Hands>(
+    rt: HostRuntime,
+    hands: H,
+    address: &str,
+    share: &FarmShare,
+) -> Result<HostFarm<H>, RowFault> {
     let alloc = rt.alloc();
     let authority = Vec::from_slice(alloc, address.as_bytes())?;
     if authority.len() > MOST_ADDRESS {
         return Err(RowFault::BadCall);
     }
     let address = Some(String::from_str(alloc, address)?);
-    let dial = HostDial::new(rt, hands, address, Halting::new(&rt, alloc)?);
+    let dial = HostDial::new(rt, hands, address, Halting::new(&rt, alloc)?).sharing(share.share()?);
     let instance = Text::new(alloc);
     let caller = GrpcCaller::new(alloc, dial, authority, instance, [7; 32]);
     Ok(HostFarm::new(caller))

@@ -1,6 +1,6 @@
 //! The farm of the rows, which serves one connection for each attempt, in a thread of its own.
 
-use crate::attempts::{Job, run, write_end};
+use crate::attempts::{Job, run, run_twice, write_end};
 use crate::links::FarmLink;
 use rx_exec_messages::Capabilities;
 use rx_farm_values::read_capabilities;
@@ -45,26 +45,41 @@ impl<H: Hands> Loopback<H> {
         accept_cached: bool,
         told: &mut Answer,
     ) -> Result<(), RowFault> {
+        let (job, listener) = self.job(row, accept_cached)?;
         let (rt, hands, farm) = (self.rt, self.hands, &mut self.farm);
-        let text = row.text(rt.alloc())?;
-        let Ok((address, listener)) = listen(rt) else {
+        let serve = || serve(rt, farm, &listener);
+        let attempt = || run(rt, hands, &job);
+        let (served, end) = thread::join(&hands, serve, attempt);
+        write_end(rt.alloc(), &end?, told)?;
+        write_served(served, told)
+    }
+
+    /// `twice TEXT`: the ends of two attempts, and how the one connection of both was served.
+    fn attempt_twice(&mut self, row: &mut Row<'_>, told: &mut Answer) -> Result<(), RowFault> {
+        let (job, listener) = self.job(row, true)?;
+        let (rt, hands, farm) = (self.rt, self.hands, &mut self.farm);
+        let serve = || serve(rt, farm, &listener);
+        let attempts = || run_twice(rt, hands, &job);
+        let (served, (first, second)) = thread::join(&hands, serve, attempts);
+        write_end(rt.alloc(), &first?, told)?;
+        write_end(rt.alloc(), &second?, told)?;
+        write_served(served, told)
+    }
+
+    /// The job of a row, and the port at which the farm listens for it.
+    fn job(&self, row: &mut Row<'_>, accept_cached: bool) -> Result<(Job, TcpListener), RowFault> {
+        let alloc = self.rt.alloc();
+        let text = row.text(alloc)?;
+        let Ok((address, listener)) = listen(self.rt) else {
             return Err(RowFault::BadCall);
         };
         let job = Job {
-            root: String::from_str(rt.alloc(), self.root.as_str())?,
+            root: String::from_str(alloc, self.root.as_str())?,
             address,
             text,
             accept_cached,
         };
-        let serve = || serve(rt, farm, &listener);
-        let attempt = || run(rt, hands, job);
-        let (served, end) = thread::join(&hands, serve, attempt);
-        write_end(rt.alloc(), &end?, told)?;
-        match served {
-            Ok(()) => told.word("served")?,
-            Err(fault) => told.value(&fault)?,
-        }
-        Ok(())
+        Ok((job, listener))
     }
 }
 
@@ -78,9 +93,19 @@ impl<H: Hands> Calls for Loopback<H> {
             }
             "run" => self.attempt(row, true, told),
             "refusing" => self.attempt(row, false, told),
+            "twice" => self.attempt_twice(row, told),
             _ => Err(RowFault::NoCall),
         }
     }
+}
+
+/// Writes how the farm's end of a connection ended.
+fn write_served(served: Result<(), FarmFault>, told: &mut Answer) -> Result<(), RowFault> {
+    match served {
+        Ok(()) => told.word("served")?,
+        Err(fault) => told.value(&fault)?,
+    }
+    Ok(())
 }
 
 /// A port of this machine that is listened at, and its address.

@@ -16,8 +16,8 @@ use std::io;
 /// The parts of a client's session.
 pub(crate) type ClientParts<H> = HostParts<H, PromptSource<HostRuntime>, PatientSink<H>>;
 
-/// The desk of a client. Where it is put together again, at the end of its session, its connections
-/// are closed: to the client, and to the farm.
+/// The desk of a client. Where it is put together again, at the end of its session, its connection to the client is
+/// closed, and the one to the farm is left to the sessions after it.
 #[derive(Drop)]
 pub(crate) struct ClientDesk<H: Hands> {
     pub(crate) parts: ClientParts<H>,

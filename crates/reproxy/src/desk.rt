@@ -8,8 +8,8 @@ use crate::halts::HostHalt;
 use rx_daemon::{Front, Options};
 use rx_engine::{Desk, Parts};
 use rx_host::{
-    Children, Contents, Halting, Hands, HostBenches, HostFarm, HostSink, HostSource, HostSources,
-    HostWorld, Outage,
+    Children, Contents, FarmShare, Halting, Hands, HostBenches, HostFarm, HostSink, HostSource,
+    HostSources, HostWorld,
 };
 use rx_world::{Failed, Sink, Source};
 use std::alloc::AllocError;
@@ -26,8 +26,8 @@ pub(crate) struct Host<H> {
     pub(crate) children: Children,
     /// Contents of files that sessions read, for those after them.
     pub(crate) contents: Contents,
-    /// What sessions know of a farm that is away.
-    pub(crate) outage: Outage,
+    /// What sessions share of their farm.
+    pub(crate) farm_share: FarmShare,
 }
 
 /// The parts of a session over the machine, with these ends of its conversation.

@@ -4,7 +4,7 @@ use crate::desk::Host;
 use rx_base::Text;
 use rx_daemon::Options;
 use rx_grpc::GrpcCaller;
-use rx_host::{Halting, Hands, HostDial, HostFarm};
+use rx_host::{FarmLimits, Halting, Hands, HostDial, HostFarm};
 use std::alloc::AllocError;
 
 /// The most bytes that the name of a farm may have.
@@ -31,8 +31,13 @@ pub(crate) fn farm_for<H: Hands>(
     let (Ok(instance), Ok(probed)) = (Text::copy_of(alloc, name), Text::copy_of(alloc, name)) else {
         return Err(AllocError);
     };
+    let limits = FarmLimits {
+        call: options.call_timeout,
+        silence: options.farm_silence,
+    };
     let dial = HostDial::new(host.rt, host.hands, address, halting)
-        .sharing(host.outage.share()?)
+        .sharing(host.farm_share.share()?)
+        .within(limits)
         .probing(probed)?;
     Ok(HostFarm::new(GrpcCaller::new(alloc, dial, authority, instance, seed)))
 }

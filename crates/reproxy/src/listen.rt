@@ -57,6 +57,9 @@ pub(crate) fn listen<'a, H: Hands + Send + Sync>(
         listener,
         options,
     };
-    let log = HostLog { rt };
+    let log = HostLog {
+        rt,
+        farm_share: &host.farm_share,
+    };
     Ok(run_in_threads::<HostWorld, _, _, _, _>(&host.hands, alloc, words, front, place, &log))
 }

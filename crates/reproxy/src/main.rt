@@ -24,7 +24,7 @@ use crate::settled::{resolved, settled, slots_of};
 use crate::words::{Page, page_in};
 use rx_daemon::{Options, options_in};
 use rx_host::{
-    Children, Contents, Hands, HostListener, Outage, draw_seed, open_files_limit, open_files_of,
+    Children, Contents, FarmShare, Hands, HostListener, draw_seed, open_files_limit, open_files_of,
     remove_left_aside,
 };
 use std::alloc::AllocError;
@@ -114,7 +114,7 @@ fn host_of<H: Hands>(rt: HostRuntime, hands: H) -> Result<Host<H>, AllocError> {
         hands,
         children: Children::new(rt.alloc())?,
         contents: Contents::new(rt.alloc())?,
-        outage: Outage::new(&rt, rt.alloc())?,
+        farm_share: FarmShare::new(&rt, rt.alloc())?,
     })
 }
 

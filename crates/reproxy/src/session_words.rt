@@ -6,19 +6,24 @@ use crate::remote_words::remote_in_words;
 use crate::reply_words::reply_in_words;
 use rx_daemon::Log;
 use rx_engine::{Ending, Transcript};
-use rx_session::Reply;
+use rx_host::FarmShare;
+use rx_session::{Reply, SHUTDOWN};
 use rx_world::{BenchStep, Cause, End, Ended, RemoteCause};
 use std::alloc::{AllocError, Global};
 
-/// Tells of each session as it ends.
+/// Tells of each session as it ends. Where one was asked to end the run, the sessions that go on hear that.
 #[derive(Drop)]
-pub(crate) struct HostLog {
+pub(crate) struct HostLog<'a> {
     pub(crate) rt: HostRuntime,
+    pub(crate) farm_share: &'a FarmShare,
 }
 
-impl Log for HostLog {
+impl<'a> Log for HostLog<'a> {
     fn hear(&self, transcript: &Transcript) {
         tell_session(&self.rt, transcript);
+        if transcript.read.as_slice() == SHUTDOWN.as_slice() {
+            self.farm_share.close();
+        }
     }
 }
 

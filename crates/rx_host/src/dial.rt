@@ -6,12 +6,18 @@ ghost use Rattle.rx_host.specs.Farms.{any_bytes};
 
 use crate::connecting::connect;
 use crate::farm_limits::FarmLimits;
+use crate::farm_share::FarmShare;
 use crate::halting::{Connecting, Halting, halted};
 use crate::hands::Hands;
-use crate::link::{HostLink, Watch};
-use crate::outage::Outage;
+use crate::keeping::Kept;
+use crate::link::HostLink;
+use crate::link_halting::LinkHalting;
 use crate::probe::Probe;
+use crate::timed::Unread;
+use crate::watch::Watch;
 use rx_base::Text;
+use rx_exec_messages::Capabilities;
+use rx_grpc::Resting;
 use rx_streams::Faults;
 use rx_world::{Dial, Failed};
 use std::alloc::{AllocError, Global};
@@ -19,6 +25,9 @@ use std::io::{Error, ErrorKind};
 use std::sync::Arc;
 use std::time::Duration;
 use std::{io, thread};
+
+/// How many connections that were kept are looked at, at most: no more sessions run at once.
+const MOST_KEPT: u32 = 256;
 
 /// Connects to one farm, or to none: then each call is a fault. The first connection that can't be made is told on standard
 /// error, where sessions share what they know of the farm by one of them in 10 seconds.
@@ -31,7 +40,10 @@ pub struct HostDial<H> {
     limits: FarmLimits,
     /// Asks a farm that is silent while a command runs.
     probe: Option<Probe>,
-    outage: Option<Outage>,
+    /// What sessions share of the farm.
+    share: Option<FarmShare>,
+    /// How many connections it made.
+    made: u64,
     is_told: bool,
     /// Whether the last call for a connection tried none, since there is no farm or it is away.
     is_idle: bool,
@@ -50,19 +62,20 @@ impl<H: Hands> HostDial<H> {
             halting,
             limits: FarmLimits::usual(),
             probe: None,
-            outage: None,
+            share: None,
+            made: 0,
             is_told: false,
             is_idle: false,
             faults: Faults::new(),
         }
     }
 
-    /// The same, which knows of a farm that is away what other sessions know.
-    pub fn sharing(self, outage: Outage) -> HostDial<H>
+    /// The same, which knows of the farm what other sessions know, and takes and leaves connections for them.
+    pub fn sharing(self, share: FarmShare) -> HostDial<H>
         ensures { ⟦<HostDial<H> as Dial>⟧.faults result ≡ ⟦<HostDial<H> as Dial>⟧.faults self }
     {
         let mut dial = self;
-        dial.outage = Some(outage);
+        dial.share = Some(share);
         dial
     }
 
@@ -93,6 +106,41 @@ impl<H: Hands> HostDial<H> {
         self.halting.let_go(&self.hands);
     }
 
+    /// How many connections it made.
+    pub(crate) fn made(&self) -> u64 {
+        self.made
+    }
+
+    /// Leaves a connection, on which the farm told this of itself, to the sessions after this one. Where sessions share none, or the
+    /// farm was halted, it is closed.
+    pub(crate) fn keep(&self, resting: Resting<HostLink>, told: Capabilities) {
+        match &self.share {
+            Some(share) if !self.halting.is_farm_halted() => {
+                share.keeping.put(&self.hands, resting, told);
+            }
+            _ => {}
+        }
+    }
+
+    /// A connection that another session left, with what came on it meanwhile. Those that the farm closed are left out.
+    pub(crate) fn take_kept(&self) -> Option<(Kept, Unread)> {
+        let share = self.share.as_ref()?;
+        for _ in 0..MOST_KEPT {
+            let kept = share.keeping.take(&self.hands)?;
+            let unread = kept.resting.link().unread();
+            if unread != Unread::End && self.pass_on(kept.resting.link()).is_ok() {
+                return Some((kept, unread));
+            }
+        }
+        None
+    }
+
+    /// This session uses the connection from now on.
+    fn pass_on(&self, link: &HostLink) -> io::Result<()> {
+        link.pass_on(self.halting.share()?);
+        self.halting.keep_connection(&self.hands, link.stream())
+    }
+
     /// A call begins in which a command may run, so that it takes as long as that does. First comes this pause, unless no
     /// connection is tried.
     pub(crate) fn begin_command(&self, pause: Option<Duration>) {
@@ -118,8 +166,8 @@ impl<H: Hands> HostDial<H> {
 
     /// The farm is away, as an attempt found out that tried a connection.
     pub(crate) fn give_up(&self) {
-        match &self.outage {
-            Some(outage) if !self.is_idle => outage.begin(&self.rt),
+        match &self.share {
+            Some(share) if !self.is_idle => share.outage.begin(&self.rt),
             _ => {}
         }
     }
@@ -159,26 +207,27 @@ impl<H: Hands> HostDial<H> {
 
     /// What a connection is watched by.
     fn watch(&self) -> Result<Watch, AllocError> {
-        let outage = match &self.outage {
-            Some(outage) => Some(outage.share()?),
-            None => None,
+        let (outage, closing) = match &self.share {
+            Some(share) => (Some(share.outage.share()?), Some(share.closing.share()?)),
+            None => (None, None),
         };
         let probe = match &self.probe {
             Some(probe) => Some(probe.share()?),
             None => None,
         };
         Ok(Watch {
-            halting: self.halting.share()?,
+            halting: LinkHalting::new(self.halting.share()?),
             limits: self.limits,
             outage,
+            closing,
             probe,
         })
     }
 
     /// Whether a connection is to be tried.
     fn is_dial_due(&self) -> bool {
-        match &self.outage {
-            Some(outage) => self.address.is_some() && outage.is_dial_due(&self.rt),
+        match &self.share {
+            Some(share) => self.address.is_some() && share.outage.is_dial_due(&self.rt),
             None => self.address.is_some(),
         }
     }
@@ -186,8 +235,8 @@ impl<H: Hands> HostDial<H> {
     /// Whether it is to be told why there is no connection: once, and by few sessions.
     fn is_telling_due(&self) -> bool {
         let is_due = !self.is_told && !self.halting.is_farm_halted();
-        match &self.outage {
-            Some(outage) => is_due && outage.is_telling_due(&self.rt),
+        match &self.share {
+            Some(share) => is_due && share.outage.is_telling_due(&self.rt),
             None => is_due,
         }
     }
@@ -229,7 +278,10 @@ impl<H: Hands> Dial for HostDial<H> {
             return Err(self.faults.failed(Error::from(ErrorKind::NotConnected)));
         }
         match self.connect() {
-            Ok(link) => Ok(link),
+            Ok(link) => {
+                self.made = self.made.saturating_add(1);
+                Ok(link)
+            }
             Err(error) => {
                 self.tell(&error);
                 Err(self.faults.failed(error))

@@ -1,6 +1,7 @@
 //! The client of a farm over TCP, as an attempt calls it: each call by what `rx_grpc` hears over the connection.
 
-ghost use Rattle.std.specs.Prelude.{◌≡◌, None, true};
+ghost use Rattle.std.specs.Prelude.{◌≡◌, ◌≤◌, IfSome, None, true};
+ghost use Rattle.rx_exec_messages.specs.Dialects.{dialect_of};
 ghost use Rattle.rx_world.specs.declared.versions.Dialect.TheVariants.{New as new_dialect};
 ghost use Rattle.rx_grpc.specs.Begun.{action_of};
 ghost use Rattle.rx_grpc.specs.Honest.{IsGenuine, Vouches};
@@ -9,13 +10,21 @@ ghost use Rattle.rx_host.specs.Farms.{any_bytes};
 use crate::dial::HostDial;
 use crate::hands::Hands;
 use crate::pauses::Pauses;
+use crate::timed::Unread;
 use crate::world::HostWorld;
 use rx_base::{Bytes, Digest, Items};
 use rx_exec_messages::{Caller, Capabilities, NamedBlob, Operation, StateFault};
 use rx_grpc::GrpcCaller;
 use rx_messages::ActionResult;
-use rx_world::{CallFault, World};
+use rx_world::{CallFault, Dialect, World};
 use std::marker::Model;
+
+/// What the farm said of itself, and how many connections had been made by then.
+#[derive(Clone, Copy, Debug, Drop)]
+struct Told {
+    capabilities: Capabilities,
+    made: u64,
+}
 
 /// A farm's client over TCP, with or without a connection. That tells nothing of its bytes, so the client vouches for an outcome
 /// only where all bytes would tell it, which is never: that the farm is an honest one is its user's own premise.
@@ -25,6 +34,7 @@ pub struct HostFarm<H: Hands> {
     /// Whether an execution goes on, also where the connection was closed here: then its next state is a fault.
     streaming: bool,
     pauses: Pauses,
+    told: Option<Told>,
 }
 
 impl<H: Hands> Model for HostFarm<H> {
@@ -48,6 +58,68 @@ impl<H: Hands> HostFarm<H> {
             caller,
             streaming: false,
             pauses: Pauses::new(),
+            told: None,
+        }
+    }
+
+    /// Goes on on a connection that another session left, if there is one, and answers what the farm said of itself on it. Where
+    /// something came on it meanwhile, the farm is asked anew; where it doesn't answer there, the connection is closed, and that
+    /// is no fault of the attempt.
+    fn take_up(&mut self) -> Option<Capabilities>
+        ensures newer { IfSome result (λ told. dialect_of told.low told.high ≡ new_dialect) }
+        ensures later { self.old.faults ≤ self.new.faults }
+        ensures rest { self.new ≡ record self.old { faults = self.new.faults } }
+    {
+        if self.caller.channel().link().is_some() {
+            return None;
+        }
+        let (kept, unread) = self.caller.channel().dial().take_kept()?;
+        self.caller.resume(kept.resting);
+        let told = match unread {
+            Unread::Nothing => kept.told,
+            _ => self.ask_again()?,
+        };
+        match told.dialect() {
+            Dialect::New => {
+                self.note(told);
+                Some(told)
+            }
+            Dialect::Old => None,
+        }
+    }
+
+    /// Asks the farm on a connection that another session left what it can do. Where no answer comes, the connection is closed.
+    fn ask_again(&mut self) -> Option<Capabilities>
+        ensures later { self.old.faults ≤ self.new.faults }
+        ensures rest { self.new ≡ record self.old { faults = self.new.faults } }
+    {
+        self.caller.channel().dial().begin_call(0, None);
+        match self.caller.hear_capabilities() {
+            Ok(told) => Some(told),
+            Err(_) => {
+                self.caller.hang_up();
+                None
+            }
+        }
+    }
+
+    /// The farm said this of itself on the connection that is there.
+    fn note(&mut self, capabilities: Capabilities)
+        ensures { self.new ≡ self.old }
+    {
+        let made = self.caller.channel().dial().made();
+        self.told = Some(Told { capabilities, made });
+    }
+
+    /// What the farm said of itself on the connection that is there, where sessions may be told so later: it looks for outputs as
+    /// those farms do that sessions are meant for.
+    fn told_here(&self) -> Option<Capabilities> {
+        let told = self.told?;
+        match told.capabilities.dialect() {
+            Dialect::New if told.made == self.caller.channel().dial().made() => {
+                Some(told.capabilities)
+            }
+            _ => None,
         }
     }
 
@@ -73,18 +145,24 @@ impl<H: Hands> HostFarm<H> {
         }
     }
 
-    /// Closes the connection, if there is one, as its session ends: what is kept of the session's connections for halting is let go of.
-    /// What is told of the client stays; its next call makes another connection.
+    /// Leaves the connection, if there is one, as its session ends: to the sessions after it, where they can use it, and else it is
+    /// closed. What is kept of the session's connections for halting is let go of. What is told of the client stays; its next call
+    /// makes another connection.
     pub fn hang_up(self) -> HostFarm<H>
         ensures { result ≡ self }
     {
+        let told = self.told_here();
         let mut caller = self.caller;
-        caller.hang_up();
+        let resting = caller.rest();
         caller.channel().dial().let_go();
+        if let (Some(resting), Some(told)) = (resting, told) {
+            caller.channel().dial().keep(resting, told);
+        }
         HostFarm {
             caller,
             streaming: self.streaming,
             pauses: self.pauses,
+            told: None,
         }
     }
 }
@@ -115,13 +193,20 @@ impl<H: Hands> Caller<HostWorld> for HostFarm<H> {
     ghost faults = { λ c. c.faults };
 
     fn capabilities(&mut self) -> Result<Capabilities, CallFault> {
+        if let Some(told) = self.take_up() {
+            return Ok(told);
+        }
         self.caller
             .channel()
             .dial()
             .begin_call(0, self.pauses.take());
         let answer = self.caller.hear_capabilities();
-        self.pauses.heed(&answer);
+        let asked = self.caller.retry_delay();
+        self.pauses.heed(&answer, asked);
         self.follow_up(&answer);
+        if let Ok(told) = &answer {
+            self.note(*told);
+        }
         answer
     }
 
@@ -131,7 +216,8 @@ impl<H: Hands> Caller<HostWorld> for HostFarm<H> {
             .dial()
             .begin_call(0, self.pauses.take());
         let answer = self.caller.hear_result(action);
-        self.pauses.heed(&answer);
+        let asked = self.caller.retry_delay();
+        self.pauses.heed(&answer, asked);
         self.follow_up(&answer);
         answer
     }
@@ -142,7 +228,8 @@ impl<H: Hands> Caller<HostWorld> for HostFarm<H> {
             .dial()
             .begin_call(0, self.pauses.take());
         let answer = self.caller.hear_missing(digests);
-        self.pauses.heed(&answer);
+        let asked = self.caller.retry_delay();
+        self.pauses.heed(&answer, asked);
         self.follow_up(&answer);
         answer
     }
@@ -153,7 +240,8 @@ impl<H: Hands> Caller<HostWorld> for HostFarm<H> {
             .dial()
             .begin_call(0, self.pauses.take());
         let answer = self.caller.hear_update(blobs);
-        self.pauses.heed(&answer);
+        let asked = self.caller.retry_delay();
+        self.pauses.heed(&answer, asked);
         self.follow_up(&answer);
         answer
     }
@@ -164,7 +252,8 @@ impl<H: Hands> Caller<HostWorld> for HostFarm<H> {
             .dial()
             .begin_call(0, self.pauses.take());
         let answer = self.caller.hear_read(digests);
-        self.pauses.heed(&answer);
+        let asked = self.caller.retry_delay();
+        self.pauses.heed(&answer, asked);
         self.follow_up(&answer);
         answer
     }
@@ -175,7 +264,8 @@ impl<H: Hands> Caller<HostWorld> for HostFarm<H> {
             .dial()
             .begin_call(bytes.len() as u64, self.pauses.take());
         let answer = self.caller.hear_write(digest, bytes);
-        self.pauses.heed(&answer);
+        let asked = self.caller.retry_delay();
+        self.pauses.heed(&answer, asked);
         self.follow_up(&answer);
         answer
     }
@@ -186,7 +276,8 @@ impl<H: Hands> Caller<HostWorld> for HostFarm<H> {
             .dial()
             .begin_call(digest.size, self.pauses.take());
         let answer = self.caller.hear_blob(digest);
-        self.pauses.heed(&answer);
+        let asked = self.caller.retry_delay();
+        self.pauses.heed(&answer, asked);
         self.follow_up(&answer);
         answer
     }
@@ -197,7 +288,8 @@ impl<H: Hands> Caller<HostWorld> for HostFarm<H> {
             .dial()
             .begin_command(self.pauses.take());
         let answer = self.caller.hear_execute(action, skip_cache);
-        self.pauses.heed(&answer);
+        let asked = self.caller.retry_delay();
+        self.pauses.heed(&answer, asked);
         self.follow_up(&answer);
         self.streaming = answer.is_ok();
         answer
@@ -209,7 +301,8 @@ impl<H: Hands> Caller<HostWorld> for HostFarm<H> {
             .dial()
             .begin_command(self.pauses.take());
         let answer = self.caller.hear_wait(name);
-        self.pauses.heed(&answer);
+        let asked = self.caller.retry_delay();
+        self.pauses.heed(&answer, asked);
         self.follow_up(&answer);
         self.streaming = answer.is_ok();
         answer
@@ -223,12 +316,13 @@ impl<H: Hands> Caller<HostWorld> for HostFarm<H> {
         if !self.caller.is_streaming() {
             self.streaming = false;
             let answer = self.caller.count_fault::<Operation>(Err(CallFault::Cut));
-            self.pauses.heed(&answer);
+            self.pauses.heed(&answer, None);
             return Err(StateFault::Stream(CallFault::Cut));
         }
         let answer = self.caller.hear_operation();
         let told = as_call(&answer);
-        self.pauses.heed(&told);
+        let asked = self.caller.retry_delay();
+        self.pauses.heed(&told, asked);
         self.follow_up(&told);
         self.streaming = self.caller.is_streaming();
         answer

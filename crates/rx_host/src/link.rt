@@ -1,83 +1,17 @@
 //! A connection to a farm over TCP. Nothing is told of its bytes.
 
 ghost use Rattle.std.specs.Prelude.{◌≡◌, IfOk, None, false};
-ghost use Rattle.std.specs.Io.{ReadsAtMost};
 ghost use Rattle.rx_host.specs.Farms.{any_bytes};
 
-use crate::farm_limits::FarmLimits;
 use crate::halting::Halting;
-use crate::outage::Outage;
-use crate::probe::Probe;
 use crate::tells::tell;
-use crate::timed::{TimedStream, is_silence};
+use crate::timed::{TimedStream, Unread};
+use crate::watch::{Watch, Watched};
 use rx_streams::Faults;
 use rx_world::{Failed, Link};
 use std::io;
 use std::io::{Error, ErrorKind};
 use std::net::TcpStream;
-use std::time::Duration;
-
-/// How long the first byte of a farm may take. A server of HTTP/2 sends its settings at once (RFC 9113, 3.4).
-const FIRST_SECONDS: u64 = 10;
-
-/// How often a farm that is silent while a command runs is asked whether it still answers.
-const MOST_PROBES: u32 = 1_000_000;
-
-/// What a connection is watched by.
-#[derive(Drop)]
-pub(crate) struct Watch {
-    pub(crate) halting: Halting,
-    pub(crate) limits: FarmLimits,
-    /// What is known of a farm that is away, where sessions share that.
-    pub(crate) outage: Option<Outage>,
-    /// Asks a farm that is silent while a command runs.
-    pub(crate) probe: Option<Probe>,
-}
-
-impl Watch {
-    /// How long the next read or write may wait.
-    fn patience(&self, rt: &HostRuntime, is_heard: bool) -> Duration {
-        let patience = match self.halting.call_left(rt) {
-            Some(left) => left.min(self.limits.call()),
-            None => self.limits.silence(),
-        };
-        if is_heard {
-            return patience;
-        }
-        patience.min(Duration::from_secs(FIRST_SECONDS))
-    }
-
-    /// Whether the farm is silent only because a command runs: then it answers when it is asked anew.
-    fn is_at_work(&self, rt: &HostRuntime, is_heard: bool) -> bool {
-        let is_running = self.halting.call_left(rt).is_none();
-        if !is_running || !is_heard || self.halting.is_farm_halted() {
-            return false;
-        }
-        match &self.probe {
-            Some(probe) => probe.is_answered(),
-            None => false,
-        }
-    }
-}
-
-/// Reads what came next. A farm that is at work may take its time.
-fn read_watched(
-    rt: &HostRuntime,
-    timed: &mut TimedStream,
-    watch: &Watch,
-    is_heard: bool,
-    into: &mut [u8],
-) -> io::Result<usize>
-    ensures { ReadsAtMost result into.new }
-{
-    for _ in 0..MOST_PROBES {
-        match timed.read(watch.patience(rt, is_heard), into) {
-            Err(error) if is_silence(error.kind()) && watch.is_at_work(rt, is_heard) => {}
-            answer => return answer,
-        }
-    }
-    Err(Error::from(ErrorKind::TimedOut))
-}
 
 /// One connection over TCP.
 #[derive(Drop)]
@@ -112,6 +46,21 @@ impl HostLink {
         self.is_heard
     }
 
+    /// The connection, for whoever ends the waits at it.
+    pub(crate) fn stream(&self) -> &TcpStream {
+        self.timed.stream()
+    }
+
+    /// What came while no session used it.
+    pub(crate) fn unread(&self) -> Unread {
+        self.timed.unread()
+    }
+
+    /// The session that is halted by this uses it from now on.
+    pub(crate) fn pass_on(&self, halting: Halting) {
+        self.watch.halting.pass_on(halting);
+    }
+
     /// Tells why a call failed, unless the farm was halted. A farm that was silent for too long is away.
     fn tell(&self, tried: &str, error: &Error) {
         if self.watch.halting.is_farm_halted() {
@@ -119,7 +68,7 @@ impl HostLink {
         }
         tell(&self.rt, tried, "the farm", error);
         if let Some(outage) = &self.watch.outage {
-            if is_silence(error.kind()) {
+            if error.kind() == ErrorKind::TimedOut {
                 outage.begin(&self.rt);
             }
         }
@@ -168,8 +117,12 @@ impl Link for HostLink {
     ghost faults = { λ l. l.faults.count };
 
     fn send(&mut self, piece: &[u8]) -> Result<usize, Failed> {
-        let patience = self.watch.patience(&self.rt, self.is_heard);
-        match self.timed.write(patience, piece) {
+        let patience = Watched {
+            rt: &self.rt,
+            watch: &self.watch,
+            is_heard: self.is_heard,
+        };
+        match self.timed.write(&patience, piece) {
             Ok(count) => Ok(count),
             Err(error) => {
                 self.tell("send to", &error);
@@ -179,8 +132,12 @@ impl Link for HostLink {
     }
 
     fn receive(&mut self, into: &mut [u8]) -> Result<usize, Failed> {
-        let read = read_watched(&self.rt, &mut self.timed, &self.watch, self.is_heard, into);
-        match read {
+        let patience = Watched {
+            rt: &self.rt,
+            watch: &self.watch,
+            is_heard: self.is_heard,
+        };
+        match self.timed.read(&patience, into) {
             Ok(count) => {
                 self.hear(into.get(..count).unwrap_or(&[]));
                 self.ended = self.ended || count == 0 && !into.is_empty();

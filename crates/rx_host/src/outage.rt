@@ -24,13 +24,13 @@ struct Times {
 
 /// What the sessions of one run know of whether its farm is away.
 #[derive(Drop)]
-pub struct Outage {
+pub(crate) struct Outage {
     times: Arc<Times, Global>,
 }
 
 impl Outage {
     /// Nothing is known yet, as a run begins.
-    pub fn new(rt: &impl Clock, alloc: Global) -> Result<Outage, AllocError> {
+    pub(crate) fn new(rt: &impl Clock, alloc: Global) -> Result<Outage, AllocError> {
         let times = Times {
             begun: Instant::now(rt).ok(),
             away: AtomicU64::new(0),
@@ -42,7 +42,7 @@ impl Outage {
     }
 
     /// Another handle of the same.
-    pub fn share(&self) -> Result<Outage, AllocError> {
+    pub(crate) fn share(&self) -> Result<Outage, AllocError> {
         Ok(Outage {
             times: Arc::try_clone(&self.times)?,
         })

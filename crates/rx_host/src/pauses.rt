@@ -4,7 +4,7 @@
 use rx_world::CallFault;
 use std::time::Duration;
 
-/// How long an attempt waits before the call behind its first fault, in milliseconds.
+/// How long an attempt waits before the call behind its first fault, in milliseconds, unless the farm asks for another time.
 const FIRST_MILLIS: u64 = 100;
 
 /// The same behind its second fault.
@@ -12,6 +12,9 @@ const SECOND_MILLIS: u64 = 500;
 
 /// The same behind each later one.
 const LATER_MILLIS: u64 = 2000;
+
+/// The longest pause that a farm may ask for, in milliseconds.
+const MOST_MILLIS: u64 = 10_000;
 
 /// So many faults end an attempt.
 const LAST: u32 = 4;
@@ -26,6 +29,8 @@ pub(crate) struct Pauses {
     faults: u32,
     /// Whether the last call was one of them.
     is_due: bool,
+    /// For how many milliseconds the farm asked to be left alone behind it, if it did.
+    asked: Option<u64>,
 }
 
 impl Pauses {
@@ -34,15 +39,21 @@ impl Pauses {
         Pauses {
             faults: 0,
             is_due: false,
+            asked: None,
         }
     }
 
-    /// Counts the fault of a call, if it is asked again.
-    pub(crate) fn heed<T>(&mut self, answer: &Result<T, CallFault>) {
+    /// Counts the fault of a call, if it is asked again. With a status the farm may have asked to be left alone for so many
+    /// milliseconds.
+    pub(crate) fn heed<T>(&mut self, answer: &Result<T, CallFault>, asked: Option<u64>) {
         if let Err(fault) = answer {
             if is_retried(*fault) {
                 self.faults = self.faults.saturating_add(1);
                 self.is_due = true;
+                self.asked = match fault {
+                    CallFault::Status(_) => asked,
+                    _ => None,
+                };
             }
         }
     }
@@ -58,10 +69,11 @@ impl Pauses {
             return None;
         }
         self.is_due = false;
-        let millis = match self.faults {
-            1 => FIRST_MILLIS,
-            2 => SECOND_MILLIS,
-            _ => LATER_MILLIS,
+        let millis = match (self.asked, self.faults) {
+            (Some(asked), _) => asked.min(MOST_MILLIS),
+            (None, 1) => FIRST_MILLIS,
+            (None, 2) => SECOND_MILLIS,
+            (None, _) => LATER_MILLIS,
         };
         Some(Duration::from_millis(millis))
     }

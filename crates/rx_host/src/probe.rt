@@ -6,6 +6,7 @@ ghost use Rattle.rx_host.specs.Farms.{any_bytes};
 
 use crate::call_time::CallTime;
 use crate::connecting::connect;
+use crate::patience::Patience;
 use crate::timed::TimedStream;
 use rx_base::{NoMemory, Text, TryClone};
 use rx_grpc::GrpcCaller;
@@ -15,9 +16,6 @@ use std::alloc::{AllocError, Global};
 use std::io;
 use std::sync::Arc;
 use std::time::Duration;
-
-/// How long an answer may take.
-const ANSWER_SECONDS: u64 = 10;
 
 /// The most bytes that the name of a farm may have.
 const MOST_AUTHORITY: usize = 4_294_967_295;
@@ -55,12 +53,12 @@ impl Probe {
         })
     }
 
-    /// Whether the farm tells within 10 seconds what it can do, or why it doesn't. Where there is no memory to ask, it is taken to.
-    pub(crate) fn is_answered(&self) -> bool {
-        self.ask().unwrap_or(true)
+    /// Whether the farm tells within this time what it can do, or why it doesn't. Where there is no memory to ask, it is taken to.
+    pub(crate) fn is_answered(&self, within: Duration) -> bool {
+        self.ask(within).unwrap_or(true)
     }
 
-    fn ask(&self) -> Result<bool, NoMemory> {
+    fn ask(&self, within: Duration) -> Result<bool, NoMemory> {
         let alloc = self.rt.alloc();
         let authority = Vec::from_slice(alloc, self.farm.address.as_bytes())?;
         if authority.len() > MOST_AUTHORITY {
@@ -69,6 +67,7 @@ impl Probe {
         let dial = BriefDial {
             rt: self.rt,
             farm: Arc::try_clone(&self.farm)?,
+            within,
             faults: Faults::new(),
         };
         let instance = self.farm.instance.try_clone(alloc)?;
@@ -86,6 +85,8 @@ impl Probe {
 struct BriefDial {
     rt: HostRuntime,
     farm: Arc<Farm, Global>,
+    /// How long the answer may take.
+    within: Duration,
     faults: Faults,
 }
 
@@ -95,7 +96,7 @@ impl BriefDial {
         ensures faults { IfOk result (λ link. link.faults.count ≡ 0) }
     {
         let time = CallTime::new(&self.rt);
-        time.begin(&self.rt, Some(Duration::from_secs(ANSWER_SECONDS)));
+        time.begin(&self.rt, Some(self.within));
         let stream = connect(&self.rt, self.farm.address.as_str())?;
         Ok(BriefLink {
             rt: self.rt,
@@ -134,11 +135,19 @@ struct BriefLink {
     faults: Faults,
 }
 
-impl BriefLink {
-    /// How much of its time is left.
-    fn left(&self) -> Duration {
-        let all = Duration::from_secs(ANSWER_SECONDS);
-        self.time.left(&self.rt).unwrap_or(all)
+/// The patience of a question: until its time is over.
+#[derive(Clone, Copy)]
+struct Brief<'a> {
+    rt: &'a HostRuntime,
+    time: &'a CallTime,
+}
+
+impl<'a> Patience for Brief<'a> {
+    fn bear(&self, silence: Duration) -> Option<Duration> {
+        match self.time.left(self.rt) {
+            Some(left) if !left.is_zero() => Some(silence),
+            _ => None,
+        }
     }
 }
 
@@ -152,16 +161,22 @@ impl Link for BriefLink {
     ghost faults = { λ l. l.faults.count };
 
     fn send(&mut self, piece: &[u8]) -> Result<usize, Failed> {
-        let left = self.left();
-        match self.timed.write(left, piece) {
+        let patience = Brief {
+            rt: &self.rt,
+            time: &self.time,
+        };
+        match self.timed.write(&patience, piece) {
             Ok(count) => Ok(count),
             Err(error) => Err(self.faults.failed(error)),
         }
     }
 
     fn receive(&mut self, into: &mut [u8]) -> Result<usize, Failed> {
-        let left = self.left();
-        match self.timed.read(left, into) {
+        let patience = Brief {
+            rt: &self.rt,
+            time: &self.time,
+        };
+        match self.timed.read(&patience, into) {
             Ok(count) => {
                 self.ended = self.ended || count == 0 && !into.is_empty();
                 Ok(count)
