@@ -5,3 +5,8 @@ use Rattle.std.specs.Prelude.{ℕ}
 pub record Accepts : Type 0 where
   pub faults : ℕ
   pub accepted : ℕ
+
+-- a direction of a client's connection: which client of those that its listener took it is, and how often it failed
+pub record Direction : Type 0 where
+  pub client : ℕ
+  pub faults : ℕ

@@ -1,6 +1,6 @@
 //! Where the proxy listens: a Unix socket's file, or a port of this machine.
 
-ghost use Rattle.std.specs.Prelude.{◌≡◌, ◌+◌, ◌≤◌, OnErr, OnOk};
+ghost use Rattle.std.specs.Prelude.{◌≡◌, ◌+◌, ◌≤◌, IfOk, OnErr, OnOk};
 ghost use Rattle.rx_host.specs.Clients.{Accepts};
 ghost use Rattle.rx_world.specs.Causes.{HasCause, Rose};
 
@@ -48,6 +48,8 @@ enum Listening {
 /// what it says.
 #[derive(Debug, Drop)]
 pub struct Client {
+    /// Which one it is of those that its listener took, from 1 on.
+    pub number: u64,
     pub input: SocketSource,
     pub output: SocketSink,
     pub end: SocketEnd,
@@ -99,6 +101,7 @@ impl HostListener {
     pub fn accept<R: Eprint + Clock>(&mut self, rt: &R) -> Result<Client, Failed>
         ensures cause { HasCause self.old.faults self.new.faults result }
         ensures counted { OnOk result (self.new.accepted ≡ self.old.accepted + 1) }
+        ensures numbered { IfOk result (λ client. client.number ≡ self.new.accepted) }
         ensures kept { OnErr result (self.new.accepted ≡ self.old.accepted) }
     {
         if self.accepted == u64::MAX {
@@ -107,7 +110,8 @@ impl HostListener {
         match accept_any(rt, &self.listening) {
             Ok(client) => {
                 self.accepted += 1;
-                Ok(client)
+                let number = self.accepted;
+                Ok(Client { number, ..client })
             }
             Err(error) => {
                 let _ = eprintln!(rt; "reproxy: no more clients: {error}");
@@ -162,7 +166,7 @@ fn accept_any<R: Eprint + Clock>(rt: &R, listening: &Listening) -> io::Result<Cl
     Err(Error::from(ErrorKind::Interrupted))
 }
 
-/// One connection, with its limits.
+/// One connection, with its limits. It has no number yet.
 fn accept_one(listening: &Listening) -> io::Result<Client> {
     let socket = match listening {
         Listening::Unix { listener } => {
@@ -177,7 +181,12 @@ fn accept_one(listening: &Listening) -> io::Result<Client> {
     socket.limit_silence(Duration::from_secs(CLIENT_SILENCE_SECONDS))?;
     let (input, output) = ends_of(socket)?;
     let end = input.share_end()?;
-    Ok(Client { input, output, end })
+    Ok(Client {
+        number: 0,
+        input,
+        output,
+        end,
+    })
 }
 
 /// A Unix socket at a path. It is made beside the path, gets its mode, and is then renamed, so that

@@ -1,7 +1,8 @@
 //! What goes out to a client, which may take its time: a long piece is written by a thread of its own, so that nothing else
 //! waits for the reader.
 
-ghost use Rattle.std.specs.Prelude.{◌≡◌, ℕ, None};
+ghost use Rattle.std.specs.Prelude.{◌≡◌, None};
+ghost use Rattle.rx_host.specs.Clients.{Direction};
 
 use crate::children::Children;
 use crate::hands::Hands;
@@ -20,24 +21,33 @@ const SHORT: usize = 16_384;
 pub struct PatientSink<H> {
     rt: HostRuntime,
     hands: H,
+    /// Which client of its listener it is.
+    client: u64,
     sink: SocketSink,
     children: Children,
 }
 
 impl<H> Model for PatientSink<H> {
-    ghost Value = { ℕ };
+    ghost Value = { Direction };
 
-    ghost view = { λ s. s.sink };
+    ghost view = { λ s. record { client = s.client; faults = s.sink } };
 }
 
 impl<H: Hands> PatientSink<H> {
-    /// What goes out over this connection.
-    pub fn new(rt: HostRuntime, hands: H, sink: SocketSink, children: Children) -> PatientSink<H>
-        ensures { result ≡ sink }
+    /// What goes out over this connection of a client.
+    pub fn new(
+        rt: HostRuntime,
+        hands: H,
+        client: u64,
+        sink: SocketSink,
+        children: Children,
+    ) -> PatientSink<H>
+        ensures { result ≡ record { client = client; faults = sink } }
     {
         PatientSink {
             rt,
             hands,
+            client,
             sink,
             children,
         }
@@ -50,6 +60,7 @@ impl<H: Hands> PatientSink<H> {
         PatientSink {
             rt: self.rt,
             hands: self.hands,
+            client: self.client,
             sink: self.sink.close(),
             children: self.children,
         }
@@ -82,7 +93,7 @@ fn write_out(rt: HostRuntime, sink: SocketSink, bytes: Vec<u8>, children: Childr
 impl<H: Hands> Sink for PatientSink<H> {
     ghost taken = { λ s. None };
 
-    ghost faults = { λ s. s };
+    ghost faults = { λ s. s.faults };
 
     fn write(&mut self, piece: &[u8]) -> Result<usize, Failed> {
         if piece.len() > SHORT && self.hand_over(piece).is_ok() {

@@ -1,6 +1,7 @@
 //! What comes in from a client, whose request has to come within a time.
 
-ghost use Rattle.std.specs.Prelude.{◌≡◌, ◌+◌, ℕ, None};
+ghost use Rattle.std.specs.Prelude.{◌≡◌, ◌+◌, None};
+ghost use Rattle.rx_host.specs.Clients.{Direction};
 
 use crate::halting::Halting;
 use crate::tells::tell;
@@ -21,6 +22,8 @@ const REQUEST_SECONDS: u64 = 60;
 #[derive(Drop)]
 pub struct PromptSource<R> {
     rt: R,
+    /// Which client of its listener it is.
+    client: u64,
     source: SocketSource,
     halting: Halting,
     /// When the first read began.
@@ -30,18 +33,19 @@ pub struct PromptSource<R> {
 }
 
 impl<R> Model for PromptSource<R> {
-    ghost Value = { ℕ };
+    ghost Value = { Direction };
 
-    ghost view = { λ s. s.source + s.faults.count };
+    ghost view = { λ s. record { client = s.client; faults = s.source + s.faults.count } };
 }
 
 impl<R: Clock + Eprint> PromptSource<R> {
-    /// What comes in over this connection, in the session whose waits `halting` ends.
-    pub fn new(rt: R, source: SocketSource, halting: Halting) -> PromptSource<R>
-        ensures { result ≡ source }
+    /// What comes in over this connection of a client, in the session whose waits `halting` ends.
+    pub fn new(rt: R, client: u64, source: SocketSource, halting: Halting) -> PromptSource<R>
+        ensures { result ≡ record { client = client; faults = source } }
     {
         PromptSource {
             rt,
+            client,
             source,
             halting,
             begun: None,
@@ -55,6 +59,7 @@ impl<R: Clock + Eprint> PromptSource<R> {
     {
         PromptSource {
             rt: self.rt,
+            client: self.client,
             source: self.source.close(),
             halting: self.halting,
             begun: self.begun,
@@ -83,7 +88,7 @@ impl<R: Clock + Eprint> PromptSource<R> {
 impl<R: Clock + Eprint> Source for PromptSource<R> {
     ghost left = { λ s. None };
 
-    ghost faults = { λ s. s };
+    ghost faults = { λ s. s.faults };
 
     fn read(&mut self, into: &mut [u8]) -> Result<usize, Failed> {
         if let Err(error) = self.check_time() {
