@@ -1,11 +1,14 @@
 -- The desks of a run over the machine.
 use Rattle.std.proofs.Common.{◌≡◌, ◌∙◌, ℕ, false, List, [], ◌∷◌, None, Option, Some, refl, sym, subst}
-use Rattle.std.specs.Prelude.{IfSome, MatchOption, String, option_map}
+use Rattle.std.specs.Prelude.{◌↔◌, IfSome, MatchOption, String, length, option_map}
 use Rattle.std.specs.Option.{option_to_list}
 use Rattle.rx_board.specs.declared.journal.Entry.{Entry}
+use Rattle.rx_daemon.specs.declared.served.ServedDesk.{ServedDesk}
+use Rattle.rx_daemon.specs.Agreeing.{Agrees}
 use Rattle.rx_daemon.specs.CoreRuns.{IsCoreRun, rules_of}
 use Rattle.rx_daemon.specs.Proxy.{HasServed, HasServingStatus, HasStatus, IsLegal}
 use Rattle.rx_daemon.specs.Serves.{RunsDone}
+use Rattle.rx_daemon.specs.Threads.{HaveRun, is_asked, transcripts_of}
 use Rattle.rx_daemon.specs.Words.{Options, options_in, root_in}
 use Rattle.rx_engine.specs.declared.transcripts.Transcript.{Transcript}
 use Rattle.rx_engine.specs.Meanings.{Meanings}
@@ -46,17 +49,20 @@ serves-made m parts Is words options limit faults (Some desk) left status journa
     serves-desk m parts Is (root_in words) limit faults (Some desk) desk left status journal handed ts refl is runs core legal has
 
 -- where the words are known, the run was over the desks of clients
-pub serves-clients : {D P W B : Type 0} (m : Meanings P W B) (parts : D → P) (found : Option (List ℕ)) (limit faults : ℕ) (before after : Accepts)
-    (status : ℕ) (journal : List Entry) (handed : List D) (ts : List Transcript)
-    → IfSome found (λ root. RunsDone None None m parts root limit journal faults handed ts)
-    → ((files : List FileOut) → IfSome found (λ root. IsCoreRun (rules_of m) files limit journal ts)) → IsLegal 1 journal ts
-    → HasServed before.accepted after.accepted status ts → IfSome found (λ root. HasServingStatus false before.faults after.faults status ts)
-    → IfSome found (λ root. ServesClients m parts root limit faults before after status journal handed ts)
-serves-clients m parts None limit faults before after status journal handed ts runs core legal served has = tt
-serves-clients m parts (Some root) limit faults before after status journal handed ts runs core legal served has = record {
+pub serves-clients : {D P W B : Type 0} (m : Meanings P W B) (parts : D → P) (gives : ℕ → D → Type 0) (found : Option (List ℕ)) (limit faults most : ℕ)
+    (before after : Accepts) (status : ℕ) (journal : List Entry) (served : List (ServedDesk D))
+    → IfSome found (λ root. HaveRun m parts root limit gives None None before.accepted most journal faults served)
+    → ((files : List FileOut) → IfSome found (λ root. IsCoreRun (rules_of m) files limit journal (transcripts_of served)))
+    → HasServed before.accepted after.accepted status (length served)
+    → IfSome found (λ root. HasServingStatus false before.faults after.faults status (length served) (is_asked served))
+    → (status ≡ 8 ↔ (Agrees journal (transcripts_of served) → ⊥)) → Agrees journal (transcripts_of served)
+    → IfSome found (λ root. ServesClients m parts gives root limit faults most before after status journal served)
+serves-clients m parts gives None limit faults most before after status journal served runs core are has disagrees agrees = tt
+serves-clients m parts gives (Some root) limit faults most before after status journal served runs core are has disagrees agrees = record {
   sessions = runs;
   core = core;
-  legal = legal;
-  served = served;
+  served_are = are;
   status_is = has;
+  disagrees = disagrees;
+  agrees = agrees;
 }

@@ -1,6 +1,7 @@
 //! The desks of `serve`: one for each client that connects.
 
-ghost use Rattle.std.specs.Prelude.{◌≡◌, None, false};
+ghost use Rattle.std.specs.Prelude.{◌≡◌, IfOk, None, false};
+ghost use Rattle.reproxy.specs.Serves.{IsOfClient};
 
 use crate::desk::{Host, HostParts, parts_over};
 use crate::halts::HostHalt;
@@ -93,6 +94,9 @@ impl<'a, H: Hands + Send + Sync> Front<HostWorld> for ClientFront<'a, H> {
 
     ghost given = { λ f. f.listener.accepted };
 
+    // (both directions of the desk are those of one client, whose number is told)
+    ghost gives = { λ n desk. IsOfClient n desk.parts.input.client desk.parts.output.client };
+
     // (clients come as long as the listener doesn't fail)
     ghost over = { λ f. false };
 
@@ -115,13 +119,21 @@ fn desk_over<H: Hands>(
     host: &Host<H>,
     options: &Options<'_>,
     client: Client,
-) -> io::Result<ClientDesk<H>> {
-    let Client { input, output, end } = client;
+) -> io::Result<ClientDesk<H>>
+    ensures { IfOk result (λ desk.
+        IsOfClient client.number desk.parts.input.client desk.parts.output.client) }
+{
+    let Client {
+        number,
+        input,
+        output,
+        end,
+    } = client;
     let seed = draw_seed(&host.rt)?;
     let halting = Halting::new(&host.rt, host.rt.alloc())?;
     halting.keep_client(&host.hands, end);
-    let input = PromptSource::new(host.rt, input, halting.share()?);
-    let output = PatientSink::new(host.rt, host.hands, output, host.children.share()?);
+    let input = PromptSource::new(host.rt, number, input, halting.share()?);
+    let output = PatientSink::new(host.rt, host.hands, number, output, host.children.share()?);
     let parts = parts_over(host, options, seed, &halting, input, output)?;
     let halt = HostHalt::new(host.hands, halting);
     Ok(ClientDesk { parts, halt })

@@ -137,6 +137,8 @@ impl<H: Hands + Send + Sync, I: Read + Send + Drop, O: Print + Send + Drop> Fron
 
     ghost given = { λ f. if is_none f.desk then 1 else 0 };
 
+    ghost gives = { λ n desk. Unit {0} };
+
     ghost over = { λ f. is_none f.desk };
 
     ghost faults = { λ f. 0 };

@@ -2,15 +2,15 @@
 
 ghost use Rattle.std.specs.Prelude.{◌≡◌, ◌≤◌, ◌↔◌, [], IfOk, IfSome, None};
 ghost use Rattle.rx_board.specs.Journal.{count_short};
-ghost use Rattle.rx_daemon.specs.Words.{root_in};
+ghost use Rattle.rx_daemon.specs.Words.{root_in, sessions_in};
 ghost use Rattle.rx_engine.specs.Meanings.{meanings};
-ghost use Rattle.reproxy.specs.Serves.{ServesClients};
+ghost use Rattle.reproxy.specs.Serves.{IsOfClient, ServesClients};
 
 use crate::clients::ClientFront;
 use crate::desk::Host;
 use crate::session_words::HostLog;
 use rx_board::JOURNAL_LIMIT;
-use rx_daemon::{Options, Ran, run_in_threads};
+use rx_daemon::{Options, RanInThreads, run_in_threads};
 use rx_exec_messages::Caller;
 use rx_host::{
     Hands, HostBench, HostBenches, HostFarm, HostListener, HostPlace, HostSources, HostWorld,
@@ -26,12 +26,13 @@ pub(crate) fn listen<'a, H: Hands + Send + Sync>(
     words: &[String],
     options: Options<'a>,
     listener: HostListener,
-) -> Result<Ran<HostWorld, ClientFront<'a, H>, HostPlace<HostRuntime>>, AllocError>
+) -> Result<RanInThreads<HostWorld, ClientFront<'a, H>, HostPlace<HostRuntime>>, AllocError>
     // The status is 2 exactly where the words aren't known, and then no session is served.
     ensures usage { IfOk result (λ ran. ran.status ≡ 2 ↔ (root_in words.now ≡ None)) }
     ensures unused { IfOk result (λ ran.
-        root_in words.now ≡ None → ran.transcripts.items ≡ []) }
-    // What was served of the clients is as a run of the proxy says.
+        root_in words.now ≡ None → ran.served.items ≡ []) }
+    // Each client that was taken has its own session, and what was done of all of them is as a run of the
+    // proxy in threads says.
     ensures served { IfOk result (λ ran. IfSome (root_in words.now) (λ root. ServesClients
         (meanings ⟦<HostWorld as World>⟧ ⟦<PromptSource<HostRuntime> as Source>⟧
         ⟦<PatientSink<H> as Sink>⟧
@@ -41,10 +42,11 @@ pub(crate) fn listen<'a, H: Hands + Send + Sync>(
         ⟦<HostBench<H> as Bench<HostWorld>>⟧
         ⟦<HostSources<HostRuntime> as Sources<HostWorld>>⟧
         ⟦<HostFarm<H> as Caller<HostWorld>>⟧)
-        (λ desk. desk.parts) root JOURNAL_LIMIT
-        (⟦<HostPlace<HostRuntime> as Place>⟧.faults ran.place)
-        listener ran.front.listener
-        ran.status ran.journal.items ran.desks.items ran.transcripts.items)) }
+        (λ desk. desk.parts)
+        (λ n desk. IsOfClient n desk.parts.input.client desk.parts.output.client)
+        root JOURNAL_LIMIT (⟦<HostPlace<HostRuntime> as Place>⟧.faults ran.place)
+        (sessions_in words.now) listener ran.front.listener
+        ran.status ran.journal.items ran.served.items)) }
     // There are at most as many short entries as the output tree had faults.
     ensures short { IfOk result (λ ran. count_short ran.journal.items ≤
         ⟦<HostPlace<HostRuntime> as Place>⟧.faults ran.place) }

@@ -41,6 +41,12 @@ const FRONT_LOST: u8 = 3;
 /// The status where memory runs out outside a session, or the machine has no random numbers.
 const NO_MEMORY: u8 = 4;
 
+/// The status where as many clients were served as there are numbers.
+const SPENT: u8 = 7;
+
+/// The status where the journal isn't that of the sessions.
+const DISAGREES: u8 = 8;
+
 fn main(rt: HostRuntime) -> ExitCode {
     match read_words(&rt) {
         Ok(words) => match page_in(&words) {
@@ -178,9 +184,23 @@ fn run_clients<H: Hands + Send + Sync>(
     let root = options.root;
     let _ = eprintln!(rt; "reproxy: serving {root} at {address}");
     match listen(host, words, options, listener) {
-        Ok(ran) => ran.status,
+        Ok(ran) => {
+            tell_end(&rt, ran.status);
+            ran.status
+        }
         Err(_) => NO_MEMORY,
     }
+}
+
+/// Tells why the run ended, where no client asked for it and no line has told it.
+fn tell_end(rt: &HostRuntime, status: u8) {
+    let why = match status {
+        NO_MEMORY => "memory ran out for one more session",
+        SPENT => "4,194,304 clients were served, and there are no more numbers: start it again",
+        DISAGREES => "the journal isn't that of the sessions: please report this, with the log",
+        _ => return,
+    };
+    let _ = eprintln!(rt; "reproxy: the run ends: {why}");
 }
 
 /// Whether so many sessions at once may have the files open that they can need. Where not, it tells so.

@@ -150,6 +150,8 @@ impl<D: Desk<RowWorld> + Send + Drop> Front<RowWorld> for ListFront<D> {
 
     ghost given = { λ f. f.all - length f.desks.items };
 
+    ghost gives = { λ n desk. Unit {0} };
+
     ghost over = { λ f. length f.desks.items == 0 };
 
     ghost faults = { λ f. f.script.faults };

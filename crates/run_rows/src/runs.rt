@@ -11,7 +11,7 @@ use crate::worlds::RowWorld;
 use rx_base::{Items, NoMemory, Text};
 use rx_blobs::Presence;
 use rx_board::{Board, Entry};
-use rx_daemon::{Ran, run_in_threads, run_proxy};
+use rx_daemon::{Ran, RanInThreads, ServedDesk, run_in_threads, run_proxy};
 use rx_digest_cache::DigestCache;
 use rx_engine::{Shared, Transcript, serve_session};
 use rx_exec_messages::Caller;
@@ -107,6 +107,31 @@ fn left_behind<H: Hands + Send + Sync>(
     })
 }
 
+/// What is left behind a run with the sessions in threads.
+fn left_behind_threads<H: Hands + Send + Sync>(
+    alloc: Global,
+    ran: RanInThreads<RowWorld, ListFront<ScriptedDesk<H>>, MemoryPlace>,
+) -> Result<Finished, NoMemory> {
+    let mut transcripts = Vec::new(alloc);
+    let mut desks = Vec::new(alloc);
+    for served in ran.served {
+        let ServedDesk {
+            transcript,
+            desk,
+            ..
+        } = served;
+        transcripts.push(transcript)?;
+        desks.push(desk.apart())?;
+    }
+    Ok(Finished {
+        status: Some(ran.status),
+        place: ran.place,
+        journal: ran.journal,
+        transcripts,
+        desks,
+    })
+}
+
 /// Runs the proxy over these desks, one after the other, with these words of the command line.
 pub(crate) fn run<H: Hands + Threads + Send + Sync>(
     rt: &H,
@@ -147,7 +172,7 @@ pub(crate) fn run_threads<H: Hands + Threads + Send + Sync>(
     let front = front_of(rt, alloc, plans, failing)?;
     let place = place_of(alloc, failing)?;
     let ran = run_front_in_threads(rt, alloc, words, front, place);
-    left_behind(alloc, ran)
+    left_behind_threads(alloc, ran)
 }
 
 /// The same over a front, with the sessions in threads.
@@ -157,7 +182,7 @@ fn run_front_in_threads<C: Caller<RowWorld> + Send + Drop, H: Hands + Threads + 
     words: &[String],
     front: ListFront<MeetingDesk<C, H>>,
     place: MemoryPlace,
-) -> Ran<RowWorld, ListFront<MeetingDesk<C, H>>, MemoryPlace>
+) -> RanInThreads<RowWorld, ListFront<MeetingDesk<C, H>>, MemoryPlace>
     requires opening { place.files ≡ place.opening }
     requires quiet { place.script.faults ≡ 0 }
 {

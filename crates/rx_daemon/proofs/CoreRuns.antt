@@ -3,6 +3,7 @@ use Rattle.std.proofs.Common.{◌≡◌, ◌∙◌, ℕ, ◌+◌, ◌<◌, ◌�
 use Rattle.std.proofs.Common.{inl, inr}
 use Rattle.std.proofs.Math.Arith.{lt_of_le-ne}
 use Rattle.std.specs.Prelude.{◌⊎◌, IsSome, MatchOption}
+use Rattle.std.specs.List.{AllByRecursion}
 use Rattle.rx_board.specs.declared.journal.Entry.{Entry}
 use Rattle.rx_board.specs.declared.journal.Receipt.{Receipt}
 use Rattle.rx_core.specs.Actions.{Action}
@@ -30,8 +31,10 @@ use Rattle.rx_session.specs.declared.requests.Request.{Request}
 use Rattle.rx_world.specs.declared.outcomes.FileOut.{FileOut}
 use Rattle.rx_world.specs.declared.outcomes.Listed.{Listed}
 use Rattle.rx_daemon.specs.CoreRuns.{AreInState, IsActionOf, IsCoreRun, IsInState, in_core, rules_of}
+use Rattle.rx_daemon.specs.Kept.{Linked}
 use Rattle.rx_daemon.specs.Proxy.{Runs, Served}
 use Rattle.rx_daemon.specs.Serves.{Serves}
+use Rattle.rx_daemon.proofs.LinkLemmas.{linked}
 use Rattle.rx_daemon.proofs.CoreSessions.{cancelled, failed, full, plain, short, silent, whole}
 
 -- ---- one session
@@ -175,38 +178,51 @@ still-in : (before now : State Turn) (t : Transcript) → now.actions t.number �
 still-in before now t same (inl none) = inl (record { none = same ∙ none.none; tally_is = none.tally_is; receipt_is = none.receipt_is })
 still-in before now t same (inr has) = inr (record { action = has.action; there = same ∙ has.there; holds = has.holds })
 
--- Steps lead to a state with this journal, in which each of these sessions is; actions with lower numbers than this stay.
-record Reached {P W B : Type 0} (m : Meanings P W B) (base : State Turn) (n : ℕ) (new : List Entry) (ts : List Transcript) : Type 0 where
+-- no two of these sessions have one number
+abbrev pub AreApart : List Transcript → Type 0
+AreApart [] = Unit {0}
+AreApart (t ∷ ts) = AllByRecursion (λ (x : Transcript). x.number ≡ t.number → ⊥) ts × AreApart ts
+
+-- there are no such actions before, and none of this number was added, so there are none after
+still-free : (base now : State Turn) (number : ℕ) (ts : List Transcript) → ((k : ℕ) → (k ≡ number → ⊥) → now.actions k ≡ base.actions k)
+    → AllByRecursion (λ (x : Transcript). base.actions x.number ≡ None) ts → AllByRecursion (λ (x : Transcript). x.number ≡ number → ⊥) ts
+    → AllByRecursion (λ (x : Transcript). now.actions x.number ≡ None) ts
+still-free base now number [] others free apart = tt
+still-free base now number (t ∷ ts) others free apart =
+    (others t.number apart.0 ∙ free.0, still-free base now number ts others free.1 apart.1)
+
+-- Steps lead to a state with this journal, in which each of these sessions is; other actions stay.
+record Reached {P W B : Type 0} (m : Meanings P W B) (base : State Turn) (new : List Entry) (ts : List Transcript) : Type 0 where
   state : State Turn
   steps : List (Step Turn)
   run : IsRun (rules_of m) base steps
   leads : state ≡ after_steps (rules_of m) base steps
-  kept : (k : ℕ) → k < n → state.actions k ≡ base.actions k
+  kept : (k : ℕ) → AllByRecursion (λ (x : Transcript). x.number ≡ k → ⊥) ts → state.actions k ≡ base.actions k
   journal_is : state.journal ≡ new
   limit : state.limit ≡ base.limit
   each : AreInState state ts
 
-module _ {D P W B : Type 0} (m : Meanings P W B) (parts : D → P) (root : List ℕ) (limit : ℕ) where
-  reach : (n : ℕ) (base : State Turn) (old new : List Entry) (before now : ℕ) (ds es : List D) (ts : List Transcript)
-      → ((k : ℕ) → n ≤ k → base.actions k ≡ None) → base.journal ≡ old → base.limit ≡ limit → base.faults ≤ before → length old ≤ limit
-      → Served (Serves m parts root limit) n old new before now ds es ts → Reached m base n new ts
-  reach n base old new before now [] [] [] free journal_is limit_is within room h = record {
+module _ {P W B : Type 0} (m : Meanings P W B) (root : List ℕ) (limit : ℕ) where
+  reach : (base : State Turn) (old new : List Entry) (before now : ℕ) (ts : List Transcript)
+      → AllByRecursion (λ (x : Transcript). base.actions x.number ≡ None) ts → AreApart ts
+      → base.journal ≡ old → base.limit ≡ limit → base.faults ≤ before → length old ≤ limit
+      → Linked m root limit old new before now ts → Reached m base new ts
+  reach base old new before now [] free apart journal_is limit_is within room h = record {
     state = base;
     steps = [];
     run = tt;
     leads = refl;
-    kept = λ k less. refl;
+    kept = λ k other. refl;
     journal_is = journal_is ∙ sym h.0;
     limit = refl;
     each = tt;
   }
-  reach n base old new before now (d ∷ ds) (e ∷ es) (t ∷ ts) free journal_is limit_is within room h =
+  reach base old new before now (t ∷ ts) free apart journal_is limit_is within room h =
       let own = h.2.own in
       let j = h.2.journal in
-      let next = ended m root (grounds_of m root (parts d) (parts e) t own) t base old h.0 before h.1 limit
-      (free t.number (omega (arith, h.2.number_is))) journal_is limit_is within h.2.later room j t.ending own.course in
-      let rest = reach (n + 1) next.state h.0 new h.1 now ds es ts
-      (λ k least. next.others k (λ same. absurd (omega (arith, same, least, h.2.number_is))) ∙ free k (omega (arith, least)))
+      let next = ended m root (grounds_of m root h.2.parts_old h.2.parts_new t own) t base old h.0 before h.1 limit
+      free.0 journal_is limit_is within h.2.later room j t.ending own.course in
+      let rest = reach next.state h.0 new h.1 now ts (still-free base next.state t.number ts next.others free.1 apart.0) apart.1
       next.journal_is (next.limit ∙ limit_is) next.within
       (within-at limit old h.0 before h.1 t.number t.receipt (files_of t.ends) t.reply j.entry j.room room) h.3 in
       record {
@@ -214,21 +230,21 @@ module _ {D P W B : Type 0} (m : Meanings P W B) (parts : D → P) (root : List 
         steps = next.steps ++ rest.steps;
         run = run-append (rules_of m) base next.steps rest.steps next.run (subst (λ s. IsRun (rules_of m) s rest.steps) next.leads rest.run);
         leads = rest.leads ∙ ap (λ s. after_steps (rules_of m) s rest.steps) next.leads ∙ sym (after-append (rules_of m) base next.steps rest.steps);
-        kept = λ k less. rest.kept k (omega (arith, less)) ∙ next.others k (λ same. absurd (omega (arith, same, less, h.2.number_is)));
+        kept = λ k other. rest.kept k other.1 ∙ next.others k (λ same. other.0 (sym same));
         journal_is = rest.journal_is;
         limit = rest.limit ∙ next.limit;
-        each = (still-in next.state rest.state t (rest.kept t.number (omega (arith, h.2.number_is))) next.is_in, rest.each);
+        each = (still-in next.state rest.state t (rest.kept t.number apart.0) next.is_in, rest.each);
       }
-  reach n base old new before now [] (y ∷ es) ts free journal_is limit_is within room h = absurd h
-  reach n base old new before now [] [] (z ∷ ts) free journal_is limit_is within room h = absurd h
-  reach n base old new before now (x ∷ ds) [] ts free journal_is limit_is within room h = absurd h
-  reach n base old new before now (x ∷ ds) (y ∷ es) [] free journal_is limit_is within room h = absurd h
+
+  none-yet : (files : List FileOut) (ts : List Transcript) → AllByRecursion (λ (x : Transcript). (opening {H = Turn} files limit 0).actions x.number ≡ None) ts
+  none-yet files [] = tt
+  none-yet files (t ∷ ts) = (refl, none-yet files ts)
 
   -- whatever the place held
-  pub core-run : (a b : Option (List D)) (journal : List Entry) (faults : ℕ) (es : List D) (ts : List Transcript) (files : List FileOut)
-      → Runs a b (Serves m parts root limit) [] journal 0 faults es ts → IsCoreRun (rules_of m) files limit journal ts
-  core-run a b journal faults es ts files runs =
-      let reached = reach 1 (opening files limit 0) [] journal 0 faults runs.left es ts (λ k least. refl) refl refl (omega arith) (omega arith) runs.served in
+  pub core-run : (journal : List Entry) (faults : ℕ) (ts : List Transcript) (files : List FileOut) → AreApart ts
+      → Linked m root limit [] journal 0 faults ts → IsCoreRun (rules_of m) files limit journal ts
+  core-run journal faults ts files apart h =
+      let reached = reach (opening {H = Turn} files limit 0) [] journal 0 faults ts (none-yet files ts) apart refl refl (omega arith) (omega arith) h in
       record {
         state = reached.state;
         reached = record { limit = limit; faults = 0; steps = reached.steps; run = reached.run; leads = reached.leads };
@@ -236,3 +252,37 @@ module _ {D P W B : Type 0} (m : Meanings P W B) (parts : D → P) (root : List 
         journal_is = reached.journal_is;
         each = reached.each;
       }
+
+-- ---- numbers of sessions in turn
+
+module _ {D P W B : Type 0} (m : Meanings P W B) (parts : D → P) (root : List ℕ) (limit : ℕ) where
+  abbrev Turns : ℕ → List Entry → List Entry → ℕ → ℕ → List D → List D → List Transcript → Type 0
+  Turns = Served (Serves m parts root limit)
+
+  above : (k n : ℕ) (old new : List Entry) (before now : ℕ) (ds es : List D) (ts : List Transcript) → k < n → Turns n old new before now ds es ts
+      → AllByRecursion (λ (x : Transcript). x.number ≡ k → ⊥) ts
+  above k n old new before now [] [] [] less h = tt
+  above k n old new before now (d ∷ ds) (e ∷ es) (t ∷ ts) less h =
+      (λ same. absurd (omega (arith, same, less, h.2.number_is)), above k (n + 1) h.0 new h.1 now ds es ts (omega (arith, less)) h.3)
+  above k n old new before now [] (y ∷ es) ts less h = absurd h
+  above k n old new before now [] [] (z ∷ ts) less h = absurd h
+  above k n old new before now (x ∷ ds) [] ts less h = absurd h
+  above k n old new before now (x ∷ ds) (y ∷ es) [] less h = absurd h
+
+  apart-in-turn : (n : ℕ) (old new : List Entry) (before now : ℕ) (ds es : List D) (ts : List Transcript) → Turns n old new before now ds es ts → AreApart ts
+  apart-in-turn n old new before now [] [] [] h = tt
+  apart-in-turn n old new before now (d ∷ ds) (e ∷ es) (t ∷ ts) h = (
+    above t.number (n + 1) h.0 new h.1 now ds es ts (omega (arith, h.2.number_is)) h.3,
+    apart-in-turn (n + 1) h.0 new h.1 now ds es ts h.3,
+  )
+  apart-in-turn n old new before now [] (y ∷ es) ts h = absurd h
+  apart-in-turn n old new before now [] [] (z ∷ ts) h = absurd h
+  apart-in-turn n old new before now (x ∷ ds) [] ts h = absurd h
+  apart-in-turn n old new before now (x ∷ ds) (y ∷ es) [] h = absurd h
+
+pub core-in-turn : {D P W B : Type 0} (a b : Option (List D)) (m : Meanings P W B) (parts : D → P) (root : List ℕ) (limit : ℕ) (journal : List Entry)
+    (faults : ℕ) (es : List D) (ts : List Transcript) (files : List FileOut) → Runs a b (Serves m parts root limit) [] journal 0 faults es ts
+    → IsCoreRun (rules_of m) files limit journal ts
+core-in-turn a b m parts root limit journal faults es ts files h =
+    core-run m root limit journal faults ts files (apart-in-turn m parts root limit 1 [] journal 0 faults h.left es ts h.served)
+    (linked m parts root limit 1 [] journal 0 faults h.left es ts h.served)

@@ -1,3 +1,5 @@
+mod AgreeLemmas
+mod ApartLemmas
 mod CoreActions
 mod CoreEnds
 mod CoreListed
@@ -8,6 +10,12 @@ mod CoreSessions
 mod CoreVictors
 mod EachDone
 mod EndedLemmas
+mod GateLemmas
+mod KeptLemmas
 mod LegalLemmas
+mod LinkLemmas
 mod PortLemmas
+mod RightLemmas
 mod RunLemmas
+mod ServeLemmas
+mod SettleLemmas

@@ -17,7 +17,7 @@ served-more S n old mid new pb pm pn [] [] (z ∷ ts) d e t h k = absurd h
 served-more S n old mid new pb pm pn (x ∷ ds) [] ts d e t h k = absurd h
 served-more S n old mid new pb pm pn (x ∷ ds) (y ∷ es) [] d e t h k = absurd h
 
-gives-more : {D : Type 0} (a b c : Option (List D)) (ds : List D) (d : D) → GivesAll a b ds → GivesNext b c (Some d) → GivesAll a c (ds ++ d ∷ [])
+pub gives-more : {D : Type 0} (a b c : Option (List D)) (ds : List D) (d : D) → GivesAll a b ds → GivesNext b c (Some d) → GivesAll a c (ds ++ d ∷ [])
 gives-more None b c ds d h k = tt
 gives-more (Some xs) None c ds d h k = absurd h
 gives-more (Some xs) (Some ys) None ds d h k = absurd k
@@ -29,6 +29,11 @@ runs-more a b c S old mid new pb pm pn es ts d e t number h g q k = record {
   given = gives-more a b c h.left d h.given g;
   served = served-more S 1 old mid new pb pm pn h.left es ts d e t h.served (subst (λ m. S d e mid new pm pn m t) q k);
 }
+
+-- nothing left it so far
+pub gives-none : {D : Type 0} (a : Option (List D)) → GivesAll a a []
+gives-none None = tt
+gives-none (Some xs) = refl
 
 pub runs-none : {D : Type 0} (a : Option (List D)) (S : D → D → List Entry → List Entry → ℕ → ℕ → ℕ → Transcript → Type 0) (old : List Entry) (pb : ℕ) → Runs a a S old old pb pb [] []
 runs-none None S old pb = record { left = []; given = tt; served = (refl, refl) }

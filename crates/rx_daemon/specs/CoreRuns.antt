@@ -1,5 +1,6 @@
 -- What the sessions of a run are to the core: each one that made attempts is an action, and steps of the core lead to all of them.
 use Rattle.std.specs.Prelude.{◌≡◌, ◌⊎◌, ℕ, Bool, List, [], ◌∷◌, Option, None, Some, MatchOption}
+use Rattle.std.specs.List.{AllByRecursion}
 use Rattle.rx_board.specs.declared.journal.Entry.{Entry}
 use Rattle.rx_core.specs.Actions.{Action}
 use Rattle.rx_core.specs.Attempts.{Ended as HasEnded, Idle, Offered, Progress, Running, end_in}
@@ -99,8 +100,7 @@ abbrev pub IsInState : {H : Type 0} → State H → Transcript → Type 0
 IsInState state t = IsNoAction state t ⊎ Has state t.number (IsActionOf t)
 
 abbrev pub AreInState : {H : Type 0} → State H → List Transcript → Type 0
-AreInState state [] = Unit {0}
-AreInState state (t ∷ ts) = IsInState state t × AreInState state ts
+AreInState state ts = AllByRecursion (IsInState state) ts
 
 -- Steps of the core lead to a state with this journal, in which each of these sessions is an action of its number, or is none since it made
 -- no attempt.

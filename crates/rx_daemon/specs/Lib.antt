@@ -1,5 +1,6 @@
 pub mod Accounts
 pub mod Addresses
+pub mod Agreeing
 pub mod CoreRuns
 pub mod Cuts
 pub mod Fronts
@@ -7,5 +8,7 @@ pub mod Gates
 pub mod Kept
 pub mod Numbers
 pub mod Proxy
+pub mod Rights
 pub mod Serves
+pub mod Threads
 pub mod Words

@@ -12,6 +12,7 @@ use Rattle.rx_world.specs.Causes.{Rose}
 use Rattle.rx_daemon.specs.declared.proxy.Stop.{Stop}
 use Rattle.rx_daemon.specs.declared.proxy.Stop.TheVariants.{Ended, FrontLost, NoMemory, ShutDown, Spent}
 use Rattle.rx_daemon.specs.Fronts.{GivesAll}
+use Rattle.rx_daemon.specs.Rights.{most_numbers}
 
 -- Each desk has its session, numbered from n on, and each session goes on with the journal and the place where the one before it ended.
 abbrev pub Served : {D : Type 0} → (D → D → List Entry → List Entry → ℕ → ℕ → ℕ → Transcript → Type 0) → ℕ → List Entry → List Entry → ℕ → ℕ → List D → List D → List Transcript → Type 0
@@ -119,15 +120,16 @@ pub record HasStatus {D : Type 0} (old new : Option (List D)) (before now status
 
 -- ---- in threads
 
--- The status is 0 only where the front said that it has no more desks or a session was asked to end the run, and 3 only where the front's count
--- rose. Else it is 4, which stands for want of memory or of numbers: that one of these was wanting isn't said here.
-pub record HasServingStatus (over : Bool) (before now status : ℕ) (ts : List Transcript) : Type 0 where
-  pub ended : status ≡ 0 → (over ≡ true) ⊎ (is_asked_to_end ts ≡ true)
+-- The status is 0 only where the front said that it has no more desks or a session was asked to end the run, 3 only where the front's count rose,
+-- and 7 only where each number was given. Else it is 4, which stands for want of memory: that this was wanting isn't said here; or it is 8.
+pub record HasServingStatus (over : Bool) (before now status count : ℕ) (asked : Bool) : Type 0 where
+  pub ended : status ≡ 0 → (over ≡ true) ⊎ (asked ≡ true)
   pub lost : status ≡ 3 → Rose before now
-  pub no_other : (status ≡ 0) ⊎ ((status ≡ 3) ⊎ (status ≡ 4))
+  pub spent : status ≡ 7 → count ≡ most_numbers
+  pub no_other : (status ≡ 0) ⊎ ((status ≡ 3) ⊎ ((status ≡ 4) ⊎ ((status ≡ 7) ⊎ (status ≡ 8))))
 
--- A front gave so many desks before a run and after it. There are no more transcripts than desks that it gave meanwhile, and as many, but where
--- the front failed or memory ran out.
-pub record HasServed (before now status : ℕ) (ts : List Transcript) : Type 0 where
-  pub within : before + length ts ≤ now
-  pub each : status ≢ 3 → status ≢ 4 → before + length ts ≡ now
+-- A front gave so many desks before a run and after it. There are as many sessions as desks that it gave meanwhile, but where it failed, when it may
+-- have counted more.
+pub record HasServed (before now status count : ℕ) : Type 0 where
+  pub within : before + count ≤ now
+  pub each : status ≢ 3 → before + count ≡ now

@@ -1,5 +1,5 @@
 -- The words of the command line: `exec` or `serve`, and options in any order, each once at most.
-use Rattle.std.specs.Prelude.{ℕ, List, [], ◌∷◌, Bool, not, ◌&&◌, Option, None, Some, is_some, option_map, String, codes, if◌then◌else◌, length, nat_lt, string_bytes}
+use Rattle.std.specs.Prelude.{ℕ, List, [], ◌∷◌, Bool, not, ◌&&◌, ◌==◌, Option, None, Some, is_some, option_map, String, codes, if◌then◌else◌, length, nat_lt, string_bytes}
 use Rattle.std.specs.Option.{option_and_then, unwrap_or}
 use Rattle.std.specs.Str.{bytes_eq}
 use Rattle.rx_daemon.specs.Addresses.{is_address, is_listening_address}
@@ -108,3 +108,14 @@ options_in (command ∷ words) = option_and_then (options_of (string_bytes comma
 -- the root that they ask for
 abbrev pub root_in : {A : Type 0} → List (String A) → Option (List ℕ)
 root_in words = option_map (λ options. options.root) (options_in words)
+
+-- how many sessions they let run at once, at least one
+abbrev pub at_least_one : ℕ → ℕ
+at_least_one n = if n == 0 then 1 else n
+
+abbrev pub sessions_of : Option Options → ℕ
+sessions_of None = 1
+sessions_of (Some options) = at_least_one options.sessions
+
+abbrev pub sessions_in : {A : Type 0} → List (String A) → ℕ
+sessions_in words = sessions_of (options_in words)

@@ -13,18 +13,21 @@ use std::sync::ledger::{Blank, Book, Share};
 pub(crate) struct Blanks {
     pub taken: Blank,
     pub concluded: Blank,
+    pub admissions: Blank,
 }
 
 impl Blanks {
-    /// Those of a run of so many threads: a part for each, and one beside them.
+    /// Those of a run of so many threads: a part for each.
     pub(crate) fn for_threads(threads: u16) -> Blanks
-        ensures taken { result.taken.parts ≡ threads + 1 }
-        ensures concluded { result.concluded.parts ≡ threads + 1 }
+        ensures taken { result.taken.parts ≡ threads }
+        ensures concluded { result.concluded.parts ≡ threads }
+        ensures admissions { result.admissions.parts ≡ threads }
     {
-        let parts = u64::from(threads) + 1;
+        let parts = u64::from(threads);
         Blanks {
             taken: Blank::new(parts),
             concluded: Blank::new(parts),
+            admissions: Blank::new(parts),
         }
     }
 }
@@ -51,22 +54,19 @@ impl<K: Run> Model for Account<K> {
     ghost invariant = { λ a. a.concluded.parts ≡ a.taken.parts };
 }
 
-/// The books of a run, and all of its accounts in one.
-pub(crate) fn open<K: Run>(blanks: Blanks) -> (Book<Taken<K>>, Book<Concluded<K>>, Account<K>)
-    requires taken { (blanks.taken.name ≡ K.taken) × (blanks.taken.parts ≡ K.pieces) }
-    requires concluded { (blanks.concluded.name ≡ K.concluded)
-        × (blanks.concluded.parts ≡ K.pieces) }
-    ensures taken { result.0.total ≡ 0 }
-    ensures concluded { result.1.total ≡ 0 }
-    ensures account { result.2 ≡ record { parts = K.pieces; taken = 0; concluded = 0 } }
-{
-    let Blanks { taken, concluded } = blanks;
-    let (taken_book, taken) = taken.open();
-    let (concluded_book, concluded) = concluded.open();
-    (taken_book, concluded_book, Account { taken, concluded })
-}
-
 impl<K: Run> Account<K> {
+    /// All accounts of a run in one.
+    pub(crate) fn new(taken: Share<Taken<K>>, concluded: Share<Concluded<K>>) -> Account<K>
+        requires { concluded.parts ≡ taken.parts }
+        ensures { result ≡ record {
+          parts = taken.parts;
+          taken = taken.amount;
+          concluded = concluded.amount;
+        } }
+    {
+        Account { taken, concluded }
+    }
+
     /// Counts a desk that left the front.
     pub(crate) fn take(&mut self, book: &mut Book<Taken<K>>)
         requires { 0 < self.old.parts }
@@ -85,24 +85,16 @@ impl<K: Run> Account<K> {
         book.add(&mut self.concluded, 1);
     }
 
-    /// Whoever has all accounts knows how many desks left the front.
-    pub(crate) fn all_taken(&mut self, book: &mut Book<Taken<K>>)
-        requires { self.old.parts ≡ K.pieces }
+    /// Whoever has all accounts knows how many desks left the front, and how many sessions ended.
+    pub(crate) fn audit(&mut self, taken: &mut Book<Taken<K>>, concluded: &mut Book<Concluded<K>>)
+        requires { self.old.parts ≡ K.most }
         ensures same { self.new ≡ self.old }
-        ensures total { book.new.total ≡ self.old.taken }
-        ensures kept { book.new.total ≡ book.old.total }
+        ensures taken { (taken.new.total ≡ self.old.taken) × (taken.new.total ≡ taken.old.total) }
+        ensures concluded { (concluded.new.total ≡ self.old.concluded)
+            × (concluded.new.total ≡ concluded.old.total) }
     {
-        book.audit(&mut self.taken);
-    }
-
-    /// Whoever has all accounts knows how many sessions ended.
-    pub(crate) fn all_concluded(&mut self, book: &mut Book<Concluded<K>>)
-        requires { self.old.parts ≡ K.pieces }
-        ensures same { self.new ≡ self.old }
-        ensures total { book.new.total ≡ self.old.concluded }
-        ensures kept { book.new.total ≡ book.old.total }
-    {
-        book.audit(&mut self.concluded);
+        taken.audit(&mut self.taken);
+        concluded.audit(&mut self.concluded);
     }
 
     /// A new account with so many of the parts.

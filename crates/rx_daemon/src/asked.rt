@@ -1,9 +1,10 @@
 //! Whether sessions were asked to end their run.
 
 ghost use Rattle.std.specs.Prelude.{◌≡◌};
-ghost use Rattle.rx_daemon.specs.Proxy.{asks_to_end, is_asked_to_end};
+ghost use Rattle.rx_daemon.specs.Proxy.{asks_to_end};
+ghost use Rattle.rx_daemon.specs.Threads.{is_asked};
 
-use rx_engine::Transcript;
+use crate::served::ServedDesk;
 use rx_session::SHUTDOWN;
 
 /// Whether the bytes that a session read ask for the end of the run.
@@ -14,8 +15,10 @@ pub(crate) fn asks_to_end(read: &[u8]) -> bool
 }
 
 /// Whether a session was asked to end the run.
-pub(crate) fn any_asked(transcripts: &[Transcript]) -> bool
-    ensures { result ≡ is_asked_to_end transcripts.now }
+pub(crate) fn any_asked<D>(served: &[ServedDesk<D>]) -> bool
+    ensures { result ≡ is_asked served.now }
 {
-    transcripts.iter().any(|t| asks_to_end(t.read.as_slice()))
+    served
+        .iter()
+        .any(|s| asks_to_end(s.transcript.read.as_slice()))
 }

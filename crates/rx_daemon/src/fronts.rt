@@ -1,6 +1,6 @@
 //! Where the desks of a run come from, and who hears what their sessions did.
 
-ghost use Rattle.std.specs.Prelude.{◌≡◌, ◌+◌, ◌≤◌, ℕ, Bool, true, List, Option, None, IfOk, OnErr, length};
+ghost use Rattle.std.specs.Prelude.{◌≡◌, ◌+◌, ◌≤◌, ℕ, Bool, true, List, Option, None, IfOk, IfSome, OnErr, length};
 ghost use Rattle.std.specs.Option.{option_to_list};
 ghost use Rattle.rx_world.specs.Causes.{HasCause};
 ghost use Rattle.rx_daemon.specs.Fronts.{GivesNext};
@@ -18,6 +18,9 @@ pub trait Front<W: World> {
     /// How many desks it gave.
     ghost given: { Self → ℕ };
 
+    /// What a front of this kind gives as its desk of this number.
+    ghost gives: { ℕ → Self.D → Type 0 };
+
     /// Whether it said that it has no more.
     ghost over: { Self → Bool };
 
@@ -31,6 +34,7 @@ pub trait Front<W: World> {
         // Where it failed it may count a client for whom it had no desk.
         ensures counted { IfOk result (λ next.
             given self.new ≡ given self.old + length (option_to_list next)) }
+        ensures gives { IfOk result (λ next. IfSome next (gives (given self.new))) }
         ensures more { given self.old ≤ given self.new }
         ensures over { IfOk result (λ next. next ≡ None → over self.new ≡ true) }
         ensures cause { HasCause (faults self.old) (faults self.new) result };

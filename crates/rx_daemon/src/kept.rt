@@ -1,54 +1,44 @@
-//! What a run of sessions in threads keeps of them, which stands behind a lock: the board, and of each
-//! session that ended its transcript and its desk, in the order in which they published.
+//! What a run of sessions in threads keeps of them, which stands behind a lock: the board, the admissions that
+//! nobody has, and each session that ended, in the order in which they published.
 
-ghost use Rattle.std.specs.Prelude.{◌≡◌, ◌+◌, ◌<◌, ◌≤◌, IsTrue, List, false, length, true, vec_capacity};
+ghost use Rattle.std.specs.Prelude.{◌≡◌, ◌<◌, ◌≤◌, ◌||◌, ℕ, Bool};
 ghost use Rattle.rx_board.specs.Journal.{HoldsLast, IsKeptBy, count_short};
 ghost use Rattle.rx_engine.specs.Meanings.{meanings};
-ghost use Rattle.rx_world.specs.declared.outcomes.FileOut.{FileOut};
 ghost use Rattle.rx_daemon.specs.Accounts.{one_concluded};
-ghost use Rattle.rx_daemon.specs.CoreRuns.{IsCoreRun, rules_of};
-ghost use Rattle.rx_daemon.specs.Kept.{IsPendingFor};
-ghost use Rattle.rx_daemon.specs.Proxy.{IsLegal};
-ghost use Rattle.rx_daemon.specs.Serves.{RunsDone};
+ghost use Rattle.rx_daemon.specs.Kept.{IsKept, IsPendingFor};
 
 use crate::accounts::Account;
+use crate::admissions::Admission;
+use crate::asked::asks_to_end;
 use crate::fronts::Log;
-use crate::runs::{Concluded, Run};
+use crate::gate::Claim;
+use crate::runs::{Admissions, Concluded, Desks, Run};
+use crate::served::ServedDesk;
 use rx_board::{Board, Entry, JOURNAL_LIMIT};
-use rx_engine::{Desk, Parts, Pending, Transcript, conclude};
+use rx_engine::{Desk, Parts, Pending, conclude};
 use rx_exec_messages::Caller;
 use rx_world::{Bench, BenchMaker, Place, Sink, Source, Sources, World};
 use std::alloc::Global;
 use std::marker::{Model, PhantomData};
-use std::sync::ledger::Book;
+use std::sync::ledger::{Book, Share};
 
-/// How many sessions a run may have: each has a number of 32 bits, and one of these is left.
-const MOST_SESSIONS: usize = 4_294_967_294;
-
-/// Whether there is room, which may have to be made, for so many more in each of both lists.
-fn has_room<T, U>(first: &mut Vec<T>, second: &mut Vec<U>, more: u16) -> bool
-    ensures items { (first.new.items ≡ first.old.items) × (second.new.items ≡ second.old.items) }
-    ensures room { IsTrue result → (length first.new.items + more ≤ vec_capacity first.new)
-        × (length second.new.items + more ≤ vec_capacity second.new) }
-{
-    let more = usize::from(more);
-    first.reserve(more).is_ok() && second.reserve(more).is_ok()
-}
-
-/// The board, what the sessions left that have published, how many ended, and whether memory or
-/// numbers ran out, so that one may have been given up.
+/// The board, the sessions that ended, how many admissions are out and how many there are, whether a session
+/// was asked to end the run, and whether memory for one more was wanting.
 #[derive(Drop)]
-pub(crate) struct Kept<W: World, D: Desk<W> + Drop, P: Place, K: Run> {
+pub(crate) struct Kept<W: World, D: Desk<W> + Drop, P: Place, K: Desks<D>> {
     board: Board<P>,
-    transcripts: Vec<Transcript>,
-    desks: Vec<D>,
+    served: Vec<ServedDesk<D>>,
     concluded: Book<Concluded<K>>,
-    given_up: bool,
+    spare: Share<Admissions<K>>,
+    out: u32,
+    most: u32,
+    asked: bool,
+    starved: bool,
     world: PhantomData<W>,
 }
 
-impl<W: World, D: Desk<W> + Drop, P: Place, K: Run> Model for Kept<W, D, P, K> {
-    ghost use Rattle.std.specs.Prelude.{◌≡◌};
+impl<W: World, D: Desk<W> + Drop, P: Place, K: Desks<D>> Model for Kept<W, D, P, K> {
+    ghost use Rattle.std.specs.Prelude.{◌≡◌, ◌+◌, ◌≤◌, vec_capacity, vec_len};
     ghost use Rattle.rx_daemon.specs.Kept.{IsKept, Sessions};
     ghost use Rattle.rx_engine.specs.Meanings.{meanings};
 
@@ -56,133 +46,156 @@ impl<W: World, D: Desk<W> + Drop, P: Place, K: Run> Model for Kept<W, D, P, K> {
 
     ghost view = { λ k. record {
       board = k.board;
-      transcripts = k.transcripts.items;
-      desks = k.desks.items;
+      served = k.served.items;
       concluded = k.concluded.total;
-      given_up = k.given_up;
+      out = k.out;
+      asked = k.asked;
     } };
 
     ghost invariant = { λ k. IsKept
         (meanings W.World D.I.Source D.O.Sink D.T.Sources D.L.Sources D.B.BenchMaker D.B.B.Bench
         D.R.Sources D.C.Caller)
-        P.Place D.parts K.root K.opening (record {
+        P.Place D.parts K.root K.opening K.coming K.gives K.given K.rights K.most (record {
           board = k.board;
-          transcripts = k.transcripts.items;
-          desks = k.desks.items;
+          served = k.served.items;
           concluded = k.concluded.total;
-          given_up = k.given_up;
-        }) };
+          out = k.out;
+          asked = k.asked;
+        })
+        × (vec_len k.served + k.out ≤ vec_capacity k.served)
+        × (k.spare.parts + k.out ≡ K.most)
+        × (k.spare.amount ≡ 0)
+        × (k.most ≡ K.most) };
 }
 
-impl<W: World, D: Desk<W> + Drop, P: Place, K: Run> Kept<W, D, P, K> {
-    /// Nothing is kept yet.
-    pub(crate) fn new(alloc: Global, place: P, concluded: Book<Concluded<K>>) -> Kept<W, D, P, K>
+/// Whether one of both is so.
+fn either(one: bool, other: bool) -> bool
+    ensures { result ≡ (one || other) }
+{
+    one || other
+}
+
+impl<W: World, D: Desk<W> + Drop, P: Place, K: Desks<D>> Kept<W, D, P, K> {
+    /// Nothing is kept yet, and all admissions are here.
+    pub(crate) fn new(
+        alloc: Global,
+        place: P,
+        concluded: Book<Concluded<K>>,
+        spare: Share<Admissions<K>>,
+        most: u32,
+    ) -> Kept<W, D, P, K>
         requires concluded { concluded.total ≡ 0 }
         requires contents { P.contents place ≡ P.opening place }
         requires opening { P.opening place ≡ K.opening }
         requires quiet { P.faults place ≡ 0 }
+        requires spare { (spare.parts ≡ K.most) × (spare.amount ≡ 0) }
+        requires most { most ≡ K.most }
     {
         Kept {
             board: Board::new(alloc, place, JOURNAL_LIMIT),
-            transcripts: Vec::new(alloc),
-            desks: Vec::new(alloc),
+            served: Vec::new(alloc),
             concluded,
-            given_up: false,
+            spare,
+            out: 0,
+            most,
+            asked: false,
+            starved: false,
             world: PhantomData,
         }
     }
 
-    /// Makes room for what so many sessions more leave, so that none of them is given up. False where
-    /// there is no memory for it.
-    pub(crate) fn make_room(&mut self, sessions: u16) -> bool
-        ensures same { result ≡ true → self.new ≡ self.old }
-        ensures told { result ≡ false → self.new.given_up ≡ true }
-    {
-        if has_room(&mut self.transcripts, &mut self.desks, sessions) {
-            return true;
+    /// An admission, and room for what its session leaves. There is none where as many are out as sessions may
+    /// run at once, where a session was asked to end the run, or for want of memory.
+    pub(crate) fn admit(&mut self) -> Option<Admission<K>> {
+        if self.asked || self.out >= self.most {
+            return None;
         }
-        self.given_up = true;
-        false
+        if self.served.reserve(self.out as usize + 1).is_err() {
+            self.starved = true;
+            return None;
+        }
+        let share = self.spare.split_off(1, 0);
+        self.out += 1;
+        Some(Admission { share })
     }
 
-    /// Publishes and replies for a session that has made its attempts, and keeps what it did. False
-    /// where that can't be kept, for want of memory or of numbers; then the session is given up:
-    /// nothing is published, and nothing is replied. It counts as concluded by the account.
+    /// Takes an admission back that wasn't used.
+    pub(crate) fn release(&mut self, admission: Admission<K>) {
+        let Admission { share } = admission;
+        self.spare.merge(share);
+        self.out -= 1;
+    }
+
+    /// Publishes and replies for a session that has made its attempts, and keeps what it did. It counts as
+    /// concluded by the account.
     pub(crate) fn conclude<L: Log>(
         &mut self,
         alloc: Global,
         log: &L,
+        admitted: (Admission<K>, Claim<K>),
         pending: Pending,
         parts: Parts<D::I, D::O, D::T, D::L, D::B, D::R, D::C>,
         account: &mut Account<K>,
-    ) -> bool
+    )
         requires pending { IsPendingFor
             (meanings W.World D.I.Source D.O.Sink D.T.Sources D.L.Sources D.B.BenchMaker
             D.B.B.Bench D.R.Sources D.C.Caller)
-            D.parts K.root parts pending }
+            D.parts K.root K.coming K.gives K.given admitted.1.number parts pending }
         requires account { 0 < account.old.parts }
         ensures account { account.new ≡ one_concluded account.old }
-        ensures same { result ≡ true → self.new.given_up ≡ self.old.given_up }
-        ensures told { result ≡ false → self.new.given_up ≡ true }
     {
         account.conclude(&mut self.concluded);
-        let served = self.transcripts.len();
-        if served >= MOST_SESSIONS || !has_room(&mut self.transcripts, &mut self.desks, 1) {
-            self.given_up = true;
-            drop(D::unite(parts));
-            return false;
-        }
+        let (admission, claim) = admitted;
+        let Admission { share } = admission;
+        self.spare.merge(share);
+        self.out -= 1;
+        let (number, right) = claim.into_parts();
+        let before = self.served.len();
         let mut parts = parts;
-        let number = served as u32 + 1;
         let transcript = conclude::<W, D, P>(alloc, number, pending, &mut parts, &mut self.board);
         log.hear(&transcript);
-        self.transcripts.push(transcript).unwrap();
-        self.desks.push(D::unite(parts)).unwrap();
-        true
+        self.asked = either(self.asked, asks_to_end(transcript.read.as_slice()));
+        self.served.push_reserved(ServedDesk {
+            transcript,
+            desk: D::unite(parts),
+            before,
+            right,
+        });
     }
 
-    /// Whether memory or numbers ran out.
-    pub(crate) fn has_given_up(&self) -> bool
-        ensures { result ≡ self.now.given_up }
-    {
-        self.given_up
+    /// Whether memory for one session more was wanting.
+    pub(crate) fn is_starved(&self) -> bool {
+        self.starved
     }
 
-    /// The place, the journal, and the transcript and the desk of each session, as if the sessions had
-    /// come one after the other, with all accounts of the run.
-    pub(crate) fn into_parts(
-        self,
-        account: &mut Account<K>,
-    ) -> (P, Vec<Entry>, Vec<Transcript>, Vec<D>)
-        requires { account.old.parts ≡ K.pieces }
-        ensures account { account.new ≡ account.old }
-        ensures sessions { RunsDone None None
+    /// The place, the journal, the sessions in the order in which they published, and the book.
+    pub(crate) fn into_parts(self) -> (P, Vec<Entry>, Vec<ServedDesk<D>>, Book<Concluded<K>>)
+        ensures kept { (out : ℕ) × (asked : Bool) × IsKept
             (meanings W.World D.I.Source D.O.Sink D.T.Sources D.L.Sources D.B.BenchMaker
             D.B.B.Bench D.R.Sources D.C.Caller)
-            D.parts K.root JOURNAL_LIMIT
-            result.1.items (P.faults result.0) result.3.items result.2.items }
-        ensures core { (files : List FileOut) → IsCoreRun (rules_of
-            (meanings W.World D.I.Source D.O.Sink D.T.Sources D.L.Sources D.B.BenchMaker
-            D.B.B.Bench D.R.Sources D.C.Caller))
-            files JOURNAL_LIMIT result.1.items result.2.items }
-        ensures legal { IsLegal 1 result.1.items result.2.items }
+            P.Place D.parts K.root K.opening K.coming K.gives K.given K.rights K.most (record {
+              board = record { limit = 262144; place = result.0; journal = result.1.items };
+              served = result.2.items;
+              concluded = result.3.total;
+              out = out;
+              asked = asked;
+            }) }
         ensures place { IsKeptBy K.opening (P.contents result.0) result.1.items }
         ensures last { HoldsLast K.opening (P.contents result.0) result.1.items }
         ensures short { count_short result.1.items ≤ P.faults result.0 }
-        ensures within { length result.2.items ≤ account.old.concluded }
-        ensures each { self.given_up ≡ false → length result.2.items ≡ account.old.concluded }
     {
         let Kept {
             board,
-            transcripts,
-            desks,
+            served,
             concluded,
-            given_up: _,
+            spare: _,
+            out: _,
+            most: _,
+            asked: _,
+            starved: _,
             world: _,
         } = self;
-        let mut concluded = concluded;
-        account.all_concluded(&mut concluded);
         let (place, journal) = board.into_parts();
-        (place, journal, transcripts, desks)
+        (place, journal, served, concluded)
     }
 }

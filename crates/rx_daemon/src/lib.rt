@@ -5,18 +5,26 @@
 
 mod accounts;
 mod addresses;
+mod admissions;
+mod agreeing;
 mod asked;
+mod closing;
 mod fronts;
 mod gate;
 mod kept;
 mod numbers;
 mod proxy;
+mod rights;
 mod runs;
+mod served;
 mod serving;
+mod settling;
 mod threads;
 mod words;
 
+pub use closing::RanInThreads;
 pub use fronts::{Front, Log};
 pub use proxy::{Ran, run_proxy};
+pub use served::ServedDesk;
 pub use threads::run_in_threads;
 pub use words::{Options, options_in};

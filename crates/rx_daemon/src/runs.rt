@@ -2,13 +2,14 @@
 //! values that are known only then.
 
 ghost use Rattle.std.specs.Prelude.{[], ℕ, List, Option, None};
+ghost use Rattle.std.specs.declared.sync.ledger.Blank.{Blank};
 ghost use Rattle.rx_world.specs.declared.outcomes.FileOut.{FileOut};
 
 use std::marker::{Brand, PhantomData};
 use std::sync::ledger::Ledger;
 
-/// Which run it is: its root, what the place held, how often the front had failed and how many desks
-/// it had given as it began, and the ledgers of the run.
+/// Which run it is: its root, what the place held, how often the front had failed as it began, the ledgers
+/// of the run, how many sessions it has at once, and the rights to its numbers.
 pub(crate) trait Run {
     /// The served root.
     ghost root: { List ℕ };
@@ -28,8 +29,14 @@ pub(crate) trait Run {
     /// The name of the ledger of desks whose sessions were concluded.
     ghost concluded: { ℕ };
 
-    /// Into how many parts the shares of both are cut.
-    ghost pieces: { ℕ };
+    /// The name of the ledger of admissions.
+    ghost admissions: { ℕ };
+
+    /// How many sessions there are at once, and into how many parts the shares of these ledgers are cut.
+    ghost most: { ℕ };
+
+    /// The right to each number.
+    ghost rights: { List Blank };
 }
 
 impl Run for Brand {
@@ -45,7 +52,24 @@ impl Run for Brand {
 
     ghost concluded = { 0 };
 
-    ghost pieces = { 0 };
+    ghost admissions = { 0 };
+
+    ghost most = { 0 };
+
+    ghost rights = { [] };
+}
+
+/// The desks of a run: what its front was to give, where it told that, and what fronts of the kind give.
+pub(crate) trait Desks<D>: Run {
+    ghost coming: { Option (List D) };
+
+    ghost gives: { ℕ → D → Type 0 };
+}
+
+impl<D> Desks<D> for Brand {
+    ghost coming = { None };
+
+    ghost gives = { λ n d. Unit {0} };
 }
 
 /// The ledger of desks that left the front.
@@ -56,10 +80,10 @@ pub(crate) struct Taken<K> {
 impl<K: Run> Ledger for Taken<K> {
     ghost name = { K.taken };
 
-    ghost parts = { K.pieces };
+    ghost parts = { K.most };
 }
 
-/// The ledger of desks whose sessions were concluded, or were given up for want of memory.
+/// The ledger of desks whose sessions were concluded.
 pub(crate) struct Concluded<K> {
     of: PhantomData<K>,
 }
@@ -67,5 +91,16 @@ pub(crate) struct Concluded<K> {
 impl<K: Run> Ledger for Concluded<K> {
     ghost name = { K.concluded };
 
-    ghost parts = { K.pieces };
+    ghost parts = { K.most };
+}
+
+/// The ledger of admissions: a part for each session at once.
+pub(crate) struct Admissions<K> {
+    of: PhantomData<K>,
+}
+
+impl<K: Run> Ledger for Admissions<K> {
+    ghost name = { K.admissions };
+
+    ghost parts = { K.most };
 }

@@ -1,8 +1,8 @@
 //! The words of the program's command line.
 
-ghost use Rattle.std.specs.Prelude.{◌≡◌, is_some, option_copied};
+ghost use Rattle.std.specs.Prelude.{◌≡◌, ◌<◌, is_some, option_copied};
 ghost use Rattle.rx_daemon.specs.Cuts.{begins};
-ghost use Rattle.rx_daemon.specs.Words.{is_command, nothing_given, once, options_below, options_in, root_in, with_option, with_word, with_words};
+ghost use Rattle.rx_daemon.specs.Words.{at_least_one, is_command, nothing_given, once, options_below, options_in, root_in, sessions_in, with_option, with_word, with_words};
 
 use crate::addresses::{is_address, is_listening_address};
 use crate::numbers::{Numbers, with_number};
@@ -224,10 +224,19 @@ pub(crate) fn root_in(words: &[String]) -> Option<&str>
     Some(options_in(words)?.root)
 }
 
-/// How many sessions and how many local attempts the words of a command line let run at once.
-pub(crate) fn at_once(words: &[String]) -> (u16, u32) {
+/// How many sessions, at least one, and how many local attempts the words of a command line let run at once.
+pub(crate) fn at_once(words: &[String]) -> (u16, u32)
+    ensures sessions { result.0 ≡ sessions_in words.now }
+    ensures some { 0 < result.0 }
+{
     match options_in(words) {
-        Some(options) => (options.sessions, u32::from(options.slots)),
-        None => (0, 0),
+        Some(options) => (at_least_one(options.sessions), u32::from(options.slots)),
+        None => (1, 0),
     }
+}
+
+fn at_least_one(n: u16) -> u16
+    ensures { result ≡ at_least_one n }
+{
+    if n == 0 { 1 } else { n }
 }

@@ -1,4 +1,4 @@
-use Rattle.rx_daemon.proofs.threads.serve_front.Given as goal
+use Rattle.rx_daemon.proofs.threads.serve_gate.Given as goal
 
 abbrev pub ghosts-share_slots-N-Ledger : goal.ghosts-share_slots-N-Ledger
 ghosts-share_slots-N-Ledger g a = record { name = a.blank.name; parts = a.blank.parts }
