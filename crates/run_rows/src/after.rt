@@ -20,7 +20,18 @@ fn nth<T>(items: &[T], number: u64) -> Result<&T, RowFault> {
     }
 }
 
-/// What is left behind a run: of the place, or of the session or entry whose number is the next word.
+/// The number of the session that published as the one of this turn, from 1 on.
+fn by_turn(run: &Finished, turn: u64) -> Result<u64, RowFault> {
+    for i in 0..run.order.len() {
+        if turn > 0 && run.order[i] == turn - 1 {
+            return Ok(i as u64 + 1);
+        }
+    }
+    Err(RowFault::BadCall)
+}
+
+/// What is left behind a run: of the place, or of the session or entry whose number is the next word; of `turn` and `turn-frame`, of
+/// the session that published as that one.
 pub(crate) fn show_after(
     alloc: Global,
     run: &Finished,
@@ -35,6 +46,14 @@ pub(crate) fn show_after(
     let number = row.number()?;
     match word {
         "entry" => show_entry(alloc, answer, nth(&run.journal, number)?)?,
+        "turn" => {
+            let transcript = nth(&run.transcripts, by_turn(run, number)?)?;
+            show_session(alloc, answer, transcript)?
+        }
+        "turn-frame" => {
+            let desk = nth(&run.desks, by_turn(run, number)?)?;
+            show_desk(alloc, "frame", desk, answer)?
+        }
         "session" | "ends" | "passes" => {
             show_transcript(alloc, word, nth(&run.transcripts, number)?, answer)?
         }

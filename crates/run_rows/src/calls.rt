@@ -274,6 +274,8 @@ impl Calls for RunCalls {
             "request" | "bytes" => self.call_input(word, row, answer),
             "run" | "threads" | "serve" => self.call_runs(word, row, answer),
             "session"
+            | "turn"
+            | "turn-frame"
             | "frame"
             | "entry"
             | "place"

@@ -36,6 +36,8 @@ pub(crate) struct Finished {
     pub journal: Vec<Entry>,
     pub transcripts: Vec<Transcript>,
     pub desks: Vec<MemoryDesk>,
+    /// Of each session how many had published before it.
+    pub order: Vec<u64>,
 }
 
 /// The desks of plans, in their order. Their meetings are in one hall.
@@ -95,7 +97,9 @@ fn left_behind<H: Hands + Send + Sync>(
     ran: Ran<RowWorld, ListFront<ScriptedDesk<H>>, MemoryPlace>,
 ) -> Result<Finished, NoMemory> {
     let mut desks = Vec::new(alloc);
+    let mut order = Vec::new(alloc);
     for desk in ran.desks {
+        order.push(desks.len() as u64)?;
         desks.push(desk.apart())?;
     }
     Ok(Finished {
@@ -104,6 +108,7 @@ fn left_behind<H: Hands + Send + Sync>(
         journal: ran.journal,
         transcripts: ran.transcripts,
         desks,
+        order,
     })
 }
 
@@ -114,12 +119,15 @@ fn left_behind_threads<H: Hands + Send + Sync>(
 ) -> Result<Finished, NoMemory> {
     let mut transcripts = Vec::new(alloc);
     let mut desks = Vec::new(alloc);
+    let mut order = Vec::new(alloc);
     for served in ran.served {
         let ServedDesk {
             transcript,
             desk,
+            before,
             ..
         } = served;
+        order.push(before as u64)?;
         transcripts.push(transcript)?;
         desks.push(desk.apart())?;
     }
@@ -129,6 +137,7 @@ fn left_behind_threads<H: Hands + Send + Sync>(
         journal: ran.journal,
         transcripts,
         desks,
+        order,
     })
 }
 
@@ -213,6 +222,7 @@ pub(crate) fn serve<H: Hands + Threads + Send + Sync>(
         journal,
         transcripts: vec![in alloc; transcript]?,
         desks: vec![in alloc; desk.apart()]?,
+        order: vec![in alloc; 0]?,
     })
 }
 
