@@ -19,8 +19,10 @@ mod fault;
 mod row;
 mod table;
 mod text;
+mod turn;
 
 pub use answer::Answer;
 pub use fault::{RowFault, TableFault};
 pub use row::Row;
 pub use table::{Calls, answer_rows};
+pub use turn::Turn;
