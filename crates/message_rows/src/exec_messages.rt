@@ -6,30 +6,24 @@ use rx_exec_messages::{
     GetCapabilitiesRequest, OperationMessage, ReadRequest, ReadResponse, ServerCapabilities,
     Version, WaitExecutionRequest, WriteRequest, WriteResponse,
 };
-use rx_rows::{Answer, RowFault};
-use std::alloc::Global;
+use rx_rows::{RowFault, Turn};
 
 /// Reads and writes a message of a kind.
-pub(crate) fn call(
-    alloc: Global,
-    kind: &str,
-    bytes: &[u8],
-    answer: &mut Answer,
-) -> Result<(), RowFault> {
+pub(crate) fn call(kind: &str, bytes: &[u8], turn: &mut Turn<'_, '_>) {
     match kind {
-        "Version" => again::<Version>(alloc, bytes, answer),
-        "CacheCapabilities" => again::<CacheCapabilities>(alloc, bytes, answer),
-        "GetCapabilitiesRequest" => again::<GetCapabilitiesRequest>(alloc, bytes, answer),
-        "ServerCapabilities" => again::<ServerCapabilities>(alloc, bytes, answer),
-        "GetActionResultRequest" => again::<GetActionResultRequest>(alloc, bytes, answer),
-        "ExecuteRequest" => again::<ExecuteRequest>(alloc, bytes, answer),
-        "ExecuteResponse" => again::<ExecuteResponse>(alloc, bytes, answer),
-        "WaitExecutionRequest" => again::<WaitExecutionRequest>(alloc, bytes, answer),
-        "OperationMessage" => again::<OperationMessage>(alloc, bytes, answer),
-        "WriteRequest" => again::<WriteRequest>(alloc, bytes, answer),
-        "WriteResponse" => again::<WriteResponse>(alloc, bytes, answer),
-        "ReadRequest" => again::<ReadRequest>(alloc, bytes, answer),
-        "ReadResponse" => again::<ReadResponse>(alloc, bytes, answer),
-        _ => Err(RowFault::NoCall),
+        "Version" => again::<Version>(bytes, turn),
+        "CacheCapabilities" => again::<CacheCapabilities>(bytes, turn),
+        "GetCapabilitiesRequest" => again::<GetCapabilitiesRequest>(bytes, turn),
+        "ServerCapabilities" => again::<ServerCapabilities>(bytes, turn),
+        "GetActionResultRequest" => again::<GetActionResultRequest>(bytes, turn),
+        "ExecuteRequest" => again::<ExecuteRequest>(bytes, turn),
+        "ExecuteResponse" => again::<ExecuteResponse>(bytes, turn),
+        "WaitExecutionRequest" => again::<WaitExecutionRequest>(bytes, turn),
+        "OperationMessage" => again::<OperationMessage>(bytes, turn),
+        "WriteRequest" => again::<WriteRequest>(bytes, turn),
+        "WriteResponse" => again::<WriteResponse>(bytes, turn),
+        "ReadRequest" => again::<ReadRequest>(bytes, turn),
+        "ReadResponse" => again::<ReadResponse>(bytes, turn),
+        _ => turn.refuse(RowFault::NoCall),
     }
 }

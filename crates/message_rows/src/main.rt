@@ -10,7 +10,7 @@ mod paths;
 mod trees;
 mod wire;
 
-use rx_rows::{Answer, Calls, Row, RowFault, TableFault, answer_rows};
+use rx_rows::{Answer, Calls, Row, RowFault, TableFault, Turn, answer_rows};
 use std::alloc::Global;
 use std::io;
 use std::io::BufReader;
@@ -23,15 +23,22 @@ struct MessageCalls {
 
 impl Calls for MessageCalls {
     fn call(&mut self, row: &mut Row<'_>, answer: &mut Answer) -> Result<(), RowFault> {
-        match row.word()? {
-            "path" => paths::call(self.alloc, row, answer),
-            "digest" => digests::call(self.alloc, row, answer),
-            "wire" => wire::call(self.alloc, row, answer),
-            "message" => messages::call(self.alloc, row, answer),
-            "tree" => trees::call(self.alloc, row, answer),
-            "action" => actions::call(self.alloc, row, answer),
-            _ => Err(RowFault::NoCall),
-        }
+        let mut turn = Turn::new(self.alloc, row, answer);
+        answer_call(&mut turn);
+        turn.end()
+    }
+}
+
+/// Makes the call that the next word names.
+fn answer_call(turn: &mut Turn<'_, '_>) {
+    match turn.read_word() {
+        "path" => paths::call(turn),
+        "digest" => digests::call(turn),
+        "wire" => wire::call(turn),
+        "message" => messages::call(turn),
+        "tree" => trees::call(turn),
+        "action" => actions::call(turn),
+        _ => turn.refuse(RowFault::NoCall),
     }
 }
 

@@ -10,87 +10,74 @@ use rx_messages::{
     FindMissingBlobsResponse, Message, MessageFault, OutputDirectory, OutputFile, OutputSymlink,
     Platform, Property, Status, SymlinkNode, Tree,
 };
-use rx_rows::{Answer, Row, RowFault};
-use std::alloc::Global;
+use rx_rows::{RowFault, Turn};
 
 /// Reads and writes a message of the kind that the next word names.
-pub(crate) fn call(alloc: Global, row: &mut Row<'_>, answer: &mut Answer) -> Result<(), RowFault> {
-    let kind = row.word()?;
-    let bytes = row.text(alloc)?;
-    call_kind(alloc, kind, &bytes, answer)
+pub(crate) fn call(turn: &mut Turn<'_, '_>) {
+    let kind = turn.read_word();
+    let bytes = turn.read_text();
+    call_kind(kind, &bytes, turn);
 }
 
 /// Reads and writes one message of this kind.
-fn call_kind(alloc: Global, kind: &str, bytes: &[u8], answer: &mut Answer) -> Result<(), RowFault> {
+fn call_kind(kind: &str, bytes: &[u8], turn: &mut Turn<'_, '_>) {
     match kind {
-        "Digest" => again::<Digest>(alloc, bytes, answer),
-        "FileNode" => again::<FileNode>(alloc, bytes, answer),
-        "DirectoryNode" => again::<DirectoryNode>(alloc, bytes, answer),
-        "SymlinkNode" => again::<SymlinkNode>(alloc, bytes, answer),
-        "Directory" => again::<Directory>(alloc, bytes, answer),
-        "Tree" => again::<Tree>(alloc, bytes, answer),
-        "EnvironmentVariable" => again::<EnvironmentVariable>(alloc, bytes, answer),
-        "Property" => again::<Property>(alloc, bytes, answer),
-        "Platform" => again::<Platform>(alloc, bytes, answer),
-        "Command" => again::<Command>(alloc, bytes, answer),
-        "Duration" => again::<Duration>(alloc, bytes, answer),
-        "Action" => again::<Action>(alloc, bytes, answer),
-        "OutputFile" => again::<OutputFile>(alloc, bytes, answer),
-        "OutputDirectory" => again::<OutputDirectory>(alloc, bytes, answer),
-        "OutputSymlink" => again::<OutputSymlink>(alloc, bytes, answer),
-        "ActionResult" => again::<ActionResult>(alloc, bytes, answer),
-        "Any" => again::<Any>(alloc, bytes, answer),
-        "Status" => again::<Status>(alloc, bytes, answer),
-        _ => call_storage(alloc, kind, bytes, answer),
+        "Digest" => again::<Digest>(bytes, turn),
+        "FileNode" => again::<FileNode>(bytes, turn),
+        "DirectoryNode" => again::<DirectoryNode>(bytes, turn),
+        "SymlinkNode" => again::<SymlinkNode>(bytes, turn),
+        "Directory" => again::<Directory>(bytes, turn),
+        "Tree" => again::<Tree>(bytes, turn),
+        "EnvironmentVariable" => again::<EnvironmentVariable>(bytes, turn),
+        "Property" => again::<Property>(bytes, turn),
+        "Platform" => again::<Platform>(bytes, turn),
+        "Command" => again::<Command>(bytes, turn),
+        "Duration" => again::<Duration>(bytes, turn),
+        "Action" => again::<Action>(bytes, turn),
+        "OutputFile" => again::<OutputFile>(bytes, turn),
+        "OutputDirectory" => again::<OutputDirectory>(bytes, turn),
+        "OutputSymlink" => again::<OutputSymlink>(bytes, turn),
+        "ActionResult" => again::<ActionResult>(bytes, turn),
+        "Any" => again::<Any>(bytes, turn),
+        "Status" => again::<Status>(bytes, turn),
+        _ => call_storage(kind, bytes, turn),
     }
 }
 
 /// The same, of the messages of the ContentAddressableStorage service, and then of other calls.
-fn call_storage(
-    alloc: Global,
-    kind: &str,
-    bytes: &[u8],
-    answer: &mut Answer,
-) -> Result<(), RowFault> {
+fn call_storage(kind: &str, bytes: &[u8], turn: &mut Turn<'_, '_>) {
     match kind {
-        "FindMissingBlobsRequest" => again::<FindMissingBlobsRequest>(alloc, bytes, answer),
-        "FindMissingBlobsResponse" => again::<FindMissingBlobsResponse>(alloc, bytes, answer),
-        "BlobUpdate" => again::<BlobUpdate>(alloc, bytes, answer),
-        "BatchUpdateBlobsRequest" => again::<BatchUpdateBlobsRequest>(alloc, bytes, answer),
-        "BlobUpdated" => again::<BlobUpdated>(alloc, bytes, answer),
-        "BatchUpdateBlobsResponse" => again::<BatchUpdateBlobsResponse>(alloc, bytes, answer),
-        "BatchReadBlobsRequest" => again::<BatchReadBlobsRequest>(alloc, bytes, answer),
-        "BlobRead" => again::<BlobRead>(alloc, bytes, answer),
-        "BatchReadBlobsResponse" => again::<BatchReadBlobsResponse>(alloc, bytes, answer),
-        _ => exec_messages::call(alloc, kind, bytes, answer),
+        "FindMissingBlobsRequest" => again::<FindMissingBlobsRequest>(bytes, turn),
+        "FindMissingBlobsResponse" => again::<FindMissingBlobsResponse>(bytes, turn),
+        "BlobUpdate" => again::<BlobUpdate>(bytes, turn),
+        "BatchUpdateBlobsRequest" => again::<BatchUpdateBlobsRequest>(bytes, turn),
+        "BlobUpdated" => again::<BlobUpdated>(bytes, turn),
+        "BatchUpdateBlobsResponse" => again::<BatchUpdateBlobsResponse>(bytes, turn),
+        "BatchReadBlobsRequest" => again::<BatchReadBlobsRequest>(bytes, turn),
+        "BlobRead" => again::<BlobRead>(bytes, turn),
+        "BatchReadBlobsResponse" => again::<BatchReadBlobsResponse>(bytes, turn),
+        _ => exec_messages::call(kind, bytes, turn),
     }
 }
 
 /// Reads and writes one message.
-pub(crate) fn again<M: Message>(
-    alloc: Global,
-    bytes: &[u8],
-    answer: &mut Answer,
-) -> Result<(), RowFault> {
+pub(crate) fn again<M: Message>(bytes: &[u8], turn: &mut Turn<'_, '_>) {
+    let alloc = turn.alloc();
     match M::decode(alloc, bytes) {
         Ok(message) => {
-            let written = message.encode(alloc)?;
-            write_same(&written, bytes, answer)
+            let written = turn.made(message.encode(alloc), Vec::new(alloc));
+            write_same(&written, bytes, turn);
         }
-        Err(MessageFault::NoMemory) => Err(RowFault::NoMemory),
-        Err(fault) => {
-            answer.value(&fault)?;
-            Ok(())
-        }
+        Err(MessageFault::NoMemory) => turn.refuse(RowFault::NoMemory),
+        Err(fault) => turn.write_value(&fault),
     }
 }
 
 /// Writes what was written, or `same`.
-fn write_same(written: &[u8], read: &[u8], answer: &mut Answer) -> Result<(), RowFault> {
+fn write_same(written: &[u8], read: &[u8], turn: &mut Turn<'_, '_>) {
     if written == read {
-        answer.word("same")?;
+        turn.write_word("same");
     } else {
-        answer.text(written)?;
+        turn.write_text(written);
     }
-    Ok(())
 }

@@ -2,23 +2,23 @@
 //! ends by `z` may be executed.
 
 use crate::arguments::{paths, write_digest, write_path, write_paths};
-use rx_base::{Bytes, Digest, Items, RelPath, Text, TryClone, digest_of};
+use rx_base::{Bytes, Digest, Items, NoMemory, RelPath, Text, TryClone, digest_of};
 use rx_messages::{Directory, DirectoryNode, Message};
-use rx_rows::{Answer, Row, RowFault};
-use rx_tree::{Blob, Built, TreeFault, TreeFile, build, list_of};
+use rx_rows::{RowFault, Turn};
+use rx_tree::{Blob, Built, Listed, TreeFault, TreeFile, build, list_of};
 use rx_world::{InputFile, Stamp};
 use std::alloc::Global;
 
 /// Makes the call that the next word names.
-pub(crate) fn call(alloc: Global, row: &mut Row<'_>, answer: &mut Answer) -> Result<(), RowFault> {
-    match row.word()? {
-        "build" => build_tree(alloc, row, answer),
-        "blobs" => blobs(alloc, row, answer),
-        "list" => list(alloc, row, answer),
-        "read" => read(alloc, row, answer),
-        "many" => many(alloc, row, answer),
-        "cycle" => cycle(alloc, row, answer),
-        _ => Err(RowFault::NoCall),
+pub(crate) fn call(turn: &mut Turn<'_, '_>) {
+    match turn.read_word() {
+        "build" => build_tree(turn),
+        "blobs" => blobs(turn),
+        "list" => list(turn),
+        "read" => read(turn),
+        "many" => many(turn),
+        "cycle" => cycle(turn),
+        _ => turn.refuse(RowFault::NoCall),
     }
 }
 
@@ -33,140 +33,173 @@ fn file(path: RelPath) -> InputFile {
     }
 }
 
-/// The tree of the files and directories that the next two words name.
-fn tree(alloc: Global, row: &mut Row<'_>) -> Result<Result<Built, TreeFault>, RowFault> {
+/// The files at these paths.
+fn files(alloc: Global, paths: Items<RelPath>) -> Result<Vec<InputFile>, NoMemory> {
     let mut files = Vec::new(alloc);
-    for path in paths(alloc, row)?.into_vec() {
+    for path in paths.into_vec() {
         files.push(file(path))?;
     }
-    let dirs = paths(alloc, row)?;
-    Ok(build(alloc, &files, dirs.as_slice()))
+    Ok(files)
+}
+
+/// The tree of the files and directories that the next two words name.
+fn tree(turn: &mut Turn<'_, '_>) -> Result<Built, TreeFault> {
+    let alloc = turn.alloc();
+    let paths_of_files = paths(turn);
+    let dirs = paths(turn);
+    build(alloc, &files(alloc, paths_of_files)?, dirs.as_slice())
 }
 
 /// Writes why there is no tree.
-fn write_fault(alloc: Global, fault: &TreeFault, answer: &mut Answer) -> Result<(), RowFault> {
+fn write_fault(fault: &TreeFault, turn: &mut Turn<'_, '_>) {
     match fault {
-        TreeFault::TooManyFiles => answer.word("TooManyFiles")?,
+        TreeFault::TooManyFiles => turn.write_word("TooManyFiles"),
         TreeFault::DuplicatePath(path) => {
-            answer.word("DuplicatePath")?;
-            write_path(path, answer)?;
+            turn.write_word("DuplicatePath");
+            write_path(path, turn);
         }
         TreeFault::FileUnderFile(file, below) => {
-            answer.word("FileUnderFile")?;
-            write_path(file, answer)?;
-            write_path(below, answer)?;
+            turn.write_word("FileUnderFile");
+            write_path(file, turn);
+            write_path(below, turn);
         }
         TreeFault::MissingBlob(digest) => {
-            answer.word("MissingBlob")?;
-            write_digest(alloc, digest, answer)?;
+            turn.write_word("MissingBlob");
+            write_digest(digest, turn);
         }
         TreeFault::NotCanonical(digest) => {
-            answer.word("NotCanonical")?;
-            write_digest(alloc, digest, answer)?;
+            turn.write_word("NotCanonical");
+            write_digest(digest, turn);
         }
-        TreeFault::NoMemory => return Err(RowFault::NoMemory),
+        TreeFault::NoMemory => turn.refuse(RowFault::NoMemory),
     }
-    Ok(())
 }
 
 /// `build FILES DIRECTORIES`: the root's digest, and how many blobs there are.
-fn build_tree(alloc: Global, row: &mut Row<'_>, answer: &mut Answer) -> Result<(), RowFault> {
-    match tree(alloc, row)? {
+fn build_tree(turn: &mut Turn<'_, '_>) {
+    match &tree(turn) {
         Ok(built) => {
-            write_digest(alloc, &built.root, answer)?;
-            answer.number(built.blobs.len() as u64)?;
-            Ok(())
+            write_digest(&built.root, turn);
+            turn.write_number(built.blobs.len() as u64);
         }
-        Err(fault) => write_fault(alloc, &fault, answer),
+        Err(fault) => write_fault(fault, turn),
     }
 }
 
 /// `blobs FILES DIRECTORIES`: the bytes of each blob, in the order of their digests.
-fn blobs(alloc: Global, row: &mut Row<'_>, answer: &mut Answer) -> Result<(), RowFault> {
-    match tree(alloc, row)? {
-        Ok(built) => {
-            let mut blobs = built.blobs.into_vec();
-            blobs.sort()?;
-            for blob in &blobs {
-                answer.text(blob.bytes.as_slice())?;
-            }
-            Ok(())
-        }
-        Err(fault) => write_fault(alloc, &fault, answer),
+fn blobs(turn: &mut Turn<'_, '_>) {
+    match tree(turn) {
+        Ok(built) => write_blobs(built.blobs, turn),
+        Err(fault) => write_fault(&fault, turn),
+    }
+}
+
+fn write_blobs(blobs: Items<Blob>, turn: &mut Turn<'_, '_>) {
+    let mut blobs = blobs.into_vec();
+    if blobs.sort().is_err() {
+        turn.refuse(RowFault::NoMemory);
+    }
+    for blob in &blobs {
+        turn.write_text(blob.bytes.as_slice());
     }
 }
 
 /// `list FILES DIRECTORIES`: the files of the tree, and its directories with nothing in them, as they are
 /// read from its blobs.
-fn list(alloc: Global, row: &mut Row<'_>, answer: &mut Answer) -> Result<(), RowFault> {
-    match tree(alloc, row)? {
-        Ok(built) => write_listed(alloc, &built.root, built.blobs.as_slice(), answer),
-        Err(fault) => write_fault(alloc, &fault, answer),
+fn list(turn: &mut Turn<'_, '_>) {
+    match &tree(turn) {
+        Ok(built) => write_listed(&built.root, built.blobs.as_slice(), turn),
+        Err(fault) => write_fault(fault, turn),
     }
 }
 
 /// Writes the files that blobs give, and the directories.
-fn write_listed(
-    alloc: Global,
-    root: &Digest,
-    blobs: &[Blob],
-    answer: &mut Answer,
-) -> Result<(), RowFault> {
-    match list_of(alloc, root, blobs) {
-        Ok(listed) => {
-            for file in listed.files.as_slice() {
-                write_file(file, answer)?;
-            }
-            answer.word("and")?;
-            write_paths(listed.dirs.as_slice(), answer)
-        }
-        Err(fault) => write_fault(alloc, &fault, answer),
+fn write_listed(root: &Digest, blobs: &[Blob], turn: &mut Turn<'_, '_>) {
+    match &list_of(turn.alloc(), root, blobs) {
+        Ok(listed) => write_files(listed, turn),
+        Err(fault) => write_fault(fault, turn),
     }
+}
+
+fn write_files(listed: &Listed, turn: &mut Turn<'_, '_>) {
+    for file in listed.files.as_slice() {
+        write_file(file, turn);
+    }
+    turn.write_word("and");
+    write_paths(listed.dirs.as_slice(), turn);
 }
 
 /// Writes a file's path and size, with `x` where it may be executed.
-fn write_file(file: &TreeFile, answer: &mut Answer) -> Result<(), RowFault> {
-    write_path(&file.path, answer)?;
-    answer.number(file.digest.size)?;
+fn write_file(file: &TreeFile, turn: &mut Turn<'_, '_>) {
+    write_path(&file.path, turn);
+    turn.write_number(file.digest.size);
     if file.executable {
-        answer.word("x")?;
+        turn.write_word("x");
     }
-    Ok(())
 }
 
 /// `read TEXT [BLOB]`: what is listed from the digest of a text, where a blob has that digest.
-fn read(alloc: Global, row: &mut Row<'_>, answer: &mut Answer) -> Result<(), RowFault> {
-    let root = digest_of(&row.text(alloc)?);
-    let mut blobs = Vec::new(alloc);
-    if !row.is_done() {
-        blobs.push(Blob {
-            digest: root,
-            bytes: Bytes::from_vec(row.text(alloc)?),
-        })?;
+fn read(turn: &mut Turn<'_, '_>) {
+    let root = digest_of(&turn.read_text());
+    if turn.is_done() {
+        return write_listed(&root, &[], turn);
     }
-    write_listed(alloc, &root, &blobs, answer)
+    let blob = Blob {
+        digest: root,
+        bytes: Bytes::from_vec(turn.read_text()),
+    };
+    write_listed(&root, &[blob], turn);
 }
 
 /// `many COUNT`: what is built of so many files at one path.
-fn many(alloc: Global, row: &mut Row<'_>, answer: &mut Answer) -> Result<(), RowFault> {
+fn many(turn: &mut Turn<'_, '_>) {
+    let count = turn.read_number();
+    match many_files(turn.alloc(), count) {
+        Ok(files) => write_root(&files, turn),
+        Err(_) => turn.refuse(RowFault::NoMemory),
+    }
+}
+
+fn many_files(alloc: Global, count: u64) -> Result<Vec<InputFile>, NoMemory> {
     let path = RelPath::root(alloc);
     let mut files = Vec::new(alloc);
-    for _ in 0..row.number()? {
+    for _ in 0..count {
         files.push(file(path.try_clone(alloc)?))?;
     }
-    match build(alloc, &files, &[]) {
-        Ok(built) => write_digest(alloc, &built.root, answer),
-        Err(fault) => write_fault(alloc, &fault, answer),
+    Ok(files)
+}
+
+/// Writes the digest of the root of the tree of these files.
+fn write_root(files: &[InputFile], turn: &mut Turn<'_, '_>) {
+    match &build(turn.alloc(), files, &[]) {
+        Ok(built) => write_digest(&built.root, turn),
+        Err(fault) => write_fault(fault, turn),
     }
 }
 
 /// `cycle LENGTH`: what is listed of a directory that has itself in it, under a name of so many bytes.
-fn cycle(alloc: Global, row: &mut Row<'_>, answer: &mut Answer) -> Result<(), RowFault> {
+fn cycle(turn: &mut Turn<'_, '_>) {
     let root = digest_of(b"?");
+    let length = turn.read_number();
+    match cyclic_directory(turn.alloc(), root, length) {
+        Ok(bytes) => {
+            let digest = root;
+            write_listed(&root, &[Blob { digest, bytes }], turn);
+        }
+        Err(_) => turn.refuse(RowFault::NoMemory),
+    }
+}
+
+/// A directory with this digest in it, under a name of so many bytes.
+fn cyclic_directory(alloc: Global, root: Digest, length: u64) -> Result<Bytes, NoMemory> {
     let mut name = String::new(alloc);
-    for _ in 0..row.number()? {
+    for _ in 0..length {
         name.push('a')?;
     }
+    directory_with(alloc, name, root)
+}
+
+fn directory_with(alloc: Global, name: String, root: Digest) -> Result<Bytes, NoMemory> {
     let mut directories = Items::new(alloc);
     directories.push(DirectoryNode {
         name: Text::from_string(name),
@@ -177,10 +210,5 @@ fn cycle(alloc: Global, row: &mut Row<'_>, answer: &mut Answer) -> Result<(), Ro
         directories,
         symlinks: Items::new(alloc),
     };
-    let mut blobs = Vec::new(alloc);
-    blobs.push(Blob {
-        digest: root,
-        bytes: Bytes::from_vec(directory.encode(alloc)?),
-    })?;
-    write_listed(alloc, &root, &blobs, answer)
+    Ok(Bytes::from_vec(directory.encode(alloc)?))
 }
