@@ -33,6 +33,16 @@ impl<'t, 'a> Turn<'t, 'a> {
         self.alloc
     }
 
+    /// The row, for a function that reads it without a turn.
+    pub fn row(&mut self) -> &mut Row<'a> {
+        self.row
+    }
+
+    /// The answer, for a function that writes it without a turn.
+    pub fn answer(&mut self) -> &mut Answer {
+        self.answer
+    }
+
     /// The first fault, if there was one.
     pub fn end(&self) -> Result<(), RowFault> {
         match self.fault {
@@ -52,6 +62,13 @@ impl<'t, 'a> Turn<'t, 'a> {
     pub fn keep(&mut self, done: Result<(), RowFault>) {
         if let Err(fault) = done {
             self.refuse(fault);
+        }
+    }
+
+    /// Refuses the row where memory ran out.
+    pub fn written(&mut self, written: Result<(), AllocError>) {
+        if written.is_err() {
+            self.refuse(RowFault::NoMemory);
         }
     }
 
@@ -151,13 +168,13 @@ impl<'t, 'a> Turn<'t, 'a> {
     /// Adds a word to the answer, as it stands.
     pub fn write_word(&mut self, word: &str) {
         let written = self.answer.word(word);
-        self.note(written);
+        self.written(written);
     }
 
     /// Adds a number in decimal digits.
     pub fn write_number(&mut self, number: u64) {
         let written = self.answer.number(number);
-        self.note(written);
+        self.written(written);
     }
 
     /// Adds a word and a number.
@@ -169,25 +186,18 @@ impl<'t, 'a> Turn<'t, 'a> {
     /// Adds what `Debug` shows of a value, as the name of an enum's variant.
     pub fn write_value(&mut self, value: &impl Debug) {
         let written = self.answer.value(value);
-        self.note(written);
+        self.written(written);
     }
 
     /// Adds bytes in hexadecimal digits, or `-` for none.
     pub fn write_bytes(&mut self, bytes: &[u8]) {
         let written = self.answer.bytes(bytes);
-        self.note(written);
+        self.written(written);
     }
 
     /// Adds a text in quotes.
     pub fn write_text(&mut self, text: &[u8]) {
         let written = self.answer.text(text);
-        self.note(written);
-    }
-
-    /// Refuses the row where memory ran out.
-    fn note(&mut self, written: Result<(), AllocError>) {
-        if written.is_err() {
-            self.refuse(RowFault::NoMemory);
-        }
+        self.written(written);
     }
 }
