@@ -10,31 +10,50 @@ use crate::uploads::{Uploads, input_file, tree_of};
 use rx_base::{Items, TryClone};
 use rx_blobs::{Blob, ToUpload};
 use rx_exec_messages::Ask;
-use rx_rows::{Answer, Row, RowFault};
+use rx_rows::{RowFault, Turn};
 use rx_world::InputFile;
 use std::alloc::Global;
 use std::sync::Wait;
 
 /// Writes what the upload answered, and of each call how many digests it asked for.
-pub(crate) fn answer_copies<R: Wait>(
-    rt: &R,
-    alloc: Global,
-    row: &mut Row<'_>,
-    answer: &mut Answer,
-) -> Result<(), RowFault> {
-    let mut names = Names::new(alloc);
-    let count = row.number()?;
-    let blobs = copies_of(alloc, &input_file(alloc, b"aa")?, count)?;
-    let lines = read_lines(alloc, row, &mut names)?;
+pub(crate) fn answer_copies<R: Wait>(rt: &R, turn: &mut Turn<'_, '_>) {
+    let count = turn.read_number();
+    let done = upload_copies(rt, count, turn);
+    turn.keep(done);
+}
+
+fn upload_copies<R: Wait>(rt: &R, count: u64, turn: &mut Turn<'_, '_>) -> Result<(), RowFault> {
+    let mut uploads = read_uploads(turn)?;
+    match file_copies(turn.alloc(), count) {
+        Ok(blobs) => {
+            let what = ToUpload {
+                blobs: blobs.as_slice(),
+                most: 0,
+                fresh: false,
+            };
+            uploads.answer_one(rt, &what, turn);
+        }
+        Err(fault) => turn.refuse(fault),
+    }
+    write_counts(uploads.farm.asks(), turn);
+    Ok(())
+}
+
+/// An empty source tree, and a farm that answers the lines of the next words.
+fn read_uploads(turn: &mut Turn<'_, '_>) -> Result<Uploads, RowFault> {
+    let alloc = turn.alloc();
     let sources = tree_of(alloc, "")?;
-    let mut uploads = Uploads::new(alloc, names, sources, lines, 0);
-    let what = ToUpload {
-        blobs: blobs.as_slice(),
-        most: 0,
-        fresh: false,
-    };
-    uploads.answer_one(rt, alloc, &what, answer)?;
-    write_counts(uploads.farm.asks(), answer)
+    let mut names = Names::new(alloc);
+    let lines = read_lines(turn, &mut names);
+    Ok(Uploads::new(alloc, names, sources, lines, 0))
+}
+
+/// The file with the text `aa`, so many times.
+fn file_copies(alloc: Global, count: u64) -> Result<Items<Blob>, RowFault>
+    ensures { IfOk result AreMade }
+{
+    let file = input_file(alloc, b"aa")?;
+    copies_of(alloc, &file, count)
 }
 
 /// The file so many times.
@@ -57,14 +76,14 @@ fn copies_of(alloc: Global, file: &InputFile, count: u64) -> Result<Items<Blob>,
 }
 
 /// Writes how many digests each call asked for. `BadCall` where a call did something else.
-fn write_counts(asks: &[Ask], answer: &mut Answer) -> Result<(), RowFault> {
-    answer.word("calls")?;
+fn write_counts(asks: &[Ask], turn: &mut Turn<'_, '_>) {
+    turn.write_word("calls");
     for ask in asks {
-        let Ask::FindMissing(digests) = ask else {
-            return Err(RowFault::BadCall);
-        };
-        answer.word("find_missing")?;
-        answer.number(digests.as_slice().len() as u64)?;
+        match ask {
+            Ask::FindMissing(digests) => {
+                turn.write_named("find_missing", digests.as_slice().len() as u64);
+            }
+            _ => turn.refuse(RowFault::BadCall),
+        }
     }
-    Ok(())
 }

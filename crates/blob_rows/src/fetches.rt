@@ -7,38 +7,32 @@ use crate::names::Names;
 use rx_base::{Bytes, Items};
 use rx_blobs::{BlobFault, fetch};
 use rx_exec_messages::Script;
-use rx_rows::{Answer, Row, RowFault};
+use rx_rows::Turn;
 use rx_world::{Dialect, Toy};
-use std::alloc::Global;
 use std::marker::Brand;
 
 /// Writes what the fetch gave, the calls that it made, and how many of them failed.
-pub(crate) fn answer_fetch(
-    alloc: Global,
-    row: &mut Row<'_>,
-    answer: &mut Answer,
-) -> Result<(), RowFault> {
+pub(crate) fn answer_fetch(turn: &mut Turn<'_, '_>) {
+    let alloc = turn.alloc();
     let mut names = Names::new(alloc);
-    let most = row.number()?;
-    let wanted = names.read_digests(row)?;
-    let lines = read_lines(alloc, row, &mut names)?;
+    let most = turn.read_number();
+    let wanted = names.read_digests(turn);
+    let lines = read_lines(turn, &mut names);
     let mut farm = Script::new(alloc, lines, Dialect::New);
     let fetched = fetch::<Toy<Brand>, Script>(alloc, &mut farm, wanted.as_slice(), most);
-    write_fetched(&fetched, &farm, &names, answer)
+    write_fetched(&fetched, &farm, &names, turn);
 }
 
 fn write_fetched(
     fetched: &Result<Items<Bytes>, BlobFault>,
     farm: &Script,
     names: &Names,
-    answer: &mut Answer,
-) -> Result<(), RowFault> {
+    turn: &mut Turn<'_, '_>,
+) {
     match fetched {
-        Ok(texts) => write_texts(texts.as_slice(), answer)?,
-        Err(fault) => write_why(fault, names, answer)?,
+        Ok(texts) => write_texts(texts.as_slice(), turn),
+        Err(fault) => write_why(fault, names, turn),
     }
-    write_asks(farm.asks(), names, answer)?;
-    answer.word("faults")?;
-    answer.number(farm.faults())?;
-    Ok(())
+    write_asks(farm.asks(), names, turn);
+    turn.write_named("faults", farm.faults());
 }

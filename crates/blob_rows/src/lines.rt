@@ -1,83 +1,88 @@
 //! The lines of a script, as a row has them.
 
 use crate::names::Names;
-use rx_base::{Bytes, Items, Text};
+use rx_base::{Bytes, Digest, Items, NoMemory, Text};
 use rx_exec_messages::{Capabilities, NamedBlob, Operation, ScriptLine};
-use rx_rows::{Row, RowFault};
+use rx_rows::{RowFault, Turn};
 use rx_world::CallFault;
 use std::alloc::Global;
 use std::collections::BTreeSet;
 
 /// The lines that the next words tell, to the row's end.
-pub(crate) fn read_lines(
-    alloc: Global,
-    row: &mut Row<'_>,
-    names: &mut Names,
-) -> Result<Vec<ScriptLine>, RowFault> {
-    let mut lines = Vec::new(alloc);
+pub(crate) fn read_lines(turn: &mut Turn<'_, '_>, names: &mut Names) -> Vec<ScriptLine> {
+    let mut lines = Vec::new(turn.alloc());
     for _ in 0..u64::MAX {
-        if row.is_done() {
-            return Ok(lines);
+        if turn.is_done() {
+            break;
         }
-        lines.push(read_line(alloc, row, names)?)?;
+        if lines.push(read_line(turn, names)).is_err() {
+            turn.refuse(RowFault::NoMemory);
+        }
     }
-    Ok(lines)
+    lines
 }
 
 /// One line: what a call is answered, or a fault.
-fn read_line(alloc: Global, row: &mut Row<'_>, names: &mut Names) -> Result<ScriptLine, RowFault> {
-    match row.word()? {
-        "says" => read_capabilities(row),
-        "uncached" => Ok(ScriptLine::Cached(None)),
-        "lacks" => read_lacks(alloc, row, names),
-        "stored" => Ok(ScriptLine::Stored),
-        "blobs" => read_blobs(alloc, row, names),
-        "changed" => read_changed(alloc, row, names),
-        "executes" => Ok(ScriptLine::Executes(names.read_digest(row)?)),
-        "resumes" => Ok(ScriptLine::Resumes(read_name(alloc, row)?)),
-        "state" => read_state(alloc, row),
-        word => Ok(ScriptLine::Fault(read_fault(word, row, names)?)),
+fn read_line(turn: &mut Turn<'_, '_>, names: &mut Names) -> ScriptLine {
+    match turn.read_word() {
+        "says" => ScriptLine::Capabilities(read_capabilities(turn)),
+        "uncached" => ScriptLine::Cached(None),
+        "lacks" => ScriptLine::Lacks(read_lacks(turn, names)),
+        "stored" => ScriptLine::Stored,
+        "blobs" => ScriptLine::Blobs(read_blobs(turn, names)),
+        "changed" => ScriptLine::Blobs(read_changed(turn, names)),
+        "executes" => ScriptLine::Executes(names.read_digest(turn)),
+        "resumes" => ScriptLine::Resumes(read_name(turn)),
+        "state" => ScriptLine::Operation(read_state(turn)),
+        word => ScriptLine::Fault(read_fault(word, turn, names)),
     }
 }
 
 /// `says MOST`: this limit of a batch, and no versions.
-fn read_capabilities(row: &mut Row<'_>) -> Result<ScriptLine, RowFault> {
-    Ok(ScriptLine::Capabilities(Capabilities {
-        most: row.number()?,
+fn read_capabilities(turn: &mut Turn<'_, '_>) -> Capabilities {
+    Capabilities {
+        most: turn.read_number(),
         low: None,
         high: None,
-    }))
+    }
 }
 
 /// `lacks TEXTS`: these texts, with a space between each two in one pair of quotes.
-fn read_lacks(alloc: Global, row: &mut Row<'_>, names: &mut Names) -> Result<ScriptLine, RowFault> {
-    let texts = row.text(alloc)?;
+fn read_lacks(turn: &mut Turn<'_, '_>, names: &mut Names) -> BTreeSet<Digest> {
+    let alloc = turn.alloc();
+    let texts = turn.read_text();
+    turn.made(lacks_of(alloc, &texts, names), BTreeSet::new(alloc))
+}
+
+fn lacks_of(alloc: Global, texts: &[u8], names: &mut Names) -> Result<BTreeSet<Digest>, NoMemory> {
     let mut lacks = BTreeSet::new(alloc);
     for text in texts.split(|byte| *byte == b' ') {
         lacks.insert(names.digest(text)?)?;
     }
-    Ok(ScriptLine::Lacks(lacks))
+    Ok(lacks)
 }
 
 /// `state NAME`: an operation of this name that isn't done.
-fn read_state(alloc: Global, row: &mut Row<'_>) -> Result<ScriptLine, RowFault> {
-    Ok(ScriptLine::Operation(Operation {
-        name: read_name(alloc, row)?,
+fn read_state(turn: &mut Turn<'_, '_>) -> Operation {
+    Operation {
+        name: read_name(turn),
         done: None,
-    }))
-}
-
-/// The next word, the name of an operation in quotes.
-pub(crate) fn read_name(alloc: Global, row: &mut Row<'_>) -> Result<Text, RowFault> {
-    match String::from_utf8(row.text(alloc)?) {
-        Ok(name) => Ok(Text::from_string(name)),
-        Err(_) => Err(RowFault::BadText),
     }
 }
 
+/// The next word, the name of an operation in quotes.
+pub(crate) fn read_name(turn: &mut Turn<'_, '_>) -> Text {
+    Text::from_string(turn.read_string())
+}
+
 /// `blobs TEXTS`: these texts, with a space between each two in one pair of quotes.
-fn read_blobs(alloc: Global, row: &mut Row<'_>, names: &mut Names) -> Result<ScriptLine, RowFault> {
-    let texts = row.text(alloc)?;
+fn read_blobs(turn: &mut Turn<'_, '_>, names: &mut Names) -> Items<NamedBlob> {
+    let alloc = turn.alloc();
+    let texts = turn.read_text();
+    turn.made(blobs_of(alloc, &texts, names), Items::new(alloc))
+}
+
+fn blobs_of(alloc: Global, texts: &[u8], names: &mut Names) -> Result<Items<NamedBlob>, NoMemory> {
     let mut blobs = Items::new(alloc);
     for text in texts.split(|byte| *byte == b' ') {
         blobs.push(NamedBlob {
@@ -85,52 +90,41 @@ fn read_blobs(alloc: Global, row: &mut Row<'_>, names: &mut Names) -> Result<Scr
             bytes: Bytes::copy_of(alloc, text)?,
         })?;
     }
-    Ok(ScriptLine::Blobs(blobs))
+    Ok(blobs)
 }
 
 /// `changed TEXT TEXT`: under the digest of the first text the bytes of the second.
-fn read_changed(
-    alloc: Global,
-    row: &mut Row<'_>,
-    names: &mut Names,
-) -> Result<ScriptLine, RowFault> {
-    let digest = names.read_digest(row)?;
-    let text = row.text(alloc)?;
-    names.digest(&text)?;
-    let mut blobs = Items::new(alloc);
-    blobs.push(NamedBlob {
-        digest,
-        bytes: Bytes::from_vec(text),
-    })?;
-    Ok(ScriptLine::Blobs(blobs))
+fn read_changed(turn: &mut Turn<'_, '_>, names: &mut Names) -> Items<NamedBlob> {
+    let digest = names.read_digest(turn);
+    let text = turn.read_text();
+    names.digest_in(&text, turn);
+    let bytes = Bytes::from_vec(text);
+    let mut blobs = Items::new(turn.alloc());
+    if blobs.push(NamedBlob { digest, bytes }).is_err() {
+        turn.refuse(RowFault::NoMemory);
+    }
+    blobs
 }
 
 /// A fault, by its name and its numbers.
-fn read_fault(word: &str, row: &mut Row<'_>, names: &mut Names) -> Result<CallFault, RowFault> {
+fn read_fault(word: &str, turn: &mut Turn<'_, '_>, names: &mut Names) -> CallFault {
     match word {
-        "status" => Ok(CallFault::Status(read_code(row)?)),
-        "link" => Ok(CallFault::Link),
-        "protocol" => Ok(CallFault::Protocol(read_code(row)?)),
-        "compressed" => Ok(CallFault::Compressed),
-        "too_large" => Ok(CallFault::TooLarge),
-        "no_status" => Ok(CallFault::NoStatus),
-        "bad_message" => Ok(CallFault::BadMessage(read_place(row)?)),
-        "cut" => Ok(CallFault::Cut),
+        "status" => CallFault::Status(turn.read_u32()),
+        "link" => CallFault::Link,
+        "protocol" => CallFault::Protocol(turn.read_u32()),
+        "compressed" => CallFault::Compressed,
+        "too_large" => CallFault::TooLarge,
+        "no_status" => CallFault::NoStatus,
+        "bad_message" => CallFault::BadMessage(turn.read_number() as usize),
+        "cut" => CallFault::Cut,
         "refused" => {
-            let digest = names.read_digest(row)?;
-            Ok(CallFault::BlobRefused(digest, read_code(row)?))
+            let digest = names.read_digest(turn);
+            CallFault::BlobRefused(digest, turn.read_u32())
         }
-        "no_memory" => Ok(CallFault::NoMemory),
-        _ => Err(RowFault::BadCall),
+        "no_memory" => CallFault::NoMemory,
+        _ => {
+            turn.refuse(RowFault::BadCall);
+            CallFault::NoMemory
+        }
     }
-}
-
-/// The next word, a number of 32 bits.
-fn read_code(row: &mut Row<'_>) -> Result<u32, RowFault> {
-    u32::try_from(row.number()?).map_err(|_| RowFault::BadNumber)
-}
-
-/// The next word, a place in a message.
-fn read_place(row: &mut Row<'_>) -> Result<usize, RowFault> {
-    usize::try_from(row.number()?).map_err(|_| RowFault::BadNumber)
 }

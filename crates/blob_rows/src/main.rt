@@ -12,7 +12,7 @@ mod names;
 mod uploads;
 
 use rx_blobs::batch_limit;
-use rx_rows::{Answer, Calls, Row, RowFault, TableFault, answer_rows};
+use rx_rows::{Answer, Calls, Row, RowFault, TableFault, Turn, answer_rows};
 use std::alloc::Global;
 use std::io;
 use std::io::BufReader;
@@ -25,20 +25,29 @@ struct BlobCalls<'a, R> {
     alloc: Global,
 }
 
+impl<'a, R: Wait> BlobCalls<'a, R> {
+    /// Makes the call that the next word names.
+    fn answer(&self, turn: &mut Turn<'_, '_>) {
+        match turn.read_word() {
+            "ask" => asks::answer_asks(turn),
+            "batch_limit" => {
+                let limit = batch_limit(turn.read_number());
+                turn.write_number(limit);
+            }
+            "copies" => copies::answer_copies(self.rt, turn),
+            "dialect" => dialects::answer_dialect(turn),
+            "fetch" => fetches::answer_fetch(turn),
+            "upload" => uploads::answer_upload(self.rt, turn),
+            _ => turn.refuse(RowFault::NoCall),
+        }
+    }
+}
+
 impl<'a, R: Wait> Calls for BlobCalls<'a, R> {
     fn call(&mut self, row: &mut Row<'_>, answer: &mut Answer) -> Result<(), RowFault> {
-        match row.word()? {
-            "ask" => asks::answer_asks(self.alloc, row, answer),
-            "batch_limit" => {
-                answer.number(batch_limit(row.number()?))?;
-                Ok(())
-            }
-            "copies" => copies::answer_copies(self.rt, self.alloc, row, answer),
-            "dialect" => dialects::answer_dialect(row, answer),
-            "fetch" => fetches::answer_fetch(self.alloc, row, answer),
-            "upload" => uploads::answer_upload(self.rt, self.alloc, row, answer),
-            _ => Err(RowFault::NoCall),
-        }
+        let mut turn = Turn::new(self.alloc, row, answer);
+        self.answer(&mut turn);
+        turn.end()
     }
 }
 

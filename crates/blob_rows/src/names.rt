@@ -1,7 +1,7 @@
 //! Blobs of a row by their texts: a digest is written as the text that has it.
 
 use rx_base::{Digest, Items, NoMemory, digest_of};
-use rx_rows::{Answer, Row, RowFault};
+use rx_rows::{RowFault, Turn};
 use std::alloc::Global;
 
 /// A text of a row, with its digest.
@@ -35,30 +35,43 @@ impl Names {
         Ok(digest)
     }
 
+    /// The same, where the row is refused if memory runs out.
+    pub(crate) fn digest_in(&mut self, text: &[u8], turn: &mut Turn<'_, '_>) -> Digest {
+        match self.digest(text) {
+            Ok(digest) => digest,
+            Err(_) => {
+                turn.refuse(RowFault::NoMemory);
+                digest_of(text)
+            }
+        }
+    }
+
     /// The next word, a text in quotes, by its digest.
-    pub(crate) fn read_digest(&mut self, row: &mut Row<'_>) -> Result<Digest, RowFault> {
-        let text = row.text(self.alloc)?;
-        Ok(self.digest(&text)?)
+    pub(crate) fn read_digest(&mut self, turn: &mut Turn<'_, '_>) -> Digest {
+        let text = turn.read_text();
+        self.digest_in(&text, turn)
     }
 
     /// The digests of the texts in the next word, with a space between each two in one pair of quotes.
-    pub(crate) fn read_digests(&mut self, row: &mut Row<'_>) -> Result<Items<Digest>, RowFault> {
-        let texts = row.text(self.alloc)?;
+    pub(crate) fn read_digests(&mut self, turn: &mut Turn<'_, '_>) -> Items<Digest> {
+        let texts = turn.read_text();
         let mut digests = Items::new(self.alloc);
         if texts.is_empty() {
-            return Ok(digests);
+            return digests;
         }
         for text in texts.split(|byte| *byte == b' ') {
-            digests.push(self.digest(text)?)?;
+            if digests.push(self.digest_in(text, turn)).is_err() {
+                turn.refuse(RowFault::NoMemory);
+            }
         }
-        Ok(digests)
+        digests
     }
 
     /// Writes the text that has the digest, or `?` where the row has none.
-    pub(crate) fn write(&self, digest: &Digest, answer: &mut Answer) -> Result<(), NoMemory> {
+    pub(crate) fn write(&self, digest: &Digest, turn: &mut Turn<'_, '_>) {
         match self.all.iter().find(|name| name.digest == *digest) {
-            Some(name) => answer.text(&name.text),
-            None => answer.word("?"),
+            Some(name) => turn.write_text(&name.text),
+            None => turn.write_word("?"),
         }
     }
 }

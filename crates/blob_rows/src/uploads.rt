@@ -13,8 +13,8 @@ use rx_base::{Bytes, Items, RelPath, digest_of};
 use rx_blobs::{Blob, Presence, ToUpload, upload};
 use rx_exec_messages::{NamedBlob, Script, ScriptLine};
 use rx_fakes::{MemorySources, TreeFault, read_tree};
-use rx_row_values::{path_of, read_string};
-use rx_rows::{Answer, Row, RowFault};
+use rx_row_values::path_of;
+use rx_rows::{RowFault, Turn};
 use rx_world::{Dialect, InputFile, Stamp, Toy};
 use std::alloc::Global;
 use std::marker::Brand;
@@ -22,29 +22,48 @@ use std::sync::Wait;
 
 /// Writes what each upload answered, the calls that were made, how many of them failed, and how many files
 /// were read.
-pub(crate) fn answer_upload<R: Wait>(
+pub(crate) fn answer_upload<R: Wait>(rt: &R, turn: &mut Turn<'_, '_>) {
+    let limit = turn.read_number() as usize;
+    let most = turn.read_number();
+    let times = read_times(turn);
+    let done = upload_blobs(rt, limit, most, times, turn);
+    turn.keep(done);
+}
+
+fn upload_blobs<R: Wait>(
     rt: &R,
-    alloc: Global,
-    row: &mut Row<'_>,
-    answer: &mut Answer,
+    limit: usize,
+    most: u64,
+    times: (u64, bool),
+    turn: &mut Turn<'_, '_>,
 ) -> Result<(), RowFault> {
-    let limit = usize::try_from(row.number()?).map_err(|_| RowFault::BadNumber)?;
-    let most = row.number()?;
-    let (times, fresh) = read_times(row)?;
+    let alloc = turn.alloc();
     let mut names = Names::new(alloc);
-    let blobs = read_blobs(alloc, row, &mut names)?;
-    let sources = read_sources(alloc, row)?;
-    let lines = read_lines(alloc, row, &mut names)?;
-    let mut uploads = Uploads::new(alloc, names, sources, lines, limit);
-    for round in 0..times {
+    let blobs = read_blobs(alloc, &turn.read_text(), &mut names)?;
+    let mut uploads = read_uploads(alloc, names, limit, turn)?;
+    for round in 0..times.0 {
         let what = ToUpload {
             blobs: blobs.as_slice(),
             most,
-            fresh: fresh && round > 0,
+            fresh: times.1 && round > 0,
         };
-        uploads.answer_one(rt, alloc, &what, answer)?;
+        uploads.answer_one(rt, &what, turn);
     }
-    uploads.write_end(answer)
+    uploads.write_end(turn);
+    Ok(())
+}
+
+/// The source tree of the next word, and a farm that answers the lines of the words behind it.
+fn read_uploads(
+    alloc: Global,
+    names: Names,
+    limit: usize,
+    turn: &mut Turn<'_, '_>,
+) -> Result<Uploads, RowFault> {
+    let sources = tree_of(alloc, turn.read_string().as_str())?;
+    let mut names = names;
+    let lines = read_lines(turn, &mut names);
+    Ok(Uploads::new(alloc, names, sources, lines, limit))
 }
 
 /// What the uploads of a row go over, one after the other.
@@ -77,53 +96,45 @@ impl Uploads {
     pub(crate) fn answer_one<R: Wait>(
         &mut self,
         rt: &R,
-        alloc: Global,
         what: &ToUpload<'_>,
-        answer: &mut Answer,
-    ) -> Result<(), RowFault>
+        turn: &mut Turn<'_, '_>,
+    )
         requires { AreMade what.now.blobs.now }
     {
         let result = upload::<Toy<Brand>, Script, MemorySources<Brand>, R>(
             rt,
-            alloc,
+            turn.alloc(),
             &mut self.farm,
             &mut self.sources,
             &self.presence,
             what,
         );
-        name_reads(&self.sources, &mut self.names)?;
-        match result {
-            Ok(left_out) => write_digests(left_out.as_slice(), &self.names, answer)?,
-            Err(fault) => write_why(&fault, &self.names, answer)?,
+        name_reads(&self.sources, &mut self.names, turn);
+        match &result {
+            Ok(left_out) => write_digests(left_out.as_slice(), &self.names, turn),
+            Err(fault) => write_why(fault, &self.names, turn),
         }
-        Ok(())
     }
 
     /// Writes the calls that were made, how many of them failed, and how many files were read.
-    fn write_end(&self, answer: &mut Answer) -> Result<(), RowFault> {
-        write_asks(self.farm.asks(), &self.names, answer)?;
-        answer.word("faults")?;
-        answer.number(self.farm.faults())?;
-        answer.word("reads")?;
-        answer.number(self.sources.reads() as u64)?;
-        Ok(())
+    fn write_end(&self, turn: &mut Turn<'_, '_>) {
+        write_asks(self.farm.asks(), &self.names, turn);
+        turn.write_named("faults", self.farm.faults());
+        turn.write_named("reads", self.sources.reads() as u64);
     }
 }
 
 /// How many uploads there are, and whether those behind the first are fresh.
-fn read_times(row: &mut Row<'_>) -> Result<(u64, bool), RowFault> {
-    match row.word()? {
-        "once" => Ok((1, false)),
-        "twice" => Ok((2, false)),
-        "fresh" => Ok((2, true)),
-        _ => Err(RowFault::BadCall),
+fn read_times(turn: &mut Turn<'_, '_>) -> (u64, bool) {
+    match turn.read_word() {
+        "once" => (1, false),
+        "twice" => (2, false),
+        "fresh" => (2, true),
+        _ => {
+            turn.refuse(RowFault::BadCall);
+            (0, false)
+        }
     }
-}
-
-/// The source tree of the next word.
-fn read_sources(alloc: Global, row: &mut Row<'_>) -> Result<MemorySources<Brand>, RowFault> {
-    let text = read_string(alloc, row)?;
-    tree_of(alloc, text.as_str())
 }
 
 /// The source tree that a text tells, whose files have the mark 0.
@@ -135,11 +146,10 @@ pub(crate) fn tree_of(alloc: Global, text: &str) -> Result<MemorySources<Brand>,
     }
 }
 
-/// The blobs of the next word.
-fn read_blobs(alloc: Global, row: &mut Row<'_>, names: &mut Names) -> Result<Items<Blob>, RowFault>
+/// The blobs of these texts, with a space between each two.
+fn read_blobs(alloc: Global, texts: &[u8], names: &mut Names) -> Result<Items<Blob>, RowFault>
     ensures { IfOk result AreMade }
 {
-    let texts = row.text(alloc)?;
     let mut blobs = Items::new(alloc);
     for text in texts.split(|byte| *byte == b' ') {
         let blob = read_blob(alloc, text, names)?;
@@ -184,11 +194,10 @@ pub(crate) fn input_file(alloc: Global, content: &[u8]) -> Result<InputFile, Row
 }
 
 /// Gives a name to each text that was read.
-fn name_reads(sources: &MemorySources<Brand>, names: &mut Names) -> Result<(), RowFault> {
+fn name_reads(sources: &MemorySources<Brand>, names: &mut Names, turn: &mut Turn<'_, '_>) {
     for given in sources.given.as_slice() {
         if let Some(bytes) = &given.bytes {
-            names.digest(bytes.as_slice())?;
+            names.digest_in(bytes.as_slice(), turn);
         }
     }
-    Ok(())
 }
