@@ -1,60 +1,55 @@
 //! Arguments that several calls read.
 
 use rx_base::{PathFault, RelPath};
-use rx_rows::{Row, RowFault};
-use std::alloc::Global;
+use rx_rows::{RowFault, Turn};
 
 /// The bytes of all words that are left, put together.
-pub(crate) fn read_frame(alloc: Global, row: &mut Row<'_>) -> Result<Vec<u8>, RowFault> {
-    let mut frame = Vec::new(alloc);
+pub(crate) fn read_frame(turn: &mut Turn<'_, '_>) -> Vec<u8> {
+    let mut frame = Vec::new(turn.alloc());
     for _ in 0..u64::MAX {
-        if row.is_done() {
-            return Ok(frame);
+        if turn.is_done() {
+            break;
         }
-        frame.extend_from_slice(&row.bytes(alloc)?)?;
+        if frame.extend_from_slice(&turn.read_bytes()).is_err() {
+            turn.refuse(RowFault::NoMemory);
+        }
     }
-    Ok(frame)
-}
-
-/// The next word, a text in quotes that is UTF-8.
-pub(crate) fn read_string(alloc: Global, row: &mut Row<'_>) -> Result<String, RowFault> {
-    match String::from_utf8(row.text(alloc)?) {
-        Ok(text) => Ok(text),
-        Err(_) => Err(RowFault::BadText),
-    }
+    frame
 }
 
 /// The next word, a path in quotes.
-pub(crate) fn read_path(alloc: Global, row: &mut Row<'_>) -> Result<RelPath, RowFault> {
-    let text = read_string(alloc, row)?;
-    match RelPath::read(alloc, text.as_str()) {
-        Ok(path) => Ok(path),
-        Err(PathFault::NoMemory) => Err(RowFault::NoMemory),
-        Err(_) => Err(RowFault::BadText),
+pub(crate) fn read_path(turn: &mut Turn<'_, '_>) -> RelPath {
+    let text = turn.read_string();
+    match RelPath::read(turn.alloc(), text.as_str()) {
+        Ok(path) => path,
+        Err(fault) => {
+            turn.refuse(refusal_of(fault));
+            RelPath::root(turn.alloc())
+        }
     }
 }
 
-/// The next word, a number of 32 bits.
-pub(crate) fn read_u32(row: &mut Row<'_>) -> Result<u32, RowFault> {
-    match u32::try_from(row.number()?) {
-        Ok(number) => Ok(number),
-        Err(_) => Err(RowFault::BadNumber),
-    }
-}
-
-/// The next word, a number of 32 bits that may have a minus.
-pub(crate) fn read_i32(row: &mut Row<'_>) -> Result<i32, RowFault> {
-    match row.word()?.parse::<i32>() {
-        Ok(number) => Ok(number),
-        Err(_) => Err(RowFault::BadNumber),
+/// What a row is refused for whose path is none.
+fn refusal_of(fault: PathFault) -> RowFault {
+    match fault {
+        PathFault::NoMemory => RowFault::NoMemory,
+        _ => RowFault::BadText,
     }
 }
 
 /// The next word, whether a file may be executed.
-pub(crate) fn read_mark(row: &mut Row<'_>) -> Result<bool, RowFault> {
-    match row.word()? {
-        "executable" => Ok(true),
-        "plain" => Ok(false),
-        _ => Err(RowFault::BadCall),
+pub(crate) fn read_mark(turn: &mut Turn<'_, '_>) -> bool {
+    match turn.read_word() {
+        "executable" => true,
+        "plain" => false,
+        _ => {
+            turn.refuse(RowFault::BadCall);
+            false
+        }
     }
+}
+
+/// A mark in the words of `read_mark`.
+pub(crate) fn mark_of(executable: bool) -> &'static str {
+    if executable { "executable" } else { "plain" }
 }

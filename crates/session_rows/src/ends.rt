@@ -1,223 +1,197 @@
 //! How attempts ended, in words.
 
-use crate::arguments::{read_i32, read_path, read_u32};
+use crate::arguments::read_path;
 use crate::seen::{read_changed, read_digest};
 use rx_base::Items;
-use rx_rows::{Row, RowFault};
+use rx_rows::{RowFault, Turn};
 use rx_world::{
     Attempt, BenchStep, CallFault, Cause, Decision, Failure, OutputLimit, RemoteCause, ResultFault,
     SemVer,
 };
-use std::alloc::Global;
 
 /// All ends that are left: `local CAUSE`, `remote CAUSE` or `non_zero EXIT`.
-pub(crate) fn read_failures(alloc: Global, row: &mut Row<'_>) -> Result<Items<Failure>, RowFault> {
-    let mut failures = Items::new(alloc);
+pub(crate) fn read_failures(turn: &mut Turn<'_, '_>) -> Items<Failure> {
+    let mut failures = Items::new(turn.alloc());
     for _ in 0..u64::MAX {
-        if row.is_done() {
-            return Ok(failures);
+        if turn.is_done() {
+            break;
         }
-        failures.push(read_failure(alloc, row)?)?;
+        if failures.push(read_failure(turn)).is_err() {
+            turn.refuse(RowFault::NoMemory);
+        }
     }
-    Ok(failures)
+    failures
 }
 
-fn read_failure(alloc: Global, row: &mut Row<'_>) -> Result<Failure, RowFault> {
-    match row.word()? {
-        "local" => read_local(alloc, row),
-        "remote" => read_remote(alloc, row),
-        "non_zero" => read_non_zero(row),
-        _ => Err(RowFault::BadCall),
-    }
-}
-
-fn read_local(alloc: Global, row: &mut Row<'_>) -> Result<Failure, RowFault> {
-    let cause = read_cause(alloc, row)?;
-    Ok(Failure::Local { cause })
-}
-
-fn read_remote(alloc: Global, row: &mut Row<'_>) -> Result<Failure, RowFault> {
-    let cause = read_remote_cause(alloc, row)?;
-    Ok(Failure::Remote { cause })
-}
-
-fn read_non_zero(row: &mut Row<'_>) -> Result<Failure, RowFault> {
-    let exit = read_i32(row)?;
-    Ok(Failure::NonZero { exit })
-}
-
-/// The cause of a local attempt. What stands behind a cause's name is read in a function of its own:
-/// a `?` in each arm is dear to prove.
-fn read_cause(alloc: Global, row: &mut Row<'_>) -> Result<Cause, RowFault> {
-    match row.word()? {
-        "bench_fault" => read_bench_fault(row),
-        "output_missing" => read_output_missing(alloc, row),
-        "input_changed" => read_input_changed(alloc, row),
-        "output_too_large" => read_output_too_large(row),
-        "source_fault" => read_source_fault(alloc, row),
-        "stopped" => read_stopped(row),
-        "no_memory" => Ok(Cause::NoMemory),
-        _ => Err(RowFault::BadCall),
+fn read_failure(turn: &mut Turn<'_, '_>) -> Failure {
+    match turn.read_word() {
+        "local" => Failure::Local {
+            cause: read_cause(turn),
+        },
+        "remote" => Failure::Remote {
+            cause: read_remote_cause(turn),
+        },
+        "non_zero" => Failure::NonZero {
+            exit: turn.read_i32(),
+        },
+        _ => {
+            turn.refuse(RowFault::BadCall);
+            Failure::NonZero { exit: 0 }
+        }
     }
 }
 
-fn read_bench_fault(row: &mut Row<'_>) -> Result<Cause, RowFault> {
-    let step = read_step(row)?;
-    Ok(Cause::BenchFault { step })
-}
-
-fn read_output_missing(alloc: Global, row: &mut Row<'_>) -> Result<Cause, RowFault> {
-    let path = read_path(alloc, row)?;
-    Ok(Cause::OutputMissing { path })
-}
-
-fn read_input_changed(alloc: Global, row: &mut Row<'_>) -> Result<Cause, RowFault> {
-    let input = read_changed(alloc, row)?;
-    Ok(Cause::InputChanged(input))
-}
-
-fn read_output_too_large(row: &mut Row<'_>) -> Result<Cause, RowFault> {
-    let limit = read_output_limit(row)?;
-    let n = row.number()?;
-    Ok(Cause::OutputTooLarge { limit, n })
-}
-
-fn read_source_fault(alloc: Global, row: &mut Row<'_>) -> Result<Cause, RowFault> {
-    let path = read_path(alloc, row)?;
-    Ok(Cause::SourceFault { path })
-}
-
-fn read_stopped(row: &mut Row<'_>) -> Result<Cause, RowFault> {
-    let decision = read_decision(row)?;
-    Ok(Cause::Stopped { decision })
+/// The cause of a local attempt.
+fn read_cause(turn: &mut Turn<'_, '_>) -> Cause {
+    match turn.read_word() {
+        "bench_fault" => Cause::BenchFault {
+            step: read_step(turn),
+        },
+        "output_missing" => Cause::OutputMissing {
+            path: read_path(turn),
+        },
+        "input_changed" => Cause::InputChanged(read_changed(turn)),
+        "output_too_large" => Cause::OutputTooLarge {
+            limit: read_output_limit(turn),
+            n: turn.read_number(),
+        },
+        "source_fault" => Cause::SourceFault {
+            path: read_path(turn),
+        },
+        "stopped" => Cause::Stopped {
+            decision: read_decision(turn),
+        },
+        "no_memory" => Cause::NoMemory,
+        _ => {
+            turn.refuse(RowFault::BadCall);
+            Cause::NoMemory
+        }
+    }
 }
 
 /// The cause of a remote attempt.
-fn read_remote_cause(alloc: Global, row: &mut Row<'_>) -> Result<RemoteCause, RowFault> {
-    match row.word()? {
-        "call_failed" => read_call_failed(alloc, row),
-        "bad_blob" => read_bad_blob(alloc, row),
-        "bad_result" => read_bad_result(row),
-        "operations_spent" => Ok(RemoteCause::OperationsSpent),
-        "stopped" => read_remote_stopped(row),
-        "input_changed" => read_remote_input_changed(alloc, row),
-        "wrong_version" => read_wrong_version(row),
-        "source_fault" => read_remote_source_fault(alloc, row),
-        "no_memory" => Ok(RemoteCause::NoMemory),
-        _ => Err(RowFault::BadCall),
+fn read_remote_cause(turn: &mut Turn<'_, '_>) -> RemoteCause {
+    match turn.read_word() {
+        "call_failed" => RemoteCause::CallFailed {
+            faults: read_call_faults(turn),
+        },
+        "bad_blob" => RemoteCause::BadBlob {
+            expected: read_digest(turn),
+            got: read_digest(turn),
+        },
+        "bad_result" => RemoteCause::BadResult {
+            fault: read_result_fault(turn),
+        },
+        "operations_spent" => RemoteCause::OperationsSpent,
+        "stopped" => RemoteCause::Stopped {
+            decision: read_decision(turn),
+        },
+        "input_changed" => RemoteCause::InputChanged(read_changed(turn)),
+        "wrong_version" => RemoteCause::WrongVersion {
+            low: read_version(turn),
+            high: read_version(turn),
+        },
+        "source_fault" => RemoteCause::SourceFault {
+            path: read_path(turn),
+        },
+        "no_memory" => RemoteCause::NoMemory,
+        _ => {
+            turn.refuse(RowFault::BadCall);
+            RemoteCause::NoMemory
+        }
     }
-}
-
-fn read_call_failed(alloc: Global, row: &mut Row<'_>) -> Result<RemoteCause, RowFault> {
-    let faults = read_call_faults(alloc, row)?;
-    Ok(RemoteCause::CallFailed { faults })
-}
-
-fn read_bad_blob(alloc: Global, row: &mut Row<'_>) -> Result<RemoteCause, RowFault> {
-    let expected = read_digest(alloc, row)?;
-    let got = read_digest(alloc, row)?;
-    Ok(RemoteCause::BadBlob { expected, got })
-}
-
-fn read_bad_result(row: &mut Row<'_>) -> Result<RemoteCause, RowFault> {
-    let fault = read_result_fault(row)?;
-    Ok(RemoteCause::BadResult { fault })
-}
-
-fn read_remote_stopped(row: &mut Row<'_>) -> Result<RemoteCause, RowFault> {
-    let decision = read_decision(row)?;
-    Ok(RemoteCause::Stopped { decision })
-}
-
-fn read_remote_input_changed(alloc: Global, row: &mut Row<'_>) -> Result<RemoteCause, RowFault> {
-    let input = read_changed(alloc, row)?;
-    Ok(RemoteCause::InputChanged(input))
-}
-
-fn read_wrong_version(row: &mut Row<'_>) -> Result<RemoteCause, RowFault> {
-    let low = read_version(row)?;
-    let high = read_version(row)?;
-    Ok(RemoteCause::WrongVersion { low, high })
-}
-
-fn read_remote_source_fault(alloc: Global, row: &mut Row<'_>) -> Result<RemoteCause, RowFault> {
-    let path = read_path(alloc, row)?;
-    Ok(RemoteCause::SourceFault { path })
 }
 
 /// `COUNT FAULT ..`: so many faults.
-fn read_call_faults(alloc: Global, row: &mut Row<'_>) -> Result<Items<CallFault>, RowFault> {
-    let mut faults = Items::new(alloc);
-    for _ in 0..row.number()? {
-        faults.push(read_call_fault(alloc, row)?)?;
-    }
-    Ok(faults)
-}
-
-fn read_call_fault(alloc: Global, row: &mut Row<'_>) -> Result<CallFault, RowFault> {
-    match row.word()? {
-        "status" => Ok(CallFault::Status(read_u32(row)?)),
-        "link" => Ok(CallFault::Link),
-        "protocol" => Ok(CallFault::Protocol(read_u32(row)?)),
-        "compressed" => Ok(CallFault::Compressed),
-        "too_large" => Ok(CallFault::TooLarge),
-        "no_status" => Ok(CallFault::NoStatus),
-        "bad_message" => Ok(CallFault::BadMessage(read_u32(row)? as usize)),
-        "cut" => Ok(CallFault::Cut),
-        "blob_refused" => {
-            let digest = read_digest(alloc, row)?;
-            Ok(CallFault::BlobRefused(digest, read_u32(row)?))
+fn read_call_faults(turn: &mut Turn<'_, '_>) -> Items<CallFault> {
+    let mut faults = Items::new(turn.alloc());
+    for _ in 0..turn.read_number() {
+        if faults.push(read_call_fault(turn)).is_err() {
+            turn.refuse(RowFault::NoMemory);
         }
-        "no_memory" => Ok(CallFault::NoMemory),
-        _ => Err(RowFault::BadCall),
+    }
+    faults
+}
+
+fn read_call_fault(turn: &mut Turn<'_, '_>) -> CallFault {
+    match turn.read_word() {
+        "status" => CallFault::Status(turn.read_u32()),
+        "link" => CallFault::Link,
+        "protocol" => CallFault::Protocol(turn.read_u32()),
+        "compressed" => CallFault::Compressed,
+        "too_large" => CallFault::TooLarge,
+        "no_status" => CallFault::NoStatus,
+        "bad_message" => CallFault::BadMessage(turn.read_u32() as usize),
+        "cut" => CallFault::Cut,
+        "blob_refused" => {
+            let digest = read_digest(turn);
+            CallFault::BlobRefused(digest, turn.read_u32())
+        }
+        "no_memory" => CallFault::NoMemory,
+        _ => {
+            turn.refuse(RowFault::BadCall);
+            CallFault::NoMemory
+        }
     }
 }
 
-fn read_step(row: &mut Row<'_>) -> Result<BenchStep, RowFault> {
-    match row.word()? {
-        "Make" => Ok(BenchStep::Make),
-        "MakeDir" => Ok(BenchStep::MakeDir),
-        "Put" => Ok(BenchStep::Put),
-        "Run" => Ok(BenchStep::Run),
-        "Take" => Ok(BenchStep::Take),
-        _ => Err(RowFault::BadCall),
+fn read_step(turn: &mut Turn<'_, '_>) -> BenchStep {
+    match turn.read_word() {
+        "Make" => BenchStep::Make,
+        "MakeDir" => BenchStep::MakeDir,
+        "Put" => BenchStep::Put,
+        "Run" => BenchStep::Run,
+        "Take" => BenchStep::Take,
+        _ => {
+            turn.refuse(RowFault::BadCall);
+            BenchStep::Make
+        }
     }
 }
 
-fn read_output_limit(row: &mut Row<'_>) -> Result<OutputLimit, RowFault> {
-    match row.word()? {
-        "FileBytes" => Ok(OutputLimit::FileBytes),
-        "FilesBytes" => Ok(OutputLimit::FilesBytes),
-        "TextBytes" => Ok(OutputLimit::TextBytes),
-        _ => Err(RowFault::BadCall),
+fn read_output_limit(turn: &mut Turn<'_, '_>) -> OutputLimit {
+    match turn.read_word() {
+        "FileBytes" => OutputLimit::FileBytes,
+        "FilesBytes" => OutputLimit::FilesBytes,
+        "TextBytes" => OutputLimit::TextBytes,
+        _ => {
+            turn.refuse(RowFault::BadCall);
+            OutputLimit::FileBytes
+        }
     }
 }
 
-fn read_result_fault(row: &mut Row<'_>) -> Result<ResultFault, RowFault> {
-    match row.word()? {
-        "NoResult" => Ok(ResultFault::NoResult),
-        "PathTwice" => Ok(ResultFault::PathTwice),
-        "OutputAbsent" => Ok(ResultFault::OutputAbsent),
-        "NoDigest" => Ok(ResultFault::NoDigest),
-        "TooLarge" => Ok(ResultFault::TooLarge),
-        _ => Err(RowFault::BadCall),
+fn read_result_fault(turn: &mut Turn<'_, '_>) -> ResultFault {
+    match turn.read_word() {
+        "NoResult" => ResultFault::NoResult,
+        "PathTwice" => ResultFault::PathTwice,
+        "OutputAbsent" => ResultFault::OutputAbsent,
+        "NoDigest" => ResultFault::NoDigest,
+        "TooLarge" => ResultFault::TooLarge,
+        _ => {
+            turn.refuse(RowFault::BadCall);
+            ResultFault::NoResult
+        }
     }
 }
 
-fn read_decision(row: &mut Row<'_>) -> Result<Decision, RowFault> {
-    match row.word()? {
-        "by_local" => Ok(Decision::By(Attempt::Local)),
-        "by_remote" => Ok(Decision::By(Attempt::Remote)),
-        "cancelled" => Ok(Decision::Cancelled),
-        _ => Err(RowFault::BadCall),
+fn read_decision(turn: &mut Turn<'_, '_>) -> Decision {
+    match turn.read_word() {
+        "by_local" => Decision::By(Attempt::Local),
+        "by_remote" => Decision::By(Attempt::Remote),
+        "cancelled" => Decision::Cancelled,
+        _ => {
+            turn.refuse(RowFault::BadCall);
+            Decision::Cancelled
+        }
     }
 }
 
 /// `MAJOR MINOR PATCH`.
-fn read_version(row: &mut Row<'_>) -> Result<SemVer, RowFault> {
-    Ok(SemVer {
-        major: read_i32(row)?,
-        minor: read_i32(row)?,
-        patch: read_i32(row)?,
-    })
+fn read_version(turn: &mut Turn<'_, '_>) -> SemVer {
+    SemVer {
+        major: turn.read_i32(),
+        minor: turn.read_i32(),
+        patch: turn.read_i32(),
+    }
 }

@@ -14,7 +14,7 @@ mod shown_values;
 mod streams;
 
 use crate::boards::Publications;
-use rx_rows::{Answer, Calls, Row, RowFault, TableFault, answer_rows};
+use rx_rows::{Answer, Calls, Row, RowFault, TableFault, Turn, answer_rows};
 use std::alloc::Global;
 use std::io;
 use std::io::BufReader;
@@ -26,32 +26,40 @@ struct Session {
     publications: Publications,
 }
 
+impl Session {
+    /// Makes the call that the next word names.
+    fn answer(&mut self, turn: &mut Turn<'_, '_>) {
+        match turn.read_word() {
+            "request" => requests::answer_request(turn),
+            "shutdown" => requests::answer_shutdown(turn),
+            "cancel_frame" => cancels::answer_cancel_frame(turn),
+            "cancel" => cancels::answer_cancel(turn),
+            "taken" => requests::answer_taken(turn),
+            "command" => requests::answer_command(turn),
+            "inputs" => requests::answer_inputs(turn),
+            "written" => requests::answer_written(turn),
+            "payload" => requests::answer_payload(turn),
+            "reply" => replies::answer_reply(turn),
+            "room" => replies::answer_room(turn),
+            "decode" => shown_replies::answer_decode(turn),
+            "write" => streams::answer_write(turn),
+            "board" => self.publications.open(turn),
+            "next" => self.publications.answer_next(turn),
+            "full" => self.publications.answer_full(turn),
+            "publish" => self.publications.answer_publish(turn),
+            "close" => self.publications.close(turn),
+            "entry" => self.publications.answer_entry(turn),
+            "held" => self.publications.answer_held(turn),
+            _ => turn.refuse(RowFault::NoCall),
+        }
+    }
+}
+
 impl Calls for Session {
     fn call(&mut self, row: &mut Row<'_>, answer: &mut Answer) -> Result<(), RowFault> {
-        let alloc = self.alloc;
-        match row.word()? {
-            "request" => requests::answer_request(alloc, row, answer),
-            "shutdown" => requests::answer_shutdown(answer),
-            "cancel_frame" => cancels::answer_cancel_frame(answer),
-            "cancel" => cancels::answer_cancel(alloc, row, answer),
-            "taken" => requests::answer_taken(alloc, row, answer),
-            "command" => requests::answer_command(alloc, row, answer),
-            "inputs" => requests::answer_inputs(alloc, row, answer),
-            "written" => requests::answer_written(alloc, row, answer),
-            "payload" => requests::answer_payload(alloc, row, answer),
-            "reply" => replies::answer_reply(alloc, row, answer),
-            "room" => replies::answer_room(alloc, row, answer),
-            "decode" => shown_replies::answer_decode(alloc, row, answer),
-            "write" => streams::answer_write(alloc, row, answer),
-            "board" => self.publications.open(row, answer),
-            "next" => self.publications.answer_next(answer),
-            "full" => self.publications.answer_full(answer),
-            "publish" => self.publications.answer_publish(row, answer),
-            "close" => self.publications.close(answer),
-            "entry" => self.publications.answer_entry(row, answer),
-            "held" => self.publications.answer_held(answer),
-            _ => Err(RowFault::NoCall),
-        }
+        let mut turn = Turn::new(self.alloc, row, answer);
+        self.answer(&mut turn);
+        turn.end()
     }
 }
 
@@ -60,7 +68,7 @@ fn main(rt: HostRuntime) -> Result<(), TableFault> {
     let input = BufReader::new(alloc, rt.reader())?;
     let mut session = Session {
         alloc,
-        publications: Publications::new(alloc),
+        publications: Publications::new(),
     };
     answer_rows(alloc, input, &mut io::writer(&rt), &mut session)
 }

@@ -4,13 +4,13 @@ use crate::arguments::read_frame;
 use crate::streams::read_script;
 use rx_base::{RelPath, Text};
 use rx_fakes::{MemorySource, Script};
-use rx_rows::{Answer, Row, RowFault};
+use rx_rows::{RowFault, Turn};
 use rx_session::{
     Incoming, Request, SHUTDOWN, SHUTDOWN_DONE, SessionFault, command_for, declared_inputs,
     read_incoming,
 };
 use rx_world::{Command, Pair};
-use std::alloc::{AllocError, Global};
+use std::alloc::Global;
 
 /// Reads a frame of the root `/r`, from a source that gives one byte a call. What was read takes the
 /// place of what stood in `all`.
@@ -25,220 +25,213 @@ fn read(
     read_incoming(alloc, &mut source, "/r", all)
 }
 
-/// The request that a frame is.
-fn asked(alloc: Global, row: &mut Row<'_>) -> Result<Request, RowFault> {
-    let frame = read_frame(alloc, row)?;
+/// The request that the frame of the next words is.
+fn asked(turn: &mut Turn<'_, '_>) -> Option<Request> {
+    let alloc = turn.alloc();
+    let frame = read_frame(turn);
     let mut all = Vec::new(alloc);
     match read(alloc, frame, Script::empty(alloc), &mut all) {
-        Ok(Incoming::Request(request)) => Ok(request),
-        Ok(Incoming::Shutdown) | Err(_) => Err(RowFault::BadCall),
+        Ok(Incoming::Request(request)) => Some(request),
+        Ok(Incoming::Shutdown) | Err(_) => {
+            turn.refuse(RowFault::BadCall);
+            None
+        }
     }
 }
 
 /// `request FAILS FRAME`: how many bytes were read, and the request, `Shutdown` or the fault.
-pub(crate) fn answer_request(
-    alloc: Global,
-    row: &mut Row<'_>,
-    answer: &mut Answer,
-) -> Result<(), RowFault> {
-    let script = read_script(alloc, row)?;
-    let frame = read_frame(alloc, row)?;
+pub(crate) fn answer_request(turn: &mut Turn<'_, '_>) {
+    let alloc = turn.alloc();
+    let script = read_script(turn);
+    let frame = read_frame(turn);
     let mut all = Vec::new(alloc);
     let incoming = read(alloc, frame, script, &mut all);
-    write_incoming(all.len(), &incoming, answer)
+    write_incoming(all.len(), &incoming, turn);
 }
 
-fn write_incoming(
-    read: usize,
-    incoming: &Result<Incoming, SessionFault>,
-    answer: &mut Answer,
-) -> Result<(), RowFault> {
-    answer.number(read as u64)?;
+fn write_incoming(read: usize, incoming: &Result<Incoming, SessionFault>, turn: &mut Turn<'_, '_>) {
+    turn.write_number(read as u64);
     match incoming {
-        Ok(Incoming::Request(request)) => write_request(request, answer)?,
-        Ok(Incoming::Shutdown) => answer.word("Shutdown")?,
-        Err(fault) => write_fault(fault, answer)?,
+        Ok(Incoming::Request(request)) => write_request(request, turn),
+        Ok(Incoming::Shutdown) => turn.write_word("Shutdown"),
+        Err(fault) => write_fault(fault, turn),
     }
-    Ok(())
 }
 
 /// `taken FRAME`: the bytes that were read.
-pub(crate) fn answer_taken(
-    alloc: Global,
-    row: &mut Row<'_>,
-    answer: &mut Answer,
-) -> Result<(), RowFault> {
-    let frame = read_frame(alloc, row)?;
-    let mut all = Vec::from_slice(alloc, b"before")?;
-    let is_ok = read(alloc, frame, Script::empty(alloc), &mut all).is_ok();
-    write_taken(is_ok, &all, answer)
+pub(crate) fn answer_taken(turn: &mut Turn<'_, '_>) {
+    let frame = read_frame(turn);
+    match Vec::from_slice(turn.alloc(), b"before") {
+        Ok(all) => write_taken(frame, all, turn),
+        Err(_) => turn.refuse(RowFault::NoMemory),
+    }
 }
 
-fn write_taken(is_ok: bool, all: &[u8], answer: &mut Answer) -> Result<(), RowFault> {
-    answer.value(&is_ok)?;
-    answer.bytes(all)?;
-    Ok(())
+fn write_taken(frame: Vec<u8>, all: Vec<u8>, turn: &mut Turn<'_, '_>) {
+    let mut all = all;
+    let is_ok = is_read(turn.alloc(), frame, &mut all);
+    turn.write_value(&is_ok);
+    turn.write_bytes(&all);
+}
+
+/// Reads a frame. Whether it is a request or a Shutdown.
+fn is_read(alloc: Global, frame: Vec<u8>, all: &mut Vec<u8>) -> bool {
+    read(alloc, frame, Script::empty(alloc), all).is_ok()
 }
 
 /// `shutdown`: the frame that asks the proxy to end, and the one that answers it.
-pub(crate) fn answer_shutdown(answer: &mut Answer) -> Result<(), RowFault> {
-    answer.bytes(&SHUTDOWN)?;
-    answer.bytes(&SHUTDOWN_DONE)?;
-    Ok(())
+pub(crate) fn answer_shutdown(turn: &mut Turn<'_, '_>) {
+    turn.write_bytes(&SHUTDOWN);
+    turn.write_bytes(&SHUTDOWN_DONE);
 }
 
 /// `command FRAME`: the command of a request.
-pub(crate) fn answer_command(
-    alloc: Global,
-    row: &mut Row<'_>,
-    answer: &mut Answer,
-) -> Result<(), RowFault> {
-    let request = asked(alloc, row)?;
-    let command = command_for(alloc, &request)?;
-    write_command(&command, answer)
+pub(crate) fn answer_command(turn: &mut Turn<'_, '_>) {
+    if let Some(request) = asked(turn) {
+        make_command(&request, turn);
+    }
 }
 
-fn write_command(command: &Command, answer: &mut Answer) -> Result<(), RowFault> {
-    write_texts("words", command.words.as_slice(), answer)?;
-    write_pairs("environment", command.environment.as_slice(), answer)?;
-    answer.word("directory")?;
-    answer.text(command.working_directory.as_str().as_bytes())?;
-    answer.word("outputs")?;
-    write_paths(command.outputs.as_slice(), answer)?;
-    write_pairs("platform", command.platform.as_slice(), answer)?;
-    write_seconds(command.timeout_seconds, answer)?;
-    Ok(())
+fn make_command(request: &Request, turn: &mut Turn<'_, '_>) {
+    match command_for(turn.alloc(), request) {
+        Ok(command) => write_command(&command, turn),
+        Err(_) => turn.refuse(RowFault::NoMemory),
+    }
+}
+
+fn write_command(command: &Command, turn: &mut Turn<'_, '_>) {
+    write_texts("words", command.words.as_slice(), turn);
+    write_pairs("environment", command.environment.as_slice(), turn);
+    turn.write_word("directory");
+    turn.write_text(command.working_directory.as_str().as_bytes());
+    turn.write_word("outputs");
+    write_paths(command.outputs.as_slice(), turn);
+    write_pairs("platform", command.platform.as_slice(), turn);
+    write_seconds(command.timeout_seconds, turn);
 }
 
 /// `inputs FRAME`: the declared inputs of a request.
-pub(crate) fn answer_inputs(
-    alloc: Global,
-    row: &mut Row<'_>,
-    answer: &mut Answer,
-) -> Result<(), RowFault> {
-    let request = asked(alloc, row)?;
-    let inputs = declared_inputs(alloc, &request)?;
-    write_inputs(inputs.as_slice(), answer)
+pub(crate) fn answer_inputs(turn: &mut Turn<'_, '_>) {
+    if let Some(request) = asked(turn) {
+        make_inputs(&request, turn);
+    }
 }
 
-fn write_inputs(inputs: &[RelPath], answer: &mut Answer) -> Result<(), RowFault> {
-    write_paths(inputs, answer)?;
-    Ok(())
+fn make_inputs(request: &Request, turn: &mut Turn<'_, '_>) {
+    match declared_inputs(turn.alloc(), request) {
+        Ok(inputs) => write_paths(inputs.as_slice(), turn),
+        Err(_) => turn.refuse(RowFault::NoMemory),
+    }
 }
 
 /// `written FRAME`: the payload that is written for the request of a frame, and the request in it.
-pub(crate) fn answer_written(
-    alloc: Global,
-    row: &mut Row<'_>,
-    answer: &mut Answer,
-) -> Result<(), RowFault> {
-    let request = asked(alloc, row)?;
-    let payload = request.encode(alloc)?;
-    write_payload(alloc, &payload, answer)
+pub(crate) fn answer_written(turn: &mut Turn<'_, '_>) {
+    if let Some(request) = asked(turn) {
+        make_payload(&request, turn);
+    }
+}
+
+fn make_payload(request: &Request, turn: &mut Turn<'_, '_>) {
+    match request.encode(turn.alloc()) {
+        Ok(payload) => write_payload(&payload, turn),
+        Err(_) => turn.refuse(RowFault::NoMemory),
+    }
 }
 
 /// A payload, and the request in it.
-fn write_payload(alloc: Global, payload: &[u8], answer: &mut Answer) -> Result<(), RowFault> {
-    answer.bytes(payload)?;
-    write_result(&Request::decode(alloc, payload, "/r"), answer)
+fn write_payload(payload: &[u8], turn: &mut Turn<'_, '_>) {
+    turn.write_bytes(payload);
+    write_decoded(payload, turn);
 }
 
 /// `payload PAYLOAD`: the request in a payload, or the fault.
-pub(crate) fn answer_payload(
-    alloc: Global,
-    row: &mut Row<'_>,
-    answer: &mut Answer,
-) -> Result<(), RowFault> {
-    let payload = read_frame(alloc, row)?;
-    write_result(&Request::decode(alloc, &payload, "/r"), answer)
+pub(crate) fn answer_payload(turn: &mut Turn<'_, '_>) {
+    let payload = read_frame(turn);
+    write_decoded(&payload, turn);
 }
 
-fn write_result(
-    request: &Result<Request, SessionFault>,
-    answer: &mut Answer,
-) -> Result<(), RowFault> {
-    match request {
-        Ok(request) => write_request(request, answer)?,
-        Err(fault) => write_fault(fault, answer)?,
+/// The request in a payload, or the fault.
+fn write_decoded(payload: &[u8], turn: &mut Turn<'_, '_>) {
+    let decoded = Request::decode(turn.alloc(), payload, "/r");
+    write_result(&decoded, turn);
+}
+
+fn write_result(decoded: &Result<Request, SessionFault>, turn: &mut Turn<'_, '_>) {
+    match decoded {
+        Ok(request) => write_request(request, turn),
+        Err(fault) => write_fault(fault, turn),
     }
-    Ok(())
 }
 
 /// The fields of a request that aren't empty.
-fn write_request(request: &Request, answer: &mut Answer) -> Result<(), AllocError> {
-    answer.word("root")?;
-    answer.text(request.root.as_str().as_bytes())?;
-    write_texts("words", request.words.as_slice(), answer)?;
-    write_pairs("environment", request.environment.as_slice(), answer)?;
-    answer.word("directory")?;
-    answer.text(request.working_directory.as_str().as_bytes())?;
-    answer.value(&request.strategy)?;
-    answer.value(&request.kind)?;
-    write_texts("inputs", request.inputs.as_slice(), answer)?;
-    write_texts("toolchain", request.toolchain_inputs.as_slice(), answer)?;
-    write_texts("outputs", request.outputs.as_slice(), answer)?;
-    write_pairs("platform", request.platform.as_slice(), answer)?;
-    write_flag("accept_cached", request.accept_cached, answer)?;
-    write_flag("watch", request.watch, answer)?;
-    write_seconds(request.timeout_seconds, answer)?;
-    write_flag("in_place", request.in_place, answer)
+fn write_request(request: &Request, turn: &mut Turn<'_, '_>) {
+    turn.write_word("root");
+    turn.write_text(request.root.as_str().as_bytes());
+    write_texts("words", request.words.as_slice(), turn);
+    write_pairs("environment", request.environment.as_slice(), turn);
+    turn.write_word("directory");
+    turn.write_text(request.working_directory.as_str().as_bytes());
+    turn.write_value(&request.strategy);
+    turn.write_value(&request.kind);
+    write_texts("inputs", request.inputs.as_slice(), turn);
+    write_texts("toolchain", request.toolchain_inputs.as_slice(), turn);
+    write_texts("outputs", request.outputs.as_slice(), turn);
+    write_pairs("platform", request.platform.as_slice(), turn);
+    write_flag("accept_cached", request.accept_cached, turn);
+    write_flag("watch", request.watch, turn);
+    write_seconds(request.timeout_seconds, turn);
+    write_flag("in_place", request.in_place, turn);
 }
 
-fn write_fault(fault: &SessionFault, answer: &mut Answer) -> Result<(), AllocError> {
+fn write_fault(fault: &SessionFault, turn: &mut Turn<'_, '_>) {
     match fault {
         SessionFault::Bad(bad) => {
-            answer.value(&bad.reason)?;
-            answer.number(bad.value)
+            turn.write_value(&bad.reason);
+            turn.write_number(bad.value);
         }
-        SessionFault::ReadFault => answer.word("ReadFault"),
-        SessionFault::NoMemory => answer.word("NoMemory"),
+        SessionFault::ReadFault => turn.write_word("ReadFault"),
+        SessionFault::NoMemory => turn.write_word("NoMemory"),
     }
 }
 
-fn write_texts(name: &str, texts: &[Text], answer: &mut Answer) -> Result<(), AllocError> {
+fn write_texts(name: &str, texts: &[Text], turn: &mut Turn<'_, '_>) {
     if texts.is_empty() {
-        return Ok(());
+        return;
     }
-    answer.word(name)?;
+    turn.write_word(name);
     for text in texts {
-        answer.text(text.as_str().as_bytes())?;
+        turn.write_text(text.as_str().as_bytes());
     }
-    Ok(())
 }
 
-fn write_pairs(name: &str, pairs: &[Pair], answer: &mut Answer) -> Result<(), AllocError> {
+fn write_pairs(name: &str, pairs: &[Pair], turn: &mut Turn<'_, '_>) {
     if pairs.is_empty() {
-        return Ok(());
+        return;
     }
-    answer.word(name)?;
+    turn.write_word(name);
     for pair in pairs {
-        answer.text(pair.name.as_str().as_bytes())?;
-        answer.text(pair.value.as_str().as_bytes())?;
+        turn.write_text(pair.name.as_str().as_bytes());
+        turn.write_text(pair.value.as_str().as_bytes());
     }
-    Ok(())
 }
 
-fn write_paths(paths: &[RelPath], answer: &mut Answer) -> Result<(), AllocError> {
+fn write_paths(paths: &[RelPath], turn: &mut Turn<'_, '_>) {
     if paths.is_empty() {
-        return answer.word("none");
+        turn.write_word("none");
     }
     for path in paths {
-        answer.text(path.as_str().as_bytes())?;
+        turn.write_text(path.as_str().as_bytes());
     }
-    Ok(())
 }
 
-fn write_flag(name: &str, is_set: bool, answer: &mut Answer) -> Result<(), AllocError> {
+fn write_flag(name: &str, is_set: bool, turn: &mut Turn<'_, '_>) {
     if is_set {
-        return answer.word(name);
+        turn.write_word(name);
     }
-    Ok(())
 }
 
-fn write_seconds(seconds: u32, answer: &mut Answer) -> Result<(), AllocError> {
-    if seconds == 0 {
-        return Ok(());
+fn write_seconds(seconds: u32, turn: &mut Turn<'_, '_>) {
+    if seconds > 0 {
+        turn.write_named("timeout", u64::from(seconds));
     }
-    answer.word("timeout")?;
-    answer.number(u64::from(seconds))
 }

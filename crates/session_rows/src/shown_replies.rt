@@ -2,40 +2,34 @@
 
 use crate::arguments::read_frame;
 use crate::shown_ends::show_failures;
-use crate::shown_values::{show_changed, show_path};
+use crate::shown_values::{show_changed, show_path, show_value};
 use rx_base::{Bytes, RelPath};
-use rx_rows::{Answer, Row, RowFault};
+use rx_rows::Turn;
 use rx_session::{Bad, InPlaceCause, Reply, ReplyFault};
-use rx_world::{Limit, LocalCause};
-use std::alloc::{AllocError, Global};
+use rx_world::{Limit, LocalCause, Origin};
 
 /// `decode PAYLOAD`: the reply, or why it is none.
-pub(crate) fn answer_decode(
-    alloc: Global,
-    row: &mut Row<'_>,
-    answer: &mut Answer,
-) -> Result<(), RowFault> {
-    let payload = read_frame(alloc, row)?;
-    show_decoded(&Reply::decode(alloc, &payload), answer)
+pub(crate) fn answer_decode(turn: &mut Turn<'_, '_>) {
+    let payload = read_frame(turn);
+    let decoded = Reply::decode(turn.alloc(), &payload);
+    show_decoded(&decoded, turn);
 }
 
-fn show_decoded(decoded: &Result<Reply, ReplyFault>, answer: &mut Answer) -> Result<(), RowFault> {
+fn show_decoded(decoded: &Result<Reply, ReplyFault>, turn: &mut Turn<'_, '_>) {
     match decoded {
-        Ok(reply) => show_reply(reply, answer)?,
-        Err(fault) => show_fault(fault, answer)?,
+        Ok(reply) => show_reply(reply, turn),
+        Err(fault) => show_fault(fault, turn),
     }
-    Ok(())
 }
 
-fn show_fault(fault: &ReplyFault, answer: &mut Answer) -> Result<(), AllocError> {
+fn show_fault(fault: &ReplyFault, turn: &mut Turn<'_, '_>) {
     match fault {
-        ReplyFault::Wire(fault) => answer.value(fault),
-        ReplyFault::BadReply => answer.word("BadReply"),
-        ReplyFault::NoMemory => answer.word("NoMemory"),
+        ReplyFault::Wire(fault) => turn.write_value(fault),
+        ReplyFault::BadReply | ReplyFault::NoMemory => turn.write_value(fault),
     }
 }
 
-fn show_reply(reply: &Reply, answer: &mut Answer) -> Result<(), AllocError> {
+fn show_reply(reply: &Reply, turn: &mut Turn<'_, '_>) {
     match reply {
         Reply::Done {
             exit,
@@ -45,92 +39,72 @@ fn show_reply(reply: &Reply, answer: &mut Answer) -> Result<(), AllocError> {
             receipt,
             placed,
         } => {
-            show_exit(*exit, stdout, stderr, answer)?;
-            answer.value(origin)?;
-            show_receipt(*receipt, *placed, answer)
+            show_done(*exit, stdout, stderr, *origin, turn);
+            show_receipt(*receipt, *placed, turn);
         }
-        Reply::BadRequest { bad } => show_bad(bad, answer),
-        Reply::NotRemotable { cause } => show_local_cause("not_remotable", cause, answer),
-        Reply::InputMissing { path } => show_path("input_missing", path, answer),
-        Reply::InputChanged(input) => show_changed(input, answer),
-        Reply::SourceFault { path } => show_path("source_fault", path, answer),
-        Reply::TooLarge { limit, n, path } => show_too_large(*limit, *n, path, answer),
+        Reply::BadRequest { bad } => show_bad(bad, turn),
+        Reply::NotRemotable { cause } => show_local_cause("not_remotable", cause, turn),
+        Reply::InputMissing { path } => show_path("input_missing", path, turn),
+        Reply::InputChanged(input) => show_changed(input, turn),
+        Reply::SourceFault { path } => show_path("source_fault", path, turn),
+        Reply::TooLarge { limit, n, path } => show_too_large(*limit, *n, path, turn),
         Reply::AllFailed { failures } => {
-            answer.word("all_failed")?;
-            show_failures(failures.as_slice(), answer)
+            turn.write_word("all_failed");
+            show_failures(failures.as_slice(), turn);
         }
-        Reply::Cancelled { reason } => {
-            answer.word("cancelled")?;
-            answer.value(reason)
-        }
+        Reply::Cancelled { reason } => show_value("cancelled", reason, turn),
         Reply::PlaceFault { receipt, placed } => {
-            answer.word("place_fault")?;
-            show_receipt(*receipt, *placed, answer)
+            turn.write_word("place_fault");
+            show_receipt(*receipt, *placed, turn);
         }
-        Reply::JournalFull => answer.word("journal_full"),
-        Reply::NoMemory => answer.word("no_memory"),
-        Reply::Blocked { path } => show_path("blocked", path, answer),
-        Reply::InPlace { cause } => show_in_place(cause, answer),
+        Reply::JournalFull => turn.write_word("journal_full"),
+        Reply::NoMemory => turn.write_word("no_memory"),
+        Reply::Blocked { path } => show_path("blocked", path, turn),
+        Reply::InPlace { cause } => show_in_place(cause, turn),
     }
 }
 
-fn show_exit(
-    exit: i32,
-    stdout: &Bytes,
-    stderr: &Bytes,
-    answer: &mut Answer,
-) -> Result<(), AllocError> {
-    answer.word("done")?;
-    answer.value(&exit)?;
-    answer.text(stdout.as_slice())?;
-    answer.text(stderr.as_slice())
+fn show_done(exit: i32, stdout: &Bytes, stderr: &Bytes, origin: Origin, turn: &mut Turn<'_, '_>) {
+    show_value("done", &exit, turn);
+    turn.write_text(stdout.as_slice());
+    turn.write_text(stderr.as_slice());
+    turn.write_value(&origin);
 }
 
-fn show_receipt(receipt: u64, placed: u64, answer: &mut Answer) -> Result<(), AllocError> {
-    answer.number(receipt)?;
-    answer.number(placed)
+fn show_receipt(receipt: u64, placed: u64, turn: &mut Turn<'_, '_>) {
+    turn.write_number(receipt);
+    turn.write_number(placed);
 }
 
-fn show_bad(bad: &Bad, answer: &mut Answer) -> Result<(), AllocError> {
-    answer.word("bad_request")?;
-    answer.value(&bad.reason)?;
-    answer.number(bad.value)
+fn show_bad(bad: &Bad, turn: &mut Turn<'_, '_>) {
+    show_value("bad_request", &bad.reason, turn);
+    turn.write_number(bad.value);
 }
 
 /// A word, and what keeps a command.
-fn show_local_cause(word: &str, cause: &LocalCause, answer: &mut Answer) -> Result<(), AllocError> {
-    answer.word(word)?;
+fn show_local_cause(word: &str, cause: &LocalCause, turn: &mut Turn<'_, '_>) {
+    turn.write_word(word);
     match cause {
         LocalCause::Word { word } => {
-            answer.word("word")?;
-            answer.text(word.as_str().as_bytes())
+            turn.write_word("word");
+            turn.write_text(word.as_str().as_bytes());
         }
-        LocalCause::Path { path } => show_path("path", path, answer),
+        LocalCause::Path { path } => show_path("path", path, turn),
     }
 }
 
-fn show_in_place(cause: &InPlaceCause, answer: &mut Answer) -> Result<(), AllocError> {
-    answer.word("in_place")?;
+fn show_in_place(cause: &InPlaceCause, turn: &mut Turn<'_, '_>) {
+    turn.write_word("in_place");
     match cause {
-        InPlaceCause::Kept { cause } => show_local_cause("kept", cause, answer),
-        InPlaceCause::TooLarge { limit } => {
-            answer.word("too_large")?;
-            answer.value(limit)
-        }
+        InPlaceCause::Kept { cause } => show_local_cause("kept", cause, turn),
+        InPlaceCause::TooLarge { limit } => show_value("too_large", limit, turn),
     }
 }
 
-fn show_too_large(
-    limit: Limit,
-    n: u64,
-    path: &Option<RelPath>,
-    answer: &mut Answer,
-) -> Result<(), AllocError> {
-    answer.word("too_large")?;
-    answer.value(&limit)?;
-    answer.number(n)?;
-    match path {
-        None => Ok(()),
-        Some(path) => answer.text(path.as_str().as_bytes()),
+fn show_too_large(limit: Limit, n: u64, path: &Option<RelPath>, turn: &mut Turn<'_, '_>) {
+    show_value("too_large", &limit, turn);
+    turn.write_number(n);
+    if let Some(path) = path {
+        turn.write_text(path.as_str().as_bytes());
     }
 }
