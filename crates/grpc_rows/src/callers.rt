@@ -6,8 +6,7 @@ use rx_exec_messages::{Capabilities, NamedBlob, Operation, StateFault};
 use rx_fakes::{Ahead, MemoryDial, Script};
 use rx_grpc::GrpcCaller;
 use rx_messages::ActionResult;
-use rx_row_values::read_string;
-use rx_rows::{Answer, Row, RowFault};
+use rx_rows::{RowFault, Turn};
 use rx_world::{CallFault, SemVer};
 use std::alloc::{AllocError, Global};
 use std::collections::VecDeque;
@@ -24,242 +23,275 @@ pub(crate) struct Callers {
 }
 
 /// `BYTE SIZE`: the digest whose hash is that byte 32 times.
-fn read_digest(row: &mut Row<'_>) -> Result<Digest, RowFault> {
-    let Ok(byte) = u8::try_from(row.number()?) else {
-        return Err(RowFault::BadNumber);
-    };
-    let size = row.number()?;
-    Ok(Digest {
+fn read_digest(turn: &mut Turn<'_, '_>) -> Digest {
+    let byte = read_byte(turn);
+    let size = turn.read_number();
+    Digest {
         hash: [byte; 32],
         size,
-    })
+    }
+}
+
+fn read_byte(turn: &mut Turn<'_, '_>) -> u8 {
+    match u8::try_from(turn.read_number()) {
+        Ok(byte) => byte,
+        Err(_) => {
+            turn.refuse(RowFault::BadNumber);
+            0
+        }
+    }
 }
 
 /// `anew` where it is left: whether the action cache isn't to answer.
-fn read_anew(row: &mut Row<'_>) -> Result<bool, RowFault> {
-    if row.is_done() {
-        return Ok(false);
-    }
-    Ok(row.word()? == "anew")
+fn read_anew(turn: &mut Turn<'_, '_>) -> bool {
+    !turn.is_done() && turn.read_word() == "anew"
 }
 
 /// The digests that are left.
-fn read_digests(alloc: Global, row: &mut Row<'_>) -> Result<Vec<Digest>, RowFault> {
-    let mut digests = Vec::new(alloc);
+fn read_digests(turn: &mut Turn<'_, '_>) -> Vec<Digest> {
+    let mut digests = Vec::new(turn.alloc());
     for _ in 0..u32::MAX {
-        if row.is_done() {
+        if turn.is_done() {
             break;
         }
-        digests.push(read_digest(row)?)?;
+        if digests.push(read_digest(turn)).is_err() {
+            turn.refuse(RowFault::NoMemory);
+        }
     }
-    Ok(digests)
+    digests
 }
 
 /// The blobs that are left, each a digest and its bytes.
-fn read_blobs(alloc: Global, row: &mut Row<'_>) -> Result<Vec<NamedBlob>, RowFault> {
-    let mut blobs = Vec::new(alloc);
+fn read_blobs(turn: &mut Turn<'_, '_>) -> Vec<NamedBlob> {
+    let mut blobs = Vec::new(turn.alloc());
     for _ in 0..u32::MAX {
-        if row.is_done() {
+        if turn.is_done() {
             break;
         }
-        let digest = read_digest(row)?;
-        let bytes = Bytes::from_vec(row.bytes(alloc)?);
-        blobs.push(NamedBlob { digest, bytes })?;
+        if blobs.push(read_blob(turn)).is_err() {
+            turn.refuse(RowFault::NoMemory);
+        }
     }
-    Ok(blobs)
+    blobs
+}
+
+fn read_blob(turn: &mut Turn<'_, '_>) -> NamedBlob {
+    NamedBlob {
+        digest: read_digest(turn),
+        bytes: Bytes::from_vec(turn.read_bytes()),
+    }
 }
 
 /// Writes a digest by the first byte of its hash, and its size.
-fn write_digest(digest: Digest, answer: &mut Answer) -> Result<(), AllocError> {
-    answer.number(digest.hash[0] as u64)?;
-    answer.number(digest.size)
+fn write_digest(digest: &Digest, turn: &mut Turn<'_, '_>) {
+    turn.write_number(u64::from(digest.hash[0]));
+    turn.write_number(digest.size);
 }
 
 /// Writes a fault.
-pub(crate) fn write_fault(fault: CallFault, answer: &mut Answer) -> Result<(), AllocError> {
-    let CallFault::BlobRefused(digest, code) = fault else {
-        return answer.value(&fault);
-    };
-    answer.word("BlobRefused")?;
-    write_digest(digest, answer)?;
-    answer.value(&code)
+pub(crate) fn write_fault(fault: &CallFault, turn: &mut Turn<'_, '_>) {
+    match fault {
+        CallFault::BlobRefused(digest, code) => {
+            turn.write_word("BlobRefused");
+            write_digest(digest, turn);
+            turn.write_value(code);
+        }
+        fault => turn.write_value(fault),
+    }
 }
 
 /// Writes the fault of a state: that of a call, or `over` with the status of the execution.
-pub(crate) fn write_state_fault(fault: StateFault, answer: &mut Answer) -> Result<(), AllocError> {
+fn write_state_fault(fault: &StateFault, turn: &mut Turn<'_, '_>) {
     match fault {
-        StateFault::Stream(fault) => write_fault(fault, answer),
+        StateFault::Stream(fault) => write_fault(fault, turn),
         StateFault::Over(code) => {
-            answer.word("over")?;
-            answer.value(&code)
+            turn.write_word("over");
+            turn.write_value(code);
         }
     }
 }
 
 /// Writes a version, or `none`.
-fn write_version(version: Option<SemVer>, answer: &mut Answer) -> Result<(), AllocError> {
+fn write_version(version: Option<SemVer>, turn: &mut Turn<'_, '_>) {
     match version {
-        None => answer.word("none"),
+        None => turn.write_word("none"),
         Some(version) => {
-            answer.value(&version.major)?;
-            answer.value(&version.minor)?;
-            answer.value(&version.patch)
+            turn.write_value(&version.major);
+            turn.write_value(&version.minor);
+            turn.write_value(&version.patch);
         }
     }
 }
 
-fn write_capabilities(told: Capabilities, answer: &mut Answer) -> Result<(), AllocError> {
-    answer.number(told.most)?;
-    write_version(told.low, answer)?;
-    write_version(told.high, answer)
+/// Writes what a farm tells of itself.
+fn write_told(told: &Result<Capabilities, CallFault>, turn: &mut Turn<'_, '_>) {
+    match told {
+        Ok(told) => {
+            turn.write_number(told.most);
+            write_version(told.low, turn);
+            write_version(told.high, turn);
+        }
+        Err(fault) => write_fault(fault, turn),
+    }
 }
 
 /// Writes the exit code and the raw output of a result, or `none`.
-fn write_result(found: Option<ActionResult>, answer: &mut Answer) -> Result<(), AllocError> {
+fn write_result(found: &Option<ActionResult>, turn: &mut Turn<'_, '_>) {
     match found {
-        None => answer.word("none"),
+        None => turn.write_word("none"),
         Some(result) => {
-            answer.value(&result.exit_code)?;
-            answer.bytes(result.stdout_raw.as_slice())
+            turn.write_value(&result.exit_code);
+            turn.write_bytes(result.stdout_raw.as_slice());
         }
     }
 }
 
-fn write_digests(digests: Items<Digest>, answer: &mut Answer) -> Result<(), AllocError> {
-    answer.word("lacks")?;
-    for digest in digests.as_slice() {
-        write_digest(*digest, answer)?;
+/// Writes what the action cache has.
+fn write_found(found: &Result<Option<ActionResult>, CallFault>, turn: &mut Turn<'_, '_>) {
+    match found {
+        Ok(found) => write_result(found, turn),
+        Err(fault) => write_fault(fault, turn),
     }
-    Ok(())
 }
 
-fn write_texts(texts: Items<Bytes>, answer: &mut Answer) -> Result<(), AllocError> {
-    answer.word("texts")?;
-    for text in texts.as_slice() {
-        answer.bytes(text.as_slice())?;
+/// Writes which digests a farm lacks.
+fn write_missing(missing: &Result<Items<Digest>, CallFault>, turn: &mut Turn<'_, '_>) {
+    match missing {
+        Ok(digests) => write_digests(digests.as_slice(), turn),
+        Err(fault) => write_fault(fault, turn),
     }
-    Ok(())
+}
+
+fn write_digests(digests: &[Digest], turn: &mut Turn<'_, '_>) {
+    turn.write_word("lacks");
+    for digest in digests {
+        write_digest(digest, turn);
+    }
+}
+
+/// Writes the bytes of blobs.
+fn write_read(read: &Result<Items<Bytes>, CallFault>, turn: &mut Turn<'_, '_>) {
+    match read {
+        Ok(texts) => write_texts(texts.as_slice(), turn),
+        Err(fault) => write_fault(fault, turn),
+    }
+}
+
+fn write_texts(texts: &[Bytes], turn: &mut Turn<'_, '_>) {
+    turn.write_word("texts");
+    for text in texts {
+        turn.write_bytes(text.as_slice());
+    }
+}
+
+/// Writes a state of an execution.
+pub(crate) fn write_state(state: &Result<Operation, StateFault>, turn: &mut Turn<'_, '_>) {
+    match state {
+        Ok(operation) => write_operation(operation, turn),
+        Err(fault) => write_state_fault(fault, turn),
+    }
 }
 
 /// Writes the name of an execution, and `runs`, or `done` with the exit code and the raw output.
-pub(crate) fn write_operation(operation: Operation, answer: &mut Answer) -> Result<(), AllocError> {
-    let Operation { name, done } = operation;
-    answer.text(name.as_str().as_bytes())?;
-    match done {
-        None => answer.word("runs"),
+fn write_operation(operation: &Operation, turn: &mut Turn<'_, '_>) {
+    turn.write_text(operation.name.as_str().as_bytes());
+    match &operation.done {
+        None => turn.write_word("runs"),
         Some(response) => {
-            answer.word("done")?;
-            write_result(response.result, answer)
+            turn.write_word("done");
+            write_result(&response.result, turn);
         }
     }
 }
 
 /// Writes how many milliseconds are asked for, or `none`.
-fn write_delay(delay: Option<u64>, answer: &mut Answer) -> Result<(), AllocError> {
+fn write_delay(delay: Option<u64>, turn: &mut Turn<'_, '_>) {
     match delay {
-        Some(delay) => answer.number(delay),
-        None => answer.word("none"),
+        Some(delay) => turn.write_number(delay),
+        None => turn.write_word("none"),
     }
 }
 
 /// Writes the bytes of a blob.
-fn write_blob(text: Bytes, answer: &mut Answer) -> Result<(), AllocError> {
-    answer.word("blob")?;
-    answer.bytes(text.as_slice())
+fn write_blob(blob: &Result<Bytes, CallFault>, turn: &mut Turn<'_, '_>) {
+    match blob {
+        Ok(text) => {
+            turn.write_word("blob");
+            turn.write_bytes(text.as_slice());
+        }
+        Err(fault) => write_fault(fault, turn),
+    }
+}
+
+/// Writes that a call was done.
+fn write_done(done: &Result<(), CallFault>, turn: &mut Turn<'_, '_>) {
+    match done {
+        Ok(()) => turn.write_word("ok"),
+        Err(fault) => write_fault(fault, turn),
+    }
 }
 
 /// The next state of an execution, where one goes on.
-fn next_state(caller: &mut GrpcCaller<MemoryDial>, answer: &mut Answer) -> Result<(), RowFault> {
-    if !caller.is_streaming() {
-        return Err(RowFault::BadCall);
+fn next_state(caller: &mut GrpcCaller<MemoryDial>, turn: &mut Turn<'_, '_>) {
+    if caller.is_streaming() {
+        write_state(&caller.hear_operation(), turn);
+    } else {
+        turn.refuse(RowFault::BadCall);
     }
-    match caller.hear_operation() {
-        Ok(operation) => Ok(write_operation(operation, answer)?),
-        Err(fault) => Ok(write_state_fault(fault, answer)?),
-    }
+}
+
+/// Begins an execution.
+fn execute(caller: &mut GrpcCaller<MemoryDial>, turn: &mut Turn<'_, '_>) {
+    let action = read_digest(turn);
+    let anew = read_anew(turn);
+    write_done(&caller.hear_execute(&action, anew), turn);
+}
+
+/// Writes a blob in a stream.
+fn stream_blob(caller: &mut GrpcCaller<MemoryDial>, turn: &mut Turn<'_, '_>) {
+    let digest = read_digest(turn);
+    let bytes = turn.read_bytes();
+    write_done(&caller.hear_write(&digest, &bytes), turn);
 }
 
 /// Makes a call that is answered by a stream.
-fn call_streamed(
-    alloc: Global,
-    caller: &mut GrpcCaller<MemoryDial>,
-    word: &str,
-    row: &mut Row<'_>,
-    answer: &mut Answer,
-) -> Result<(), RowFault> {
-    let done = match word {
-        "execute" => match caller.hear_execute(&read_digest(row)?, read_anew(row)?) {
-            Ok(()) => write_done(answer),
-            Err(fault) => write_fault(fault, answer),
-        },
-        "wait" => match caller.hear_wait(read_string(alloc, row)?.as_str()) {
-            Ok(()) => write_done(answer),
-            Err(fault) => write_fault(fault, answer),
-        },
-        "write" => {
-            let digest = read_digest(row)?;
-            match caller.hear_write(&digest, &row.bytes(alloc)?) {
-                Ok(()) => write_done(answer),
-                Err(fault) => write_fault(fault, answer),
-            }
-        }
-        "operation" => return next_state(caller, answer),
-        "blob" => match caller.hear_blob(&read_digest(row)?) {
-            Ok(text) => write_blob(text, answer),
-            Err(fault) => write_fault(fault, answer),
-        },
-        _ => return Err(RowFault::NoCall),
-    };
-    Ok(done?)
+fn call_streamed(caller: &mut GrpcCaller<MemoryDial>, word: &str, turn: &mut Turn<'_, '_>) {
+    match word {
+        "execute" => execute(caller, turn),
+        "wait" => write_done(&caller.hear_wait(turn.read_string().as_str()), turn),
+        "write" => stream_blob(caller, turn),
+        "operation" => next_state(caller, turn),
+        "blob" => write_blob(&caller.hear_blob(&read_digest(turn)), turn),
+        _ => turn.refuse(RowFault::NoCall),
+    }
 }
 
-fn write_done(answer: &mut Answer) -> Result<(), AllocError> {
-    answer.word("ok")
+/// What was sent on the link of the last call, or `none`.
+fn write_sent(caller: &GrpcCaller<MemoryDial>, turn: &mut Turn<'_, '_>) {
+    match caller.channel().link() {
+        Some(link) => turn.write_bytes(&link.sent),
+        None => turn.write_word("none"),
+    }
 }
 
-/// Makes a call on a client of a farm. `None` where the row names another.
-fn call_farm(
-    alloc: Global,
-    caller: &mut GrpcCaller<MemoryDial>,
-    row: &mut Row<'_>,
-    answer: &mut Answer,
-) -> Result<(), RowFault> {
-    let word = row.word()?;
-    let done = match word {
-        "capabilities" => match caller.hear_capabilities() {
-            Ok(told) => write_capabilities(told, answer),
-            Err(fault) => write_fault(fault, answer),
-        },
-        "result" => match caller.hear_result(&read_digest(row)?) {
-            Ok(found) => write_result(found, answer),
-            Err(fault) => write_fault(fault, answer),
-        },
-        "missing" => match caller.hear_missing(&read_digests(alloc, row)?) {
-            Ok(digests) => write_digests(digests, answer),
-            Err(fault) => write_fault(fault, answer),
-        },
-        "update" => match caller.hear_update(&read_blobs(alloc, row)?) {
-            Ok(()) => write_done(answer),
-            Err(fault) => write_fault(fault, answer),
-        },
-        "read" => match caller.hear_read(&read_digests(alloc, row)?) {
-            Ok(texts) => write_texts(texts, answer),
-            Err(fault) => write_fault(fault, answer),
-        },
-        "faults" => answer.number(caller.faults()),
-        "text" => answer.text(caller.status_text()),
-        "delay" => write_delay(caller.retry_delay(), answer),
+/// Makes a call on a client of a farm.
+fn call_farm(caller: &mut GrpcCaller<MemoryDial>, turn: &mut Turn<'_, '_>) {
+    match turn.read_word() {
+        "capabilities" => write_told(&caller.hear_capabilities(), turn),
+        "result" => write_found(&caller.hear_result(&read_digest(turn)), turn),
+        "missing" => write_missing(&caller.hear_missing(&read_digests(turn)), turn),
+        "update" => write_done(&caller.hear_update(&read_blobs(turn)), turn),
+        "read" => write_read(&caller.hear_read(&read_digests(turn)), turn),
+        "faults" => turn.write_number(caller.faults()),
+        "text" => turn.write_text(caller.status_text()),
+        "delay" => write_delay(caller.retry_delay(), turn),
         "hang_up" => {
             caller.hang_up();
-            write_done(answer)
+            turn.write_word("ok");
         }
-        "sent" => match caller.channel().link() {
-            Some(link) => answer.bytes(&link.sent),
-            None => answer.word("none"),
-        },
-        _ => return call_streamed(alloc, caller, word, row, answer),
-    };
-    Ok(done?)
+        "sent" => write_sent(caller, turn),
+        word => call_streamed(caller, word, turn),
+    }
 }
 
 impl Callers {
@@ -272,61 +304,57 @@ impl Callers {
     }
 
     /// `answer STATUS MESSAGE ..`: one more link. `cut`: the same, and each message lacks a byte.
-    pub(crate) fn answer(
-        &mut self,
-        row: &mut Row<'_>,
-        lacking: usize,
-        answer: &mut Answer,
-    ) -> Result<(), RowFault> {
-        let bytes = read_answer(self.alloc, row, lacking)?;
-        Ok(self.link(bytes, answer)?)
+    pub(crate) fn answer(&mut self, lacking: usize, turn: &mut Turn<'_, '_>) {
+        let bytes = read_answer(lacking, turn);
+        self.link(bytes, turn);
     }
 
     /// `refuse STATUS TEXT DETAILS`: one more link.
-    pub(crate) fn refuse(
-        &mut self,
-        row: &mut Row<'_>,
-        answer: &mut Answer,
-    ) -> Result<(), RowFault> {
-        let bytes = read_refusal(self.alloc, row)?;
-        Ok(self.link(bytes, answer)?)
+    pub(crate) fn refuse(&mut self, turn: &mut Turn<'_, '_>) {
+        let bytes = read_refusal(turn);
+        self.link(bytes, turn);
     }
 
     /// One more link that sends these bytes.
-    fn link(&mut self, bytes: Vec<u8>, answer: &mut Answer) -> Result<(), AllocError> {
-        self.ahead.push_back(Ahead {
+    fn link(&mut self, bytes: Vec<u8>, turn: &mut Turn<'_, '_>) {
+        let link = Ahead {
             bytes,
             most: MOST,
             fails: Vec::new(self.alloc),
-        })?;
-        answer.word("ok")
+        };
+        if self.ahead.push_back(link).is_err() {
+            turn.refuse(RowFault::NoMemory);
+        }
+        turn.write_word("ok");
     }
 
     /// `client INSTANCE`: a client of the farm that makes these links.
-    pub(crate) fn client(
-        &mut self,
-        row: &mut Row<'_>,
-        answer: &mut Answer,
-    ) -> Result<(), RowFault> {
-        let instance = read_string(self.alloc, row)?;
-        let mut ahead = VecDeque::new(self.alloc);
-        std::mem::swap(&mut ahead, &mut self.ahead);
+    pub(crate) fn client(&mut self, turn: &mut Turn<'_, '_>) {
+        let instance = Text::from_string(turn.read_string());
+        match self.client_of(instance) {
+            Ok(caller) => self.caller = Some(caller),
+            Err(_) => turn.refuse(RowFault::NoMemory),
+        }
+        turn.write_word("ok");
+    }
+
+    /// A client of this instance that makes the links so far.
+    fn client_of(&mut self, instance: Text) -> Result<GrpcCaller<MemoryDial>, AllocError> {
+        let alloc = self.alloc;
+        let authority = Vec::from_slice(alloc, b"farm:1")?;
         let dial = MemoryDial {
-            alloc: self.alloc,
-            ahead,
-            script: Script::new(Vec::new(self.alloc)),
+            alloc,
+            ahead: std::mem::replace(&mut self.ahead, VecDeque::new(alloc)),
+            script: Script::empty(alloc),
         };
-        let authority = Vec::from_slice(self.alloc, b"farm:1")?;
-        let instance = Text::from_string(instance);
-        self.caller = Some(GrpcCaller::new(self.alloc, dial, authority, instance, [7; 32]));
-        Ok(answer.word("ok")?)
+        Ok(GrpcCaller::new(alloc, dial, authority, instance, [7; 32]))
     }
 
     /// `farm CALL ..`: see the headings of `stdin`.
-    pub(crate) fn call(&mut self, row: &mut Row<'_>, answer: &mut Answer) -> Result<(), RowFault> {
+    pub(crate) fn call(&mut self, turn: &mut Turn<'_, '_>) {
         match &mut self.caller {
-            Some(caller) => call_farm(self.alloc, caller, row, answer),
-            None => Err(RowFault::BadCall),
+            Some(caller) => call_farm(caller, turn),
+            None => turn.refuse(RowFault::BadCall),
         }
     }
 }

@@ -2,22 +2,17 @@
 
 use rx_h2conn::ConnEvent;
 use rx_hpack::Header;
-use rx_rows::{Row, RowFault};
+use rx_rows::{RowFault, Turn};
 
 /// Reads whether the server ended the stream.
-pub(crate) fn read_last(row: &mut Row<'_>) -> Result<bool, RowFault> {
-    match row.word()? {
-        "last" => Ok(true),
-        "more" => Ok(false),
-        _ => Err(RowFault::BadCall),
-    }
-}
-
-/// A number of 32 bits.
-pub(crate) fn number_32(row: &mut Row<'_>) -> Result<u32, RowFault> {
-    match u32::try_from(row.number()?) {
-        Ok(number) => Ok(number),
-        Err(_) => Err(RowFault::BadNumber),
+pub(crate) fn read_last(turn: &mut Turn<'_, '_>) -> bool {
+    match turn.read_word() {
+        "last" => true,
+        "more" => false,
+        _ => {
+            turn.refuse(RowFault::BadCall);
+            false
+        }
     }
 }
 

@@ -1,7 +1,7 @@
 //! What the other side of a link sends that serves one call on a farm: settings, the answer on stream 1, and that no more streams
 //! are taken. It is laid out as RFC 9113 and RFC 7541 have it.
 
-use rx_rows::{Row, RowFault};
+use rx_rows::{RowFault, Turn};
 use std::alloc::{AllocError, Global};
 
 /// DATA (RFC 9113 6.1).
@@ -104,44 +104,67 @@ fn push_status(
     push_frame(bytes, HEADERS, END_HEADERS + END_STREAM, 1, &block)
 }
 
+/// Adds what a link sends before the messages of an answer.
+fn push_front(bytes: &mut Vec<u8>) -> Result<(), AllocError> {
+    push_frame(bytes, SETTINGS, 0, 0, &[])?;
+    push_frame(bytes, HEADERS, END_HEADERS, 1, SUCCESS)
+}
+
+/// Adds what a link sends behind the messages of an answer.
+fn push_end(
+    alloc: Global,
+    bytes: &mut Vec<u8>,
+    status: &[u8],
+    text: &[u8],
+    details: &[u8],
+) -> Result<(), AllocError> {
+    push_status(alloc, bytes, status, text, details)?;
+    bytes.extend_from_slice(GONE)
+}
+
+/// Refuses the row where memory ran out.
+fn note(pushed: Result<(), AllocError>, turn: &mut Turn<'_, '_>) {
+    if pushed.is_err() {
+        turn.refuse(RowFault::NoMemory);
+    }
+}
+
 /// `STATUS MESSAGE ..`: what a link sends that serves one call. Where the status is empty it ends behind the messages. Each message
 /// lacks so many bytes.
-pub(crate) fn read_answer(
-    alloc: Global,
-    row: &mut Row<'_>,
-    lacking: usize,
-) -> Result<Vec<u8>, RowFault> {
-    let status = row.text(alloc)?;
+pub(crate) fn read_answer(lacking: usize, turn: &mut Turn<'_, '_>) -> Vec<u8> {
+    let alloc = turn.alloc();
+    let status = turn.read_text();
     let mut bytes = Vec::new(alloc);
-    push_frame(&mut bytes, SETTINGS, 0, 0, &[])?;
-    push_frame(&mut bytes, HEADERS, END_HEADERS, 1, SUCCESS)?;
+    note(push_front(&mut bytes), turn);
     for _ in 0..u32::MAX {
-        if row.is_done() {
+        if turn.is_done() {
             break;
         }
-        let message = row.bytes(alloc)?;
-        push_message(alloc, &mut bytes, &message, lacking)?;
+        let message = turn.read_bytes();
+        note(push_message(alloc, &mut bytes, &message, lacking), turn);
     }
     if !status.is_empty() {
-        push_status(alloc, &mut bytes, &status, &[], &[])?;
-        bytes.extend_from_slice(GONE)?;
+        note(push_end(alloc, &mut bytes, &status, &[], &[]), turn);
     }
-    Ok(bytes)
+    bytes
 }
 
 /// `STATUS TEXT DETAILS`: what a link sends that refuses one call.
-pub(crate) fn read_refusal(alloc: Global, row: &mut Row<'_>) -> Result<Vec<u8>, RowFault> {
-    let status = row.text(alloc)?;
-    let text = row.text(alloc)?;
-    let details = if row.is_done() {
-        Vec::new(alloc)
-    } else {
-        row.text(alloc)?
-    };
+pub(crate) fn read_refusal(turn: &mut Turn<'_, '_>) -> Vec<u8> {
+    let alloc = turn.alloc();
+    let status = turn.read_text();
+    let text = turn.read_text();
+    let details = read_details(turn);
     let mut bytes = Vec::new(alloc);
-    push_frame(&mut bytes, SETTINGS, 0, 0, &[])?;
-    push_frame(&mut bytes, HEADERS, END_HEADERS, 1, SUCCESS)?;
-    push_status(alloc, &mut bytes, &status, &text, &details)?;
-    bytes.extend_from_slice(GONE)?;
-    Ok(bytes)
+    note(push_front(&mut bytes), turn);
+    note(push_end(alloc, &mut bytes, &status, &text, &details), turn);
+    bytes
+}
+
+/// The next word, a text, or no bytes where none is left.
+fn read_details(turn: &mut Turn<'_, '_>) -> Vec<u8> {
+    if turn.is_done() {
+        return Vec::new(turn.alloc());
+    }
+    turn.read_text()
 }

@@ -1,26 +1,33 @@
 //! Header lists as words: each header is two texts, its name and its value.
 
+use rx_base::NoMemory;
 use rx_hpack::Header;
-use rx_rows::{Row, RowFault};
+use rx_rows::{RowFault, Turn};
 use std::alloc::Global;
 
 /// The headers of the words that are left.
-pub(crate) fn read_headers(alloc: Global, row: &mut Row<'_>) -> Result<Vec<Header>, RowFault> {
-    let mut headers = Vec::new(alloc);
+pub(crate) fn read_headers(turn: &mut Turn<'_, '_>) -> Vec<Header> {
+    let mut headers = Vec::new(turn.alloc());
     for _ in 0..u32::MAX {
-        if row.is_done() {
+        if turn.is_done() {
             break;
         }
-        headers.push(Header {
-            name: row.text(alloc)?,
-            value: row.text(alloc)?,
-        })?;
+        if headers.push(read_header(turn)).is_err() {
+            turn.refuse(RowFault::NoMemory);
+        }
     }
-    Ok(headers)
+    headers
+}
+
+fn read_header(turn: &mut Turn<'_, '_>) -> Header {
+    Header {
+        name: turn.read_text(),
+        value: turn.read_text(),
+    }
 }
 
 /// A list of one header.
-pub(crate) fn list_of(alloc: Global, name: &[u8], value: &[u8]) -> Result<Vec<Header>, RowFault> {
+pub(crate) fn list_of(alloc: Global, name: &[u8], value: &[u8]) -> Result<Vec<Header>, NoMemory> {
     let mut list = Vec::new(alloc);
     list.push(Header {
         name: Vec::from_slice(alloc, name)?,

@@ -2,8 +2,7 @@
 
 use rx_base::{Bytes, NoMemory};
 use rx_grpc::Body;
-use rx_rows::{Row, RowFault};
-use std::alloc::Global;
+use rx_rows::{RowFault, Turn};
 use std::collections::VecDeque;
 use std::marker::Model;
 
@@ -28,17 +27,19 @@ impl Model for Messages {
 
 impl Messages {
     /// The messages of the words that are left.
-    pub(crate) fn read(alloc: Global, row: &mut Row<'_>) -> Result<Messages, RowFault> {
+    pub(crate) fn read(turn: &mut Turn<'_, '_>) -> Messages {
         let mut messages = Messages {
-            left: VecDeque::new(alloc),
+            left: VecDeque::new(turn.alloc()),
         };
         for _ in 0..u32::MAX {
-            if row.is_done() {
+            if turn.is_done() {
                 break;
             }
-            messages.add(Bytes::from_vec(row.bytes(alloc)?))?;
+            let message = Bytes::from_vec(turn.read_bytes());
+            let added = messages.add(message);
+            turn.keep(added);
         }
-        Ok(messages)
+        messages
     }
 
     /// Adds a message.

@@ -10,11 +10,11 @@ ghost use Rattle.rx_world.specs.declared.versions.Dialect.{Dialect};
 ghost use Rattle.rx_grpc.specs.Honest.{IsGenuineBy, VouchesBy};
 ghost use Rattle.grpc_rows.specs.Recorded.{IsFront, empty_result, recorded};
 
-use crate::callers::{write_fault, write_operation, write_state_fault};
+use crate::callers::{write_fault, write_state};
 use rx_base::{Text, digest_of};
 use rx_fakes::Script;
 use rx_grpc::GrpcCaller;
-use rx_rows::{Answer, RowFault};
+use rx_rows::{RowFault, Turn};
 use rx_world::{Dial, Failed, Link};
 use std::alloc::{AllocError, Global};
 
@@ -126,13 +126,16 @@ pub(crate) fn recorded_client(alloc: Global) -> Result<GrpcCaller<RecordedDial>,
 }
 
 /// `recorded`: the first state of an execution on that farm, or the fault of the call.
-pub(crate) fn run_recorded(alloc: Global, answer: &mut Answer) -> Result<(), RowFault> {
-    let mut client = recorded_client(alloc)?;
-    if let Err(fault) = client.hear_execute(&digest_of(&[]), false) {
-        return Ok(write_fault(fault, answer)?);
+pub(crate) fn run_recorded(turn: &mut Turn<'_, '_>) {
+    match recorded_client(turn.alloc()) {
+        Ok(mut client) => hear_recorded(&mut client, turn),
+        Err(_) => turn.refuse(RowFault::NoMemory),
     }
-    match client.hear_operation() {
-        Ok(operation) => Ok(write_operation(operation, answer)?),
-        Err(fault) => Ok(write_state_fault(fault, answer)?),
+}
+
+fn hear_recorded(client: &mut GrpcCaller<RecordedDial>, turn: &mut Turn<'_, '_>) {
+    match client.hear_execute(&digest_of(&[]), false) {
+        Ok(()) => write_state(&client.hear_operation(), turn),
+        Err(fault) => write_fault(&fault, turn),
     }
 }
