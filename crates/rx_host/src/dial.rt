@@ -111,9 +111,9 @@ impl<H: Hands> HostDial<H> {
         self.made
     }
 
-    /// Leaves a connection, on which the farm told this of itself, to the sessions after this one. Where sessions share none, or the
+    /// Leaves a connection, on which the farm told this of itself, if anything, to the sessions after this one. Where sessions share none, or the
     /// farm was halted, it is closed.
-    pub(crate) fn keep(&self, resting: Resting<HostLink>, told: Capabilities) {
+    pub(crate) fn keep(&self, resting: Resting<HostLink>, told: Option<Capabilities>) {
         match &self.share {
             Some(share) if !self.halting.is_farm_halted() => {
                 share.keeping.put(&self.hands, resting, told);

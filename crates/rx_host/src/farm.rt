@@ -11,6 +11,7 @@ use crate::dial::HostDial;
 use crate::hands::Hands;
 use crate::pauses::Pauses;
 use crate::timed::Unread;
+use crate::untried::{hear_execute, hear_missing, hear_result};
 use crate::world::HostWorld;
 use rx_base::{Bytes, Digest, Items};
 use rx_exec_messages::{Caller, Capabilities, NamedBlob, Operation, StateFault};
@@ -24,6 +25,17 @@ use std::marker::Model;
 struct Told {
     capabilities: Capabilities,
     made: u64,
+}
+
+impl Told {
+    /// What the farm said of itself on the last of so many connections, if anything.
+    fn on(self, made: u64) -> Option<Capabilities> {
+        if self.made == made {
+            Some(self.capabilities)
+        } else {
+            None
+        }
+    }
 }
 
 /// A farm's client over TCP, with or without a connection. That tells nothing of its bytes, so the client vouches for an outcome
@@ -63,8 +75,8 @@ impl<H: Hands> HostFarm<H> {
     }
 
     /// Goes on on a connection that another session left, if there is one, and answers what the farm said of itself on it. Where
-    /// something came on it meanwhile, the farm is asked anew; where it doesn't answer there, the connection is closed, and that
-    /// is no fault of the attempt.
+    /// it wasn't asked there, or something came meanwhile, it is asked anew; where it doesn't answer there, the connection is closed,
+    /// and that is no fault of the attempt.
     fn take_up(&mut self) -> Option<Capabilities>
         ensures newer { IfSome result (λ told. dialect_of told.low told.high ≡ new_dialect) }
         ensures later { self.old.faults ≤ self.new.faults }
@@ -75,8 +87,8 @@ impl<H: Hands> HostFarm<H> {
         }
         let (kept, unread) = self.caller.channel().dial().take_kept()?;
         self.caller.resume(kept.resting);
-        let told = match unread {
-            Unread::Nothing => kept.told,
+        let told = match (unread, kept.told) {
+            (Unread::Nothing, Some(told)) => told,
             _ => self.ask_again()?,
         };
         match told.dialect() {
@@ -103,24 +115,16 @@ impl<H: Hands> HostFarm<H> {
         }
     }
 
-    /// The farm said this of itself on the connection that is there.
+    /// The farm said this of itself on the connection that is there. Other sessions use its connections where it looks for outputs as
+    /// those farms do that sessions are meant for.
     fn note(&mut self, capabilities: Capabilities)
         ensures { self.new ≡ self.old }
     {
         let made = self.caller.channel().dial().made();
-        self.told = Some(Told { capabilities, made });
-    }
-
-    /// What the farm said of itself on the connection that is there, where sessions may be told so later: it looks for outputs as
-    /// those farms do that sessions are meant for.
-    fn told_here(&self) -> Option<Capabilities> {
-        let told = self.told?;
-        match told.capabilities.dialect() {
-            Dialect::New if told.made == self.caller.channel().dial().made() => {
-                Some(told.capabilities)
-            }
-            _ => None,
-        }
+        self.told = match capabilities.dialect() {
+            Dialect::New => Some(Told { capabilities, made }),
+            Dialect::Old => None,
+        };
     }
 
     /// Whether the last connection brought nothing, or there was none.
@@ -151,12 +155,13 @@ impl<H: Hands> HostFarm<H> {
     pub fn hang_up(self) -> HostFarm<H>
         ensures { result ≡ self }
     {
-        let told = self.told_here();
+        let told = self.told;
+        let made = self.caller.channel().dial().made();
         let mut caller = self.caller;
         let resting = caller.rest();
         caller.channel().dial().let_go();
         if let (Some(resting), Some(told)) = (resting, told) {
-            caller.channel().dial().keep(resting, told);
+            caller.channel().dial().keep(resting, told.on(made));
         }
         HostFarm {
             caller,
@@ -215,7 +220,7 @@ impl<H: Hands> Caller<HostWorld> for HostFarm<H> {
             .channel()
             .dial()
             .begin_call(0, self.pauses.take());
-        let answer = self.caller.hear_result(action);
+        let answer = hear_result(&mut self.caller, action);
         let asked = self.caller.retry_delay();
         self.pauses.heed(&answer, asked);
         self.follow_up(&answer);
@@ -227,7 +232,7 @@ impl<H: Hands> Caller<HostWorld> for HostFarm<H> {
             .channel()
             .dial()
             .begin_call(0, self.pauses.take());
-        let answer = self.caller.hear_missing(digests);
+        let answer = hear_missing(&mut self.caller, digests);
         let asked = self.caller.retry_delay();
         self.pauses.heed(&answer, asked);
         self.follow_up(&answer);
@@ -287,7 +292,7 @@ impl<H: Hands> Caller<HostWorld> for HostFarm<H> {
             .channel()
             .dial()
             .begin_command(self.pauses.take());
-        let answer = self.caller.hear_execute(action, skip_cache);
+        let answer = hear_execute(&mut self.caller, action, skip_cache);
         let asked = self.caller.retry_delay();
         self.pauses.heed(&answer, asked);
         self.follow_up(&answer);

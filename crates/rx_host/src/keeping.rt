@@ -14,8 +14,8 @@ const MOST_SECONDS: u64 = 60;
 #[derive(Drop)]
 pub(crate) struct Kept {
     pub(crate) resting: Resting<HostLink>,
-    /// What the farm said of itself on it.
-    pub(crate) told: Capabilities,
+    /// What the farm said of itself on it, where it was asked there.
+    pub(crate) told: Option<Capabilities>,
     /// Since when no session uses it.
     since: Instant,
 }
@@ -47,7 +47,7 @@ impl Keeping {
         &self,
         hands: &H,
         resting: Resting<HostLink>,
-        told: Capabilities,
+        told: Option<Capabilities>,
     ) {
         if let Ok(since) = Instant::now(hands) {
             let kept = Kept {

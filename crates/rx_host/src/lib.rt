@@ -47,6 +47,7 @@ mod seeds;
 mod staged;
 mod tells;
 mod timed;
+mod untried;
 mod upkeep;
 mod watch;
 mod world;

@@ -6,12 +6,14 @@ ghost use Rattle.rx_host.specs.Farms.{any_bytes};
 use crate::halting::Halting;
 use crate::tells::tell;
 use crate::timed::{TimedStream, Unread};
+use crate::upkeep::is_without_answer;
 use crate::watch::{Watch, Watched};
 use rx_streams::Faults;
 use rx_world::{Failed, Link};
 use std::io;
 use std::io::{Error, ErrorKind};
 use std::net::TcpStream;
+use std::sync::atomic::{AtomicBool, Ordering};
 
 /// One connection over TCP.
 #[derive(Drop)]
@@ -21,6 +23,8 @@ pub struct HostLink {
     watch: Watch,
     /// Whether anything came.
     is_heard: bool,
+    /// Whether no call was answered on it since a session took it up, as far as its bytes tell.
+    is_untried: AtomicBool,
     pub(crate) ended: bool,
     pub(crate) faults: Faults,
 }
@@ -36,6 +40,7 @@ impl HostLink {
             timed: TimedStream::new(stream)?,
             watch,
             is_heard: false,
+            is_untried: AtomicBool::new(false),
             ended: false,
             faults: Faults::new(),
         })
@@ -56,19 +61,29 @@ impl HostLink {
         self.timed.unread()
     }
 
-    /// The session that is halted by this uses it from now on.
+    /// The session that is halted by this uses it from now on. By then the farm may have closed it, and nobody knows yet.
     pub(crate) fn pass_on(&self, halting: Halting) {
         self.watch.halting.pass_on(halting);
+        self.is_untried.store(true, Ordering::SeqCst);
     }
 
-    /// Tells why a call failed, unless the farm was halted. A farm that was silent for too long is away.
+    /// Whether no call was answered on it since a session took it up. From now on it counts as tried.
+    pub(crate) fn ends_trial(&self) -> bool {
+        self.is_untried.swap(false, Ordering::SeqCst)
+    }
+
+    /// Tells why a call failed, unless the farm was halted, or may have closed the connection before the call. A farm that was silent
+    /// for too long is away.
     fn tell(&self, tried: &str, error: &Error) {
         if self.watch.halting.is_farm_halted() {
             return;
         }
-        tell(&self.rt, tried, "the farm", error);
+        let is_silence = error.kind() == ErrorKind::TimedOut;
+        if is_silence || !self.is_untried.load(Ordering::SeqCst) {
+            tell(&self.rt, tried, "the farm", error);
+        }
         if let Some(outage) = &self.watch.outage {
-            if error.kind() == ErrorKind::TimedOut {
+            if is_silence {
                 outage.begin(&self.rt);
             }
         }
@@ -84,6 +99,9 @@ impl HostLink {
         }
         if let Some(outage) = &self.watch.outage {
             outage.end();
+        }
+        if !is_without_answer(bytes) {
+            self.is_untried.store(false, Ordering::SeqCst);
         }
         if self.is_heard {
             return;
