@@ -1,8 +1,10 @@
 //! Calls of the system that a thread of their own makes, so that whoever waits for one can leave it. Only the wait asks
 //! for a handle, so that the thread needs none.
 
+use crate::patience::{Patience, tick};
 use std::sync::atomic::{AtomicU64, Ordering};
 use std::sync::{Mutex, Wait};
+use std::time::Duration;
 
 /// How far a call is: it goes on, it has ended, or nobody waits for it any more.
 const GOING: u64 = 0;
@@ -54,6 +56,23 @@ impl<T: Drop> Call<T> {
         for _ in hands.forever() {
             match self.progress.load(Ordering::SeqCst) {
                 GOING => self.progress.park(hands, GOING as u32),
+                ENDED => return self.value.lock(hands).take(),
+                _ => return None,
+            }
+        }
+        unreachable!()
+    }
+
+    /// The same, where somebody has the patience for it. Else it is nothing, and the call goes on.
+    pub(crate) fn wait_patiently(&self, hands: &impl Wait, patience: &impl Patience) -> Option<T> {
+        let mut silence = Duration::ZERO;
+        for _ in hands.forever() {
+            match self.progress.load(Ordering::SeqCst) {
+                GOING => {
+                    let borne = patience.bear(silence)?;
+                    self.progress.park_timeout(hands, GOING as u32, tick());
+                    silence = borne.saturating_add(tick());
+                }
                 ENDED => return self.value.lock(hands).take(),
                 _ => return None,
             }

@@ -12,6 +12,7 @@ use crate::hands::Hands;
 use crate::keeping::Kept;
 use crate::link::HostLink;
 use crate::link_halting::LinkHalting;
+use crate::patience::tick;
 use crate::probe::Probe;
 use crate::timed::Unread;
 use crate::watch::Watch;
@@ -22,12 +23,16 @@ use rx_streams::Faults;
 use rx_world::{Dial, Failed};
 use std::alloc::{AllocError, Global};
 use std::io::{Error, ErrorKind};
+use std::net::TcpStream;
 use std::sync::Arc;
 use std::time::Duration;
 use std::{io, thread};
 
 /// How many connections that were kept are looked at, at most: no more sessions run at once.
 const MOST_KEPT: u32 = 256;
+
+/// How many ticks a pause has at most, which is more than a farm may ask for.
+const MOST_TICKS: u32 = 100;
 
 /// Connects to one farm, or to none: then each call is a fault. The first connection that can't be made is told on standard
 /// error, where sessions share what they know of the farm by one of them in 10 seconds.
@@ -155,12 +160,24 @@ impl<H: Hands> HostDial<H> {
         self.halting.begin_call(&self.rt, Some(limit));
     }
 
-    /// Pauses, unless no connection is tried.
+    /// Pauses, unless no connection is tried, and until the run is to end.
     fn rest(&self, pause: Option<Duration>) {
-        if let Some(pause) = pause {
-            if !self.is_idle {
-                self.halting.rest(&self.hands, pause);
+        let mut left = pause.unwrap_or(Duration::ZERO);
+        for _ in 0..MOST_TICKS {
+            if left.is_zero() || self.is_idle || self.is_closing() {
+                return;
             }
+            let part = left.min(tick());
+            self.halting.rest(&self.hands, part);
+            left = left.saturating_sub(part);
+        }
+    }
+
+    /// Whether the run is to end.
+    fn is_closing(&self) -> bool {
+        match &self.share {
+            Some(share) => share.closing.is_begun(),
+            None => false,
         }
     }
 
@@ -197,12 +214,22 @@ impl<H: Hands> HostDial<H> {
         if let Err(refused) = thread::spawn(&self.hands, work) {
             (refused.value)();
         }
-        let Some(connected) = connecting.wait(&self.hands) else {
-            return Err(halted());
-        };
-        let stream = connected?;
+        let stream = self.wait_for(&connecting)?;
         self.halting.keep_connection(&self.hands, &stream)?;
         HostLink::new(rt, stream, self.watch()?)
+    }
+
+    /// Waits for a connection that is being made, until the farm is halted, or for as long as a farm that says nothing may take.
+    fn wait_for(&self, connecting: &Connecting) -> io::Result<TcpStream> {
+        let connected = match &self.share {
+            Some(share) => connecting.wait_patiently(&self.hands, &share.closing),
+            None => connecting.wait(&self.hands),
+        };
+        match connected {
+            Some(connected) => connected,
+            None if self.halting.is_farm_halted() => Err(halted()),
+            None => Err(Error::from(ErrorKind::TimedOut)),
+        }
     }
 
     /// What a connection is watched by.

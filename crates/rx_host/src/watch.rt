@@ -11,9 +11,6 @@ use std::time::Duration;
 /// How long the first byte of a farm may take. A server of HTTP/2 sends its settings at once (RFC 9113, 3.4).
 const FIRST_SECONDS: u64 = 10;
 
-/// How long a farm may say nothing once the run is to end.
-const CLOSING_SECONDS: u64 = 1;
-
 /// What a connection is watched by.
 #[derive(Drop)]
 pub(crate) struct Watch {
@@ -41,7 +38,7 @@ impl Watch {
         if !is_heard && silence >= Duration::from_secs(FIRST_SECONDS) {
             return false;
         }
-        if self.is_closing() && silence >= Duration::from_secs(CLOSING_SECONDS) {
+        if self.is_closing() && silence >= Closing::limit() {
             return false;
         }
         match self.halting.call_left(rt) {
@@ -57,7 +54,7 @@ impl Watch {
             return false;
         }
         let patience = if self.is_closing() {
-            Duration::from_secs(CLOSING_SECONDS)
+            Closing::limit()
         } else {
             Duration::from_secs(FIRST_SECONDS)
         };
