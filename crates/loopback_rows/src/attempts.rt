@@ -16,6 +16,7 @@ use rx_tree::{Built, TreeFault, build};
 use rx_world::{Attempt, End, InputFile, Look, Origin, Outcome, RemoteCause, Sources, Unstopped};
 use std::alloc::Global;
 use std::fs;
+use std::sync::atomic::{AtomicBool, Ordering};
 
 /// The most blobs that are remembered as present.
 const PRESENT: usize = 1000;
@@ -45,11 +46,18 @@ pub(crate) fn run<H: Hands>(rt: HostRuntime, hands: H, job: &Job) -> Ended {
     run_sharing(rt, hands, job, &share)
 }
 
-/// How each of two attempts ends, of which the second one goes on on the connection that the first one left.
-pub(crate) fn run_twice<H: Hands>(rt: HostRuntime, hands: H, job: &Job) -> (Ended, Ended) {
+/// How each of two attempts ends, of which the second one goes on on the connection that the first one left, where that serves.
+/// The mark is set between both.
+pub(crate) fn run_twice<H: Hands>(
+    rt: HostRuntime,
+    hands: H,
+    job: &Job,
+    mark: &AtomicBool,
+) -> (Ended, Ended) {
     match FarmShare::new(&rt, rt.alloc()) {
         Ok(share) => {
             let first = run_sharing(rt, hands, job, &share);
+            mark.store(true, Ordering::SeqCst);
             (first, run_sharing(rt, hands, job, &share))
         }
         Err(_) => (Err(RowFault::NoMemory), Err(RowFault::NoMemory)),

@@ -1,4 +1,4 @@
-//! The farm of the rows, which serves one connection for each attempt, in a thread of its own.
+//! The farm of the rows, which serves the connections of attempts in a thread of its own.
 
 use crate::attempts::{Job, run, run_twice, write_end};
 use crate::links::FarmLink;
@@ -8,6 +8,7 @@ use rx_host::Hands;
 use rx_rows::{Answer, Calls, Row, RowFault};
 use rx_toyfarm::{FarmFault, ToyFarm, answer};
 use std::net::{Ipv4Addr, SocketAddr, TcpListener};
+use std::sync::atomic::AtomicBool;
 use std::{io, thread};
 
 /// More pieces than the calls of a row send.
@@ -47,7 +48,7 @@ impl<H: Hands> Loopback<H> {
     ) -> Result<(), RowFault> {
         let (job, listener) = self.job(row, accept_cached)?;
         let (rt, hands, farm) = (self.rt, self.hands, &mut self.farm);
-        let serve = || serve(rt, farm, &listener);
+        let serve = || serve(rt, farm, &listener, &AtomicBool::new(false));
         let attempt = || run(rt, hands, &job);
         let (served, end) = thread::join(&hands, serve, attempt);
         write_end(rt.alloc(), &end?, told)?;
@@ -58,11 +59,26 @@ impl<H: Hands> Loopback<H> {
     fn attempt_twice(&mut self, row: &mut Row<'_>, told: &mut Answer) -> Result<(), RowFault> {
         let (job, listener) = self.job(row, true)?;
         let (rt, hands, farm) = (self.rt, self.hands, &mut self.farm);
-        let serve = || serve(rt, farm, &listener);
-        let attempts = || run_twice(rt, hands, &job);
+        let serve = || serve(rt, farm, &listener, &AtomicBool::new(false));
+        let attempts = || run_twice(rt, hands, &job, &AtomicBool::new(false));
         let (served, (first, second)) = thread::join(&hands, serve, attempts);
         write_end(rt.alloc(), &first?, told)?;
         write_end(rt.alloc(), &second?, told)?;
+        write_served(served, told)
+    }
+
+    /// `broken TEXT`: the ends of two attempts, and how both connections were served, of which the first one ended at the
+    /// first byte of the second attempt.
+    fn attempt_broken(&mut self, row: &mut Row<'_>, told: &mut Answer) -> Result<(), RowFault> {
+        let (job, listener) = self.job(row, true)?;
+        let (rt, hands, farm) = (self.rt, self.hands, &mut self.farm);
+        let mark = AtomicBool::new(false);
+        let serve = || serve_broken(rt, farm, &listener, &mark);
+        let attempts = || run_twice(rt, hands, &job, &mark);
+        let ((broken, served), (first, second)) = thread::join(&hands, serve, attempts);
+        write_end(rt.alloc(), &first?, told)?;
+        write_end(rt.alloc(), &second?, told)?;
+        write_served(broken, told)?;
         write_served(served, told)
     }
 
@@ -94,13 +110,14 @@ impl<H: Hands> Calls for Loopback<H> {
             "run" => self.attempt(row, true, told),
             "refusing" => self.attempt(row, false, told),
             "twice" => self.attempt_twice(row, told),
+            "broken" => self.attempt_broken(row, told),
             _ => Err(RowFault::NoCall),
         }
     }
 }
 
 /// Writes how the farm's end of a connection ended.
-fn write_served(served: Result<(), FarmFault>, told: &mut Answer) -> Result<(), RowFault> {
+fn write_served(served: Served, told: &mut Answer) -> Result<(), RowFault> {
     match served {
         Ok(()) => told.word("served")?,
         Err(fault) => told.value(&fault)?,
@@ -115,10 +132,25 @@ fn listen(rt: HostRuntime) -> io::Result<(String, TcpListener)> {
     Ok((format!(in rt.alloc(); "127.0.0.1:{port}")?, listener))
 }
 
-/// Serves the first connection until its client ends it.
-fn serve(rt: HostRuntime, farm: &mut ToyFarm, listener: &TcpListener) -> Result<(), FarmFault> {
+/// How a connection was served.
+type Served = Result<(), FarmFault>;
+
+/// Serves the next connection until its client ends it, or until something comes behind the mark.
+fn serve(rt: HostRuntime, farm: &mut ToyFarm, listener: &TcpListener, mark: &AtomicBool) -> Served {
     match listener.accept() {
-        Ok((stream, _)) => answer(rt.alloc(), farm, &mut FarmLink::new(stream), TURNS),
+        Ok((stream, _)) => answer(rt.alloc(), farm, &mut FarmLink::new(stream, mark), TURNS),
         Err(_) => Err(FarmFault::LinkFault),
     }
+}
+
+/// Serves a connection until something comes behind the mark, and then another one until its client ends it.
+fn serve_broken(
+    rt: HostRuntime,
+    farm: &mut ToyFarm,
+    listener: &TcpListener,
+    mark: &AtomicBool,
+) -> (Served, Served) {
+    let broken = serve(rt, farm, listener, mark);
+    let served = serve(rt, farm, listener, &AtomicBool::new(false));
+    (broken, served)
 }

@@ -116,8 +116,8 @@ impl<H: Hands> HostDial<H> {
         self.made
     }
 
-    /// Leaves a connection, on which the farm told this of itself, if anything, to the sessions after this one. Where sessions share none, or the
-    /// farm was halted, it is closed.
+    /// Leaves a connection, on which the farm told this of itself, if anything, to the sessions after this one. Where
+    /// sessions share none, or the farm was halted, it is closed.
     pub(crate) fn keep(&self, resting: Resting<HostLink>, told: Option<Capabilities>) {
         match &self.share {
             Some(share) if !self.halting.is_farm_halted() => {
@@ -219,7 +219,7 @@ impl<H: Hands> HostDial<H> {
         HostLink::new(rt, stream, self.watch()?)
     }
 
-    /// Waits for a connection that is being made, until the farm is halted, or for as long as a farm that says nothing may take.
+    /// Waits for a connection that is being made, until the farm is halted, or as long as a farm may say nothing.
     fn wait_for(&self, connecting: &Connecting) -> io::Result<TcpStream> {
         let connected = match &self.share {
             Some(share) => connecting.wait_patiently(&self.hands, &share.closing),

@@ -74,9 +74,9 @@ impl<H: Hands> HostFarm<H> {
         }
     }
 
-    /// Goes on on a connection that another session left, if there is one, and answers what the farm said of itself on it. Where
-    /// it wasn't asked there, or something came meanwhile, it is asked anew; where it doesn't answer there, the connection is closed,
-    /// and that is no fault of the attempt.
+    /// Goes on on a connection that another session left, if there is one, and answers what the farm said of itself on it.
+    /// Where it wasn't asked there, or something came meanwhile, it is asked anew; where it doesn't answer there, the
+    /// connection is closed, and that is no fault of the attempt.
     fn take_up(&mut self) -> Option<Capabilities>
         ensures newer { IfSome result (λ told. dialect_of told.low told.high ≡ new_dialect) }
         ensures later { self.old.faults ≤ self.new.faults }
@@ -115,8 +115,8 @@ impl<H: Hands> HostFarm<H> {
         }
     }
 
-    /// The farm said this of itself on the connection that is there. Other sessions use its connections where it looks for outputs as
-    /// those farms do that sessions are meant for.
+    /// The farm said this of itself on the connection that is there. Other sessions use its connections where it looks for
+    /// outputs as those farms do that sessions are meant for.
     fn note(&mut self, capabilities: Capabilities)
         ensures { self.new ≡ self.old }
     {

@@ -61,7 +61,7 @@ impl HostLink {
         self.timed.unread()
     }
 
-    /// The session that is halted by this uses it from now on. By then the farm may have closed it, and nobody knows yet.
+    /// The session that is halted by this uses it from now on. The farm may have closed it, and nobody knows yet.
     pub(crate) fn pass_on(&self, halting: Halting) {
         self.watch.halting.pass_on(halting);
         self.is_untried.store(true, Ordering::SeqCst);
@@ -72,8 +72,8 @@ impl HostLink {
         self.is_untried.swap(false, Ordering::SeqCst)
     }
 
-    /// Tells why a call failed, unless the farm was halted, or may have closed the connection before the call. A farm that was silent
-    /// for too long is away.
+    /// Tells why a call failed, unless the farm was halted, or may have closed the connection before the call. A farm that
+    /// was silent for too long is away.
     fn tell(&self, tried: &str, error: &Error) {
         if self.watch.halting.is_farm_halted() {
             return;

@@ -1,6 +1,7 @@
-//! The first call of a session on a connection that another session left. The farm may have closed it by then, which nobody knows
-//! until the call: so a call that fails there before an answer began is made once more, on a new connection. An attempt begins by
-//! one of these three calls. Each of them may be made again: an action runs twice at worst, as behind any other fault of a link.
+//! The first call of a session on a connection that another session left. The farm may have closed it by then, which
+//! nobody knows until the call: so a call that fails there before an answer began is made once more, on a new
+//! connection. An attempt begins by one of these three calls. Each of them may be made again (Remote Execution API v2):
+//! an action runs twice at worst, as behind any other fault of a link.
 
 ghost use Rattle.std.specs.Prelude.{◌≡◌, true, IfOk, IfSome, OnOk};
 ghost use Rattle.rx_exec_messages.specs.Calls.{HasCallCause, IsPartOf};
@@ -17,7 +18,7 @@ use rx_world::{CallFault, Dial};
 /// A client of a farm over connections of this machine.
 type HostCaller<H> = GrpcCaller<HostDial<H>>;
 
-/// Whether a call is made once more: it failed, and no call was answered on its connection since the session took that up.
+/// Whether a call is made once more: it failed, and none was answered on its connection since the session took that up.
 fn is_made_again<H: Hands, T>(caller: &HostCaller<H>, answer: &Result<T, CallFault>) -> bool {
     match (answer, caller.channel().link()) {
         (Ok(_) | Err(CallFault::NoMemory), _) => false,

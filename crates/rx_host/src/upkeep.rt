@@ -19,8 +19,8 @@ pub(crate) fn is_without_answer(bytes: &[u8]) -> bool {
     are_whole(bytes, &WITHOUT_ANSWER)
 }
 
-/// Whether these bytes are whole frames of these types, and nothing more. A frame is 3 bytes of length, its type, its flags, 4 bytes of
-/// its stream's number, and so many bytes (RFC 9113, 4.1).
+/// Whether these bytes are whole frames of these types, and nothing more. A frame is 3 bytes of length, its type, its
+/// flags, 4 bytes of its stream's number, and so many bytes (RFC 9113, 4.1).
 fn are_whole(bytes: &[u8], kinds: &[u8]) -> bool {
     let mut rest = bytes;
     for _ in 0..MOST_FRAMES {
