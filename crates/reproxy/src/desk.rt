@@ -59,7 +59,8 @@ pub(crate) fn parts_over<H: Hands, I: Source + Drop, O: Sink + Drop>(
     input: I,
     output: O,
 ) -> Result<HostParts<H, I, O>, AllocError>
-    ensures { IfOk result (λ parts. parts.input ≡ input) }
+    ensures input { IfOk result (λ parts. parts.input ≡ input) }
+    ensures output { IfOk result (λ parts. parts.output ≡ output) }
 {
     let (rt, hands) = (host.rt, host.hands);
     let alloc = rt.alloc();
