@@ -1,5 +1,6 @@
 pub mod Behind
 pub mod LastSplit
+pub mod ListedWords
 pub mod Lists
 pub mod LocalSteps
 pub mod SafeOutputs

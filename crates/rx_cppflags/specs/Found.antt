@@ -1,13 +1,15 @@
 -- What all words of a command together name, and which of them aren't compile words.
-use Rattle.std.specs.Prelude.{ℕ, ◌==◌, Bool, false, not, ◌||◌, List, ◌++◌, map, Option, Some, None, if◌then◌else◌, count_by, nat_lt}
+use Rattle.std.specs.Prelude.{ℕ, ◌==◌, Bool, false, not, ◌&&◌, ◌||◌, List, ◌++◌, map, Option, Some, None, if◌then◌else◌, count_by, nat_lt, codes}
 use Rattle.std.specs.List.{find, filter, filter_map, list_any}
 use Rattle.std.specs.Option.{is_some, option_map}
+use Rattle.std.specs.Str.{bytes_eq}
 use Rattle.rx_base.specs.Paths.{is_below}
 use Rattle.rx_cppflags.specs.declared.meanings.Meaning.{Meaning}
-use Rattle.rx_cppflags.specs.declared.meanings.Meaning.TheVariants.{Refused, CSource, CppSource, OtherSource, Output, DependencyFile, Dependencies, SplitDebug, SideFile}
+use Rattle.rx_cppflags.specs.declared.meanings.Meaning.TheVariants.{CSource, CppSource, Language, Output, DependencyFile, Dependencies, SplitDebug, SideFile}
 use Rattle.rx_cppflags.specs.Endings.{directory_of}
 use Rattle.rx_cppflags.specs.Meanings.{same, names_output, names_path}
 use Rattle.rx_cppflags.specs.Pieces.{Saying}
+use Rattle.rx_cppflags.specs.Values.{takes_value}
 
 -- whether something of this meaning is said
 abbrev pub has_meaning : Meaning → List Saying → Bool
@@ -35,6 +37,10 @@ texts_of meaning said = map (λ s. s.text) (filter (λ s. same s.meaning meaning
 abbrev pub sources_of : List Saying → List (List ℕ)
 sources_of said = paths_of CSource said ++ paths_of CppSource said
 
+-- whether the source is C: by its name, or by a word for its language
+abbrev pub is_c : List Saying → Bool
+is_c said = list_any (λ s. same s.meaning CSource || (same s.meaning Language && bytes_eq s.text (codes "c"))) said
+
 abbrev pub outputs_of : List Saying → List (List ℕ)
 outputs_of said = paths_of Output said ++ paths_of DependencyFile said ++ paths_of SideFile said
 
@@ -60,7 +66,7 @@ is_in_table has_file has_side outputs s =
     else if names_path s.meaning then is_some s.path
     else if same s.meaning Dependencies then has_file
     else if same s.meaning SplitDebug then has_side
-    else not (same s.meaning Refused || same s.meaning OtherSource)
+    else takes_value s.meaning s.text
 
 -- the first word that is no compile word, where there are these files or not, among these outputs
 abbrev pub first_outside : Bool → Bool → List (List ℕ) → List Saying → Option (List ℕ)

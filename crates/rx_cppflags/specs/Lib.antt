@@ -1,4 +1,5 @@
 pub mod Endings
+pub mod Features
 pub mod Found
 pub mod LocalOutputs
 pub mod Meanings
@@ -7,4 +8,5 @@ pub mod Places
 pub mod Readings
 pub mod Rows
 pub mod SideFiles
+pub mod Values
 pub mod Variables

@@ -3,7 +3,7 @@ use Rattle.std.specs.Prelude.{Bool, true, false, ◌||◌}
 use denote.Enum.Bare.{sameb}
 use Rattle.rx_cppflags.specs.contracts.meanings.Meaning.{the_type}
 use Rattle.rx_cppflags.specs.declared.meanings.Meaning.{Meaning}
-use Rattle.rx_cppflags.specs.declared.meanings.Meaning.TheVariants.{Refused, Nothing, CSource, CppSource, OtherSource, Output, DependencyFile, Dependencies, SplitDebug, SideFile, CompileOnly}
+use Rattle.rx_cppflags.specs.declared.meanings.Meaning.TheVariants.{CSource, CppSource, OtherSource, QuoteDir, Dir, SystemDir, AfterDir, Forced, Sysroot, Output, DependencyFile, SideFile}
 
 -- whether two meanings are one
 abbrev pub same : Meaning → Meaning → Bool
@@ -15,13 +15,18 @@ names_output meaning = same meaning Output || same meaning DependencyFile || sam
 
 -- whether the value is a path
 abbrev pub names_path : Meaning → Bool
-names_path Refused = false
-names_path Nothing = false
-names_path OtherSource = false
-names_path Dependencies = false
-names_path SplitDebug = false
-names_path CompileOnly = false
-names_path meaning = true
+names_path CSource = true
+names_path CppSource = true
+names_path QuoteDir = true
+names_path Dir = true
+names_path SystemDir = true
+names_path AfterDir = true
+names_path Forced = true
+names_path Sysroot = true
+names_path Output = true
+names_path DependencyFile = true
+names_path SideFile = true
+names_path meaning = false
 
 -- whether the value is a source, of whatever language
 abbrev pub names_source : Meaning → Bool

@@ -1,9 +1,11 @@
 -- The paths that values name. A path is the list of its bytes.
 use Rattle.std.specs.Prelude.{ℕ, Bool, not, ◌&&◌, ◌||◌, List, Option, Some, None, Result, Ok, Err, nat_eq, if◌then◌else◌, codes}
 use Rattle.std.specs.List.{starts_with, list_any}
+use Rattle.std.specs.Str.{bytes_eq}
 use Rattle.rx_base.specs.Paths.{is_below, join_of}
 use Rattle.rx_cppflags.specs.declared.meanings.Meaning.{Meaning}
-use Rattle.rx_cppflags.specs.Meanings.{names_output, names_path}
+use Rattle.rx_cppflags.specs.declared.meanings.Meaning.TheVariants.{Dir}
+use Rattle.rx_cppflags.specs.Meanings.{same, names_output, names_path}
 
 -- a result's value, if it has one
 abbrev pub value_of : {A E : Type 0} → Result A E → Option A
@@ -27,9 +29,13 @@ abbrev pub kept : (List ℕ → Bool) → Option (List ℕ) → Option (List ℕ
 kept test None = None
 kept test (Some path) = if test path then Some path else None
 
+-- Whether a directory to search is none: `-I-` takes the directory of the including file away.
+abbrev pub is_barrier : Meaning → List ℕ → Bool
+is_barrier meaning text = same meaning Dir && bytes_eq text (codes "-")
+
 -- the path that a value names, as what it means allows
 abbrev pub path_of : List ℕ → List (List ℕ) → Meaning → List ℕ → Option (List ℕ)
 path_of directory inputs meaning text =
     if names_output meaning then kept (is_writable directory inputs) (path_from directory text)
-    else if names_path meaning then path_from directory text
+    else if names_path meaning && not (is_barrier meaning text) then path_from directory text
     else None

@@ -4,11 +4,11 @@ use Rattle.std.specs.List.{AllByRecursion}
 use Rattle.rx_base.specs.Paths.{is_below}
 use Rattle.rx_base.specs.SortedPaths.{sorted_paths}
 use Rattle.rx_world.specs.declared.commands.Command.{Command}
-use Rattle.rx_cppflags.specs.declared.meanings.Meaning.TheVariants.{CSource, QuoteDir, Dir, SystemDir, AfterDir, Forced, Sysroot, Output, DependencyFile, CompileOnly}
+use Rattle.rx_cppflags.specs.declared.meanings.Meaning.TheVariants.{QuoteDir, Dir, SystemDir, AfterDir, Forced, Sysroot, Output, DependencyFile, CompileOnly}
 use Rattle.rx_cppflags.specs.declared.readings.Reading.{Reading}
 use Rattle.rx_cppflags.specs.declared.readings.Reading.TheVariants.{Compile, LocalOnly}
 use Rattle.rx_cppflags.specs.Pieces.{Saying, sayings}
-use Rattle.rx_cppflags.specs.Found.{has_meaning, has_meaning_again, has_meaning_once, outputs_of, outside_of, paths_of, sources_of, texts_of, walked_of}
+use Rattle.rx_cppflags.specs.Found.{has_meaning, has_meaning_again, has_meaning_once, is_c, outputs_of, outside_of, paths_of, sources_of, texts_of, walked_of}
 use Rattle.rx_cppflags.specs.LocalOutputs.{local_outputs}
 use Rattle.rx_cppflags.specs.SideFiles.{with_sides}
 use Rattle.rx_cppflags.specs.Variables.{first_variable}
@@ -29,7 +29,7 @@ compile_of said source =
     (walked_of said)
     (paths_of Sysroot said)
     (sorted_paths (outputs_of said))
-    (has_meaning CSource said)
+    (is_c said)
 
 -- unless its environment has one of these variables; only the machine itself can run it then, and it has these outputs
 abbrev pub unless_variable : Option (List ℕ) → List (List ℕ) → Reading → Reading

@@ -1,12 +1,12 @@
 -- The table of compile words, and how a word is read by it.
 use Rattle.std.specs.Prelude.{ℕ, ◌==◌, Bool, true, false, not, ◌&&◌, List, [], ◌∷◌, length, drop, Option, Some, None, nat_eq, if◌then◌else◌, codes}
-use Rattle.std.specs.List.{starts_with, ends_with, list_any}
+use Rattle.std.specs.List.{starts_with, ends_with}
 use Rattle.std.specs.Str.{bytes_eq}
 use Rattle.std.specs.Borrow.{Bor}
 use Rattle.rx_cppflags.specs.declared.meanings.Form.{Form}
-use Rattle.rx_cppflags.specs.declared.meanings.Form.TheVariants.{Alone, Next, Joined, JoinedOrNext, JoinedWithoutEquals, Ending}
+use Rattle.rx_cppflags.specs.declared.meanings.Form.TheVariants.{Alone, Next, Joined, JoinedOrNext, Ending}
 use Rattle.rx_cppflags.specs.declared.meanings.Meaning.{Meaning}
-use Rattle.rx_cppflags.specs.declared.meanings.Meaning.TheVariants.{Refused, Nothing, CSource, CppSource, OtherSource, QuoteDir, Dir, SystemDir, AfterDir, Forced, Sysroot, Output, DependencyFile, Dependencies, SplitDebug, CompileOnly}
+use Rattle.rx_cppflags.specs.declared.meanings.Meaning.TheVariants.{Refused, Nothing, Machine, Target, Language, Feature, Print, Assembler, Preprocessor, OneWord, CSource, CppSource, OtherSource, QuoteDir, Dir, SystemDir, AfterDir, Forced, Sysroot, Output, DependencyFile, Dependencies, SplitDebug, CompileOnly}
 
 -- A spelling, the words that it stands for, and what they say.
 pub record Row : Type 0 where
@@ -24,90 +24,141 @@ row spelling form meaning = record { spelling = spelling; form = form; meaning =
 abbrev pub rows : List Row
 rows =
     row (codes "-I") JoinedOrNext Dir ∷
+    row (codes "--include-directory") Next Dir ∷
+    row (codes "--include-directory=") Joined Dir ∷
     row (codes "-iquote") JoinedOrNext QuoteDir ∷
+    row (codes "-isystem-after") Next AfterDir ∷
     row (codes "-isystem") JoinedOrNext SystemDir ∷
+    row (codes "-cxx-isystem") JoinedOrNext SystemDir ∷
     row (codes "-idirafter") JoinedOrNext AfterDir ∷
     row (codes "-include") Next Forced ∷
     row (codes "-imacros") Next Forced ∷
+    row (codes "--include") Next Forced ∷
+    row (codes "--imacros") Next Forced ∷
+    row (codes "--include=") Joined Forced ∷
+    row (codes "--imacros=") Joined Forced ∷
+    row (codes "--sysroot") Next Sysroot ∷
+    row (codes "--sysroot=") Joined Sysroot ∷
     row (codes "-o") JoinedOrNext Output ∷
     row (codes "-MF") JoinedOrNext DependencyFile ∷
     row (codes "-MD") Alone Dependencies ∷
     row (codes "-MMD") Alone Dependencies ∷
     row (codes "-c") Alone CompileOnly ∷
-    row (codes "-MP") Alone Nothing ∷
-    row (codes "-pipe") Alone Nothing ∷
-    row (codes "-pthread") Alone Nothing ∷
+    row (codes "-x") JoinedOrNext Language ∷
+    row (codes "-D") JoinedOrNext Nothing ∷
+    row (codes "-U") JoinedOrNext Nothing ∷
+    row (codes "--define-macro") Next Nothing ∷
+    row (codes "--define-macro=") Joined Nothing ∷
+    row (codes "--undefine-macro") Next Nothing ∷
+    row (codes "--undefine-macro=") Joined Nothing ∷
+    row (codes "-Wp,-MT,") Joined OneWord ∷
+    row (codes "-Wp,-MQ,") Joined OneWord ∷
+    row (codes "-Wp,") Joined Preprocessor ∷
+    row (codes "-Wa,") Joined Assembler ∷
+    row (codes "-Xassembler") Next Assembler ∷
     row (codes "-w") Alone Nothing ∷
     row (codes "-v") Alone Nothing ∷
+    row (codes "-p") Alone Nothing ∷
+    row (codes "-pg") Alone Nothing ∷
+    row (codes "-s") Alone Nothing ∷
+    row (codes "-pipe") Alone Nothing ∷
+    row (codes "-pthread") Alone Nothing ∷
     row (codes "-ansi") Alone Nothing ∷
+    row (codes "-trigraphs") Alone Nothing ∷
+    row (codes "-undef") Alone Nothing ∷
     row (codes "-pedantic") Alone Nothing ∷
     row (codes "-pedantic-errors") Alone Nothing ∷
     row (codes "-nostdinc") Alone Nothing ∷
     row (codes "-nostdinc++") Alone Nothing ∷
+    row (codes "-nobuiltininc") Alone Nothing ∷
+    row (codes "-nostdlib") Alone Nothing ∷
+    row (codes "-nostdlib++") Alone Nothing ∷
+    row (codes "-nodefaultlibs") Alone Nothing ∷
+    row (codes "-nostartfiles") Alone Nothing ∷
+    row (codes "-nolibc") Alone Nothing ∷
     row (codes "-no-canonical-prefixes") Alone Nothing ∷
-    row (codes "-D") JoinedOrNext Nothing ∷
-    row (codes "-U") JoinedOrNext Nothing ∷
+    row (codes "-canonical-prefixes") Alone Nothing ∷
+    row (codes "-static") Alone Nothing ∷
+    row (codes "-shared") Alone Nothing ∷
+    row (codes "-pie") Alone Nothing ∷
+    row (codes "-no-pie") Alone Nothing ∷
+    row (codes "-rdynamic") Alone Nothing ∷
+    row (codes "-H") Alone Nothing ∷
+    row (codes "-P") Alone Nothing ∷
+    row (codes "-C") Alone Nothing ∷
+    row (codes "-CC") Alone Nothing ∷
+    row (codes "-Q") Alone Nothing ∷
+    row (codes "-Qn") Alone Nothing ∷
+    row (codes "-Qunused-arguments") Alone Nothing ∷
+    row (codes "-integrated-as") Alone Nothing ∷
+    row (codes "-no-integrated-as") Alone Nothing ∷
+    row (codes "-emit-llvm") Alone Nothing ∷
+    row (codes "-MP") Alone Nothing ∷
+    row (codes "--ansi") Alone Nothing ∷
+    row (codes "--pedantic") Alone Nothing ∷
+    row (codes "--pedantic-errors") Alone Nothing ∷
+    row (codes "--verbose") Alone Nothing ∷
+    row (codes "--no-warnings") Alone Nothing ∷
+    row (codes "--all-warnings") Alone Nothing ∷
+    row (codes "--extra-warnings") Alone Nothing ∷
+    row (codes "--trigraphs") Alone Nothing ∷
+    row (codes "--no-standard-includes") Alone Nothing ∷
     row (codes "-MT") Next Nothing ∷
     row (codes "-MQ") Next Nothing ∷
     row (codes "-mllvm") Next Nothing ∷
-    row (codes "-target") Next Nothing ∷
+    row (codes "-mthread-model") Next Nothing ∷
+    row (codes "-arch") Next Nothing ∷
     row (codes "--param") Next Nothing ∷
-    row (codes "-Wa,") Joined Refused ∷
-    row (codes "-Wp,") Joined Refused ∷
-    row (codes "-Wl,") Joined Refused ∷
+    row (codes "-Xlinker") Next Nothing ∷
+    row (codes "-z") Next Nothing ∷
+    row (codes "-u") Next Nothing ∷
+    row (codes "-target") Next Target ∷
+    row (codes "--target=") Joined Target ∷
+    row (codes "-L") JoinedOrNext Nothing ∷
+    row (codes "-l") JoinedOrNext Nothing ∷
+    row (codes "-R") Joined Nothing ∷
+    row (codes "-std=") Joined Nothing ∷
+    row (codes "--std=") Joined Nothing ∷
+    row (codes "-stdlib=") Joined Nothing ∷
+    row (codes "-rtlib=") Joined Nothing ∷
+    row (codes "-unwindlib=") Joined Nothing ∷
+    row (codes "-static-") Joined Nothing ∷
+    row (codes "-shared-") Joined Nothing ∷
+    row (codes "--param=") Joined Nothing ∷
+    row (codes "--optimize") Joined Nothing ∷
+    row (codes "--warn-") Joined Nothing ∷
+    row (codes "--no-warn-") Joined Nothing ∷
     row (codes "-W") Joined Nothing ∷
+    row (codes "-Ob") Joined Refused ∷
     row (codes "-O") Joined Nothing ∷
     row (codes "-gsplit-dwarf") Alone SplitDebug ∷
     row (codes "-gsplit-dwarf=") Joined Refused ∷
+    row (codes "-gcc") Joined Refused ∷
+    row (codes "-gen") Joined Refused ∷
+    row (codes "-gmodules") Joined Refused ∷
     row (codes "-g") Joined Nothing ∷
-    row (codes "-std=") Joined Nothing ∷
-    row (codes "-stdlib=") Joined Nothing ∷
-    row (codes "-m") Joined Nothing ∷
-    row (codes "--target=") Joined Nothing ∷
-    row (codes "--sysroot=") Joined Sysroot ∷
-    row (codes "-fmodule") Joined Refused ∷
-    row (codes "-fplugin") Joined Refused ∷
-    row (codes "-fprofile") Joined Refused ∷
-    row (codes "-fpch") Joined Refused ∷
-    row (codes "-finclude") Joined Refused ∷
-    row (codes "-fsyntax-only") Alone Refused ∷
-    row (codes "-fbranch-probabilities") Alone Refused ∷
-    row (codes "-fauto-profile") Joined Refused ∷
-    row (codes "-fcreate-profile") Alone Refused ∷
-    row (codes "-fcs-profile") Joined Refused ∷
-    row (codes "-ftest-coverage") Alone Refused ∷
+    row (codes "-march=native") Joined Refused ∷
+    row (codes "-mcpu=native") Joined Refused ∷
+    row (codes "-mtune=native") Joined Refused ∷
+    row (codes "-mod") Joined Refused ∷
+    row (codes "-mul") Joined Refused ∷
+    row (codes "-m") Joined Machine ∷
     row (codes "-fstack-usage") Alone Refused ∷
-    row (codes "-fcallgraph-info") Joined Refused ∷
-    row (codes "-ftime-trace") Joined Refused ∷
-    row (codes "-fdump-") Joined Refused ∷
-    row (codes "-fsave-optimization-record") Joined Refused ∷
-    row (codes "-fcompare-debug") Joined Refused ∷
-    row (codes "-fproc-stat-report") Joined Refused ∷
-    row (codes "-fhelp") Joined Refused ∷
-    row (codes "-fversion") Alone Refused ∷
-    row (codes "-ftarget-help") Alone Refused ∷
-    row (codes "-f") JoinedWithoutEquals Nothing ∷
-    row (codes "-fdebug-prefix-map=") Joined Nothing ∷
-    row (codes "-ffile-prefix-map=") Joined Nothing ∷
-    row (codes "-fmacro-prefix-map=") Joined Nothing ∷
-    row (codes "-fdebug-compilation-dir=") Joined Nothing ∷
-    row (codes "-ffile-compilation-dir=") Joined Nothing ∷
-    row (codes "-fvisibility=") Joined Nothing ∷
-    row (codes "-fdiagnostics-color=") Joined Nothing ∷
-    row (codes "-ferror-limit=") Joined Nothing ∷
-    row (codes "-fmax-errors=") Joined Nothing ∷
-    row (codes "-ftemplate-depth=") Joined Nothing ∷
-    row (codes "-ffp-contract=") Joined Nothing ∷
-    row (codes "-fsanitize=") Joined Nothing ∷
+    row (codes "-ftime-trace") Alone Refused ∷
+    row (codes "-finput-charset=UTF-8") Alone Nothing ∷
+    row (codes "-finput-charset=utf-8") Alone Nothing ∷
+    row (codes "-fopt-info") Joined Print ∷
+    row (codes "-fdiagnostics-format=") Joined Print ∷
+    row (codes "-f") Joined Feature ∷
     row (codes "@") Joined Refused ∷
     row (codes ".c") Ending CSource ∷
     row (codes ".cc") Ending CppSource ∷
+    row (codes ".cp") Ending CppSource ∷
     row (codes ".cpp") Ending CppSource ∷
     row (codes ".cxx") Ending CppSource ∷
+    row (codes ".c++") Ending CppSource ∷
     row (codes ".C") Ending CppSource ∷
-    row (codes ".cp") Ending OtherSource ∷
-    row (codes ".c++") Ending OtherSource ∷
-    row (codes ".CPP") Ending OtherSource ∷
+    row (codes ".CPP") Ending CppSource ∷
     row (codes ".m") Ending OtherSource ∷
     row (codes ".mm") Ending OtherSource ∷
     row (codes ".i") Ending OtherSource ∷
@@ -124,7 +175,6 @@ fits_as Alone spelling word = bytes_eq word spelling
 fits_as Next spelling word = bytes_eq word spelling
 fits_as Joined spelling word = starts_with nat_eq word spelling
 fits_as JoinedOrNext spelling word = starts_with nat_eq word spelling
-fits_as JoinedWithoutEquals spelling word = starts_with nat_eq word spelling && not (list_any (λ b. b == 61) word)
 fits_as Ending spelling word = ends_with nat_eq word spelling && not (starts_with nat_eq word (codes "-"))
 
 abbrev pub fits : List ℕ → Row → Bool

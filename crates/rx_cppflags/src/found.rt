@@ -2,12 +2,13 @@
 
 ghost use Rattle.std.specs.Prelude.{◌≡◌, ◌++◌, IfOk, option_map};
 ghost use Rattle.rx_base.specs.SortedPaths.{AreSorted};
-ghost use Rattle.rx_cppflags.specs.Found.{first_outside, has_meaning, has_meaning_again, has_meaning_once, is_in_table, outputs_of, path_for, paths_of, sources_of, texts_of, walked_for, walked_of};
+ghost use Rattle.rx_cppflags.specs.Found.{first_outside, has_meaning, has_meaning_again, has_meaning_once, is_c, is_in_table, outputs_of, path_for, paths_of, sources_of, texts_of, walked_for, walked_of};
 
 use crate::endings::directory_of;
 use crate::meanings::Meaning;
 use crate::pieces::Piece;
 use crate::searches::is_apart;
+use crate::values::takes_value;
 use rx_base::{Items, NoMemory, RelPath, Text, TryClone};
 use std::alloc::Global;
 
@@ -16,6 +17,16 @@ pub(crate) fn has_meaning(pieces: &[Piece], meaning: Meaning) -> bool
     ensures { result ≡ has_meaning meaning pieces.now }
 {
     pieces.iter().any(|piece| piece.meaning.is(meaning))
+}
+
+/// Whether the source is C: by its name, or by a word for its language.
+pub(crate) fn is_c(pieces: &[Piece]) -> bool
+    ensures { result ≡ is_c pieces.now }
+{
+    pieces.iter().any(|piece| {
+        piece.meaning.is(Meaning::CSource)
+            || (piece.meaning.is(Meaning::Language) && piece.text == "c")
+    })
 }
 
 /// The paths of this meaning.
@@ -170,6 +181,6 @@ fn is_in_table(has_file: bool, has_side: bool, outputs: &[RelPath], piece: &Piec
     } else if piece.meaning.is(Meaning::SplitDebug) {
         has_side
     } else {
-        !(piece.meaning.is(Meaning::Refused) || piece.meaning.is(Meaning::OtherSource))
+        takes_value(piece.meaning, piece.text)
     }
 }

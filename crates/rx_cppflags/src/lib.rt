@@ -3,6 +3,7 @@
 #![tactic(auto)]
 
 mod endings;
+mod features;
 mod found;
 mod local_outputs;
 mod meanings;
@@ -12,6 +13,7 @@ mod readings;
 mod rows;
 mod searches;
 mod side_files;
+mod values;
 mod variables;
 
 pub use readings::{Reading, read_command};

@@ -11,8 +11,6 @@ pub(crate) enum Form {
     Joined,
     /// `Next` for the spelling itself, and `Joined` for longer words.
     JoinedOrNext,
-    /// `Joined`, for words without `=`.
-    JoinedWithoutEquals,
     /// Words that end in the spelling and don't begin with `-`; the whole word is the value.
     Ending,
 }
@@ -24,6 +22,22 @@ pub(crate) enum Meaning {
     Refused,
     /// Nothing that is read here.
     Nothing,
+    /// The machine that is compiled for, by a word that begins with `-m`.
+    Machine,
+    /// The machine that is compiled for, as a whole.
+    Target,
+    /// The language of the source.
+    Language,
+    /// A way to compile, by a word that begins with `-f`.
+    Feature,
+    /// What the compiler prints.
+    Print,
+    /// Words for the assembler, between commas.
+    Assembler,
+    /// Words for the preprocessor, between commas, of which none names a file.
+    Preprocessor,
+    /// One word for the preprocessor, behind another one.
+    OneWord,
     /// A source in C.
     CSource,
     /// A source in C++.
@@ -79,14 +93,19 @@ impl Meaning {
     pub(crate) fn names_path(self) -> bool
         ensures { result ≡ names_path self }
     {
-        !matches!(
+        matches!(
             self,
-            Meaning::Refused
-                | Meaning::Nothing
-                | Meaning::OtherSource
-                | Meaning::Dependencies
-                | Meaning::SplitDebug
-                | Meaning::CompileOnly
+            Meaning::CSource
+                | Meaning::CppSource
+                | Meaning::QuoteDir
+                | Meaning::Dir
+                | Meaning::SystemDir
+                | Meaning::AfterDir
+                | Meaning::Forced
+                | Meaning::Sysroot
+                | Meaning::Output
+                | Meaning::DependencyFile
+                | Meaning::SideFile
         )
     }
 

@@ -2,7 +2,7 @@
 
 ghost use Rattle.std.specs.Prelude.{◌≡◌, IfOk};
 ghost use Rattle.rx_base.specs.SortedPaths.{AreSorted};
-ghost use Rattle.rx_cppflags.specs.Places.{is_replaced, is_writable, path_from, path_of};
+ghost use Rattle.rx_cppflags.specs.Places.{is_barrier, is_replaced, is_writable, path_from, path_of};
 
 use crate::meanings::Meaning;
 use crate::searches::is_above_one;
@@ -21,7 +21,7 @@ pub(crate) fn path_of(
     ensures { IfOk result (λ path. path ≡ path_of directory.now inputs.now meaning text.now) }
 {
     if !meaning.names_output() {
-        if !meaning.names_path() {
+        if !meaning.names_path() || is_barrier(meaning, text) {
             return Ok(None);
         }
         return path_from(alloc, directory, text);
@@ -30,6 +30,13 @@ pub(crate) fn path_of(
         Some(path) if is_writable(&path, directory, inputs) => Ok(Some(path)),
         _ => Ok(None),
     }
+}
+
+/// Whether a directory to search is none: `-I-` takes the directory of the including file away.
+fn is_barrier(meaning: Meaning, text: &str) -> bool
+    ensures { result ≡ is_barrier meaning text.now }
+{
+    meaning.is(Meaning::Dir) && text == "-"
 }
 
 /// The path that a value names on from the working directory.

@@ -8,7 +8,7 @@ ghost use Rattle.rx_cppflags.specs.LocalOutputs.{local_outputs};
 ghost use Rattle.rx_cppflags.specs.Readings.{HasSafeOutputs, compile_from, compile_of, first_word, has_one_object, only_path, reading_from, reading_of};
 
 use crate::found::{
-    first_outside, has_meaning, has_meaning_again, has_meaning_once, outputs_of, paths_of,
+    first_outside, has_meaning, has_meaning_again, has_meaning_once, is_c, outputs_of, paths_of,
     sources_of, texts_of, walked_of,
 };
 use crate::local_outputs::local_outputs;
@@ -201,7 +201,7 @@ fn compile(alloc: Global, pieces: &[Piece], source: RelPath) -> Result<Reading, 
         walked: walked_of(alloc, pieces)?,
         sysroots: paths_of(alloc, pieces, Meaning::Sysroot, Items::new(alloc))?,
         outputs: sort_paths(outputs_of(alloc, pieces, Items::new(alloc))?)?,
-        is_c: has_meaning(pieces, Meaning::CSource),
+        is_c: is_c(pieces),
     })
 }
 
