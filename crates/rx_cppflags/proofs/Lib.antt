@@ -2,7 +2,7 @@ pub mod Behind
 pub mod LastSplit
 pub mod ListedWords
 pub mod Lists
-pub mod LocalSteps
+pub mod ReadingSteps
 pub mod SafeOutputs
 pub mod SameInputs
 pub mod SearchLemmas

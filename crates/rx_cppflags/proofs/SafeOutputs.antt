@@ -1,5 +1,5 @@
 -- The outputs of a compile command are safe.
-use Rattle.std.proofs.Common.{◌≡◌, ℕ, Bool, true, false, not, ◌&&◌, ◌||◌, inl, inr, List, [], ◌∷◌, ◌++◌, Option, Some, None, Result, Ok, Err, IfOk, refl, sym, ◌∙◌, subst, cond, drop, map}
+use Rattle.std.proofs.Common.{◌≡◌, ℕ, Bool, true, false, not, ◌||◌, inl, inr, List, [], ◌∷◌, ◌++◌, Option, Some, None, Result, Ok, Err, IfOk, refl, sym, ◌∙◌, subst, cond, drop, map}
 use Rattle.std.specs.List.{AllByRecursion, find, list_any}
 use Rattle.std.specs.Option.{option_map}
 use Rattle.std.proofs.lemmas.Bool.{cond_both, and_parts, cases_Bool, not-true, or_parts, or_right}
@@ -7,17 +7,18 @@ use Rattle.rx_base.specs.Paths.{is_below}
 use Rattle.rx_base.specs.SortedPaths.{sorted_paths}
 use Rattle.rx_world.specs.declared.commands.Command.{Command}
 use Rattle.rx_cppflags.specs.declared.meanings.Meaning.{Meaning}
-use Rattle.rx_cppflags.specs.declared.meanings.Meaning.TheVariants.{Output, DependencyFile, SideFile}
+use Rattle.rx_cppflags.specs.declared.meanings.Meaning.TheVariants.{Output, Made}
 use Rattle.rx_cppflags.specs.declared.readings.Reading.{Reading}
 use Rattle.rx_cppflags.specs.declared.readings.Reading.TheVariants.{LocalOnly}
 use Rattle.rx_cppflags.specs.Meanings.{same, names_output}
 use Rattle.rx_cppflags.specs.Places.{is_writable, kept, path_from, path_of}
 use Rattle.rx_cppflags.specs.Rows.{Row, row_for, own_value, takes_next}
 use Rattle.rx_cppflags.specs.Pieces.{Saying, said_by, saying, sayings_after, uses_next, with_next}
-use Rattle.rx_cppflags.specs.Found.{has_meaning, is_apart, is_in_table, outputs_of, outside_of, path_for, paths_of, sources_of}
-use Rattle.rx_cppflags.specs.SideFiles.{side_texts}
+use Rattle.rx_cppflags.specs.Found.{outputs_of, path_for, paths_of, sources_of}
+use Rattle.rx_cppflags.specs.Made.{made_texts}
+use Rattle.rx_cppflags.specs.Outside.{is_apart, is_in_table, outside_of}
 use Rattle.rx_cppflags.specs.Variables.{first_variable}
-use Rattle.rx_cppflags.specs.LocalOutputs.{apart_paths, local_outputs, made_texts, written_paths}
+use Rattle.rx_cppflags.specs.LocalOutputs.{apart_paths, local_outputs}
 use Rattle.rx_cppflags.specs.Readings.{HasSafeOutputs, IsSafeOutput, all_said, compile_from, compile_of, first_word, has_one_object, only_path, reading_of, reading_unless, unless_variable}
 use Rattle.rx_cppflags.proofs.Lists.{all_pass, each, none_passes, of_passing, of_sorted, with_option}
 use Rattle.rx_base.proofs.Lists.{All-append, All-back, All-front, All-weaken}
@@ -44,14 +45,14 @@ placed d inputs false [] = tt
 placed d inputs true (word ∷ others) = placed d inputs false others
 placed d inputs false (word ∷ others) = (said_placed d inputs (row_for word) word others, placed d inputs (uses_next (row_for word) word) others)
 
-sides_placed : (d : List ℕ) (inputs texts : List (List ℕ)) → AllByRecursion (λ s. s.path ≡ path_of d inputs s.meaning s.text) (map (λ text. saying d inputs SideFile text text) texts)
-sides_placed d inputs [] = tt
-sides_placed d inputs (text ∷ texts) = (refl, sides_placed d inputs texts)
+made_placed : (d : List ℕ) (inputs texts : List (List ℕ)) → AllByRecursion (λ s. s.path ≡ path_of d inputs s.meaning s.text) (map (λ text. saying d inputs Made text text) texts)
+made_placed d inputs [] = tt
+made_placed d inputs (text ∷ texts) = (refl, made_placed d inputs texts)
 
 all_placed : (d : List ℕ) (inputs words : List (List ℕ)) → AllByRecursion (λ s. s.path ≡ path_of d inputs s.meaning s.text) (all_said d inputs words)
 all_placed d inputs words =
     let said : List Saying = sayings_after d inputs false words in
-    All-append (λ s. s.path ≡ path_of d inputs s.meaning s.text) said (map (λ text. saying d inputs SideFile text text) (side_texts said)) (placed d inputs false words) (sides_placed d inputs (side_texts said))
+    All-append (λ s. s.path ≡ path_of d inputs s.meaning s.text) said (map (λ text. saying d inputs Made text text) (made_texts said)) (placed d inputs false words) (made_placed d inputs (made_texts said))
 
 -- ---- what is known of each word in the table
 
@@ -75,12 +76,18 @@ kept_passes test (Some found) path e = passed test path (test found) found refl 
 abbrev IsWritten : List ℕ → List (List ℕ) → List (List ℕ) → List ℕ → Type 0
 IsWritten d inputs outputs path = (is_writable d inputs path ≡ true) × (is_apart outputs path ≡ true)
 
-written : (d : List ℕ) (inputs outputs : List (List ℕ)) (has_file has_side : Bool) (s : Saying) → is_in_table has_file has_side outputs s ≡ true → s.path ≡ path_of d inputs s.meaning s.text
-    → (path : List ℕ) → names_output s.meaning ≡ true → s.path ≡ Some path → IsWritten d inputs outputs path
-written d inputs outputs has_file has_side s t p path n e =
+-- the path of each word that names an output may be written
+writable : (d : List ℕ) (inputs : List (List ℕ)) (s : Saying) → s.path ≡ path_of d inputs s.meaning s.text
+    → (path : List ℕ) → names_output s.meaning ≡ true → s.path ≡ Some path → is_writable d inputs path ≡ true
+writable d inputs s p path n e =
     let from_text : kept (is_writable d inputs) (path_from d s.text) ≡ Some path = sym (rw n at p) ∙ e in
+    kept_passes (is_writable d inputs) (path_from d s.text) path from_text
+
+written : (d : List ℕ) (inputs outputs : List (List ℕ)) (all : List Saying) (s : Saying) → is_in_table all outputs s ≡ true → s.path ≡ path_of d inputs s.meaning s.text
+    → (path : List ℕ) → names_output s.meaning ≡ true → s.path ≡ Some path → IsWritten d inputs outputs path
+written d inputs outputs all s t p path n e =
     let apart : is_apart outputs path ≡ true = rw (n, e) at t in
-    (kept_passes (is_writable d inputs) (path_from d s.text) path from_text, apart)
+    (writable d inputs s p path n e, apart)
 
 -- ---- from the words to the outputs
 
@@ -100,20 +107,15 @@ each_path meaning P (s ∷ said) p = with_option P (path_for meaning s) (paths_o
 is_output : (m : Meaning) → same m Output ≡ true → names_output m ≡ true
 is_output m e = rw e refl
 
-is_dependency_file : (m : Meaning) → same m DependencyFile ≡ true → names_output m ≡ true
-is_dependency_file m e = rw (e, or_right (same m Output) true refl) refl
-
-is_side_file : (m : Meaning) → same m SideFile ≡ true → names_output m ≡ true
-is_side_file m e = rw e (or_right (same m Output || same m DependencyFile) true refl)
+is_made : (m : Meaning) → same m Made ≡ true → names_output m ≡ true
+is_made m e = rw e (or_right (same m Output) true refl)
 
 each_output : (P : List ℕ → Type 0) (said : List Saying) → AllByRecursion (λ s. (path : List ℕ) → names_output s.meaning ≡ true → s.path ≡ Some path → P path) said
     → AllByRecursion P (outputs_of said)
 each_output P said p =
     let named : (meaning : Meaning) → ((m : Meaning) → same m meaning ≡ true → names_output m ≡ true) → AllByRecursion P (paths_of meaning said) = λ meaning names.
     each_path meaning P said (each _ (λ _. Unit {0}) _ (λ s f _ path e. f path (names s.meaning e)) said p (each _ _ (λ _. Unit {0}) (λ _ _ _. tt) said p p)) in
-    All-append P (paths_of Output said ++ paths_of DependencyFile said) (paths_of SideFile said)
-    (All-append P (paths_of Output said) (paths_of DependencyFile said) (named Output is_output) (named DependencyFile is_dependency_file))
-    (named SideFile is_side_file)
+    All-append P (paths_of Output said) (paths_of Made said) (named Output is_output) (named Made is_made)
 
 -- neither above nor below
 abbrev Far : List ℕ → List ℕ → Type 0
@@ -140,14 +142,6 @@ safe command inputs named left path w keeps =
 
 -- ---- the outputs of a command that only the machine itself can run
 
-written_each : (command : Command) (inputs texts : List (List ℕ)) → AllByRecursion (λ path. is_writable command.working_directory inputs path ≡ true) (written_paths command inputs texts)
-written_each command inputs [] = tt
-written_each command inputs (text ∷ texts) =
-    let writable : List ℕ → Bool = is_writable command.working_directory inputs in
-    with_option (λ path. writable path ≡ true) (path_of command.working_directory inputs Output text) (written_paths command inputs texts)
-    (λ path e. kept_passes writable (path_from command.working_directory text) path e)
-    (written_each command inputs texts)
-
 left_safe : (command : Command) (inputs named : List (List ℕ)) → AllByRecursion (λ path. is_writable command.working_directory inputs path ≡ true) named
     → AllByRecursion (IsSafeOutput command inputs (sorted_paths (apart_paths command.outputs named))) (sorted_paths (apart_paths command.outputs named))
 left_safe command inputs named w =
@@ -158,10 +152,15 @@ left_safe command inputs named w =
     (λ path writable apart. safe command inputs named left path (writable, apart) (λ far. of_sorted (Far path) (apart_paths command.outputs named) (of_passing (Far path) test named far)))
     (apart_paths command.outputs named) (of_passing (λ path. is_writable command.working_directory inputs path ≡ true) test named w) (all_pass test named))
 
-local_safe : (command : Command) (inputs : List (List ℕ)) (said : List Saying) (word : List ℕ) → HasSafeOutputs command inputs (LocalOnly word (local_outputs command inputs said))
-local_safe command inputs said word =
-    let texts : List (List ℕ) = made_texts said in
-    left_safe command inputs (written_paths command inputs texts) (written_each command inputs texts)
+local_safe : (command : Command) (inputs : List (List ℕ)) (said : List Saying) → AllByRecursion (λ s. s.path ≡ path_of command.working_directory inputs s.meaning s.text) said
+    → (word : List ℕ) → HasSafeOutputs command inputs (LocalOnly word (local_outputs command said))
+local_safe command inputs said p word =
+    let may_write : List ℕ → Type 0 = λ path. is_writable command.working_directory inputs path ≡ true in
+    left_safe command inputs (outputs_of said)
+    (each_output may_write said
+    (each (λ s. s.path ≡ path_of command.working_directory inputs s.meaning s.text) (λ s. s.path ≡ path_of command.working_directory inputs s.meaning s.text)
+    (λ s. (path : List ℕ) → names_output s.meaning ≡ true → s.path ≡ Some path → may_write path)
+    (λ s q _. writable command.working_directory inputs s q) said p p))
 
 -- ---- the reading
 
@@ -184,15 +183,13 @@ outputs_safe : (command : Command) (inputs : List (List ℕ)) (said : List Sayin
     → outside_of command.outputs said ≡ None
     → AllByRecursion (IsSafeOutput command inputs (sorted_paths (outputs_of said))) (sorted_paths (outputs_of said))
 outputs_safe command inputs said p e =
-    let has_file : Bool = has_meaning DependencyFile said in
-    let has_side : Bool = has_meaning SideFile said in
     let outputs : List (List ℕ) = command.outputs ++ outputs_of said in
-    let inside : AllByRecursion (λ s. is_in_table has_file has_side outputs s ≡ true) said = none_outside (is_in_table has_file has_side outputs) said e in
+    let inside : AllByRecursion (λ s. is_in_table said outputs s ≡ true) said = none_outside (is_in_table said outputs) said e in
     let all_written : AllByRecursion (IsWritten command.working_directory inputs outputs) (outputs_of said) =
     each_output (IsWritten command.working_directory inputs outputs) said
-    (each (λ s. is_in_table has_file has_side outputs s ≡ true) (λ s. s.path ≡ path_of command.working_directory inputs s.meaning s.text)
+    (each (λ s. is_in_table said outputs s ≡ true) (λ s. s.path ≡ path_of command.working_directory inputs s.meaning s.text)
     (λ s. (path : List ℕ) → names_output s.meaning ≡ true → s.path ≡ Some path → IsWritten command.working_directory inputs outputs path)
-    (written command.working_directory inputs outputs has_file has_side) said inside p) in
+    (written command.working_directory inputs outputs said) said inside p) in
     of_sorted (IsSafeOutput command inputs (sorted_paths (outputs_of said))) (outputs_of said)
     (each (IsWritten command.working_directory inputs outputs) (IsWritten command.working_directory inputs outputs) (IsSafeOutput command inputs (sorted_paths (outputs_of said)))
     (λ path w _. safe command inputs (outputs_of said) (sorted_paths (outputs_of said)) path w (λ far. of_sorted (Far path) (outputs_of said) far)) (outputs_of said) all_written all_written)
@@ -208,7 +205,8 @@ pub reading_safe : (command : Command) (inputs : List (List ℕ)) → HasSafeOut
 unfolding reading_of
 reading_safe command inputs =
     let said : List Saying = all_said command.working_directory inputs (drop 1 command.words) in
-    safe_unless command inputs (local_outputs command inputs said) said (local_safe command inputs said) (all_placed command.working_directory inputs (drop 1 command.words)) (outside_of command.outputs said) refl
+    let placed : AllByRecursion (λ s. s.path ≡ path_of command.working_directory inputs s.meaning s.text) said = all_placed command.working_directory inputs (drop 1 command.words) in
+    safe_unless command inputs (local_outputs command said) said (local_safe command inputs said placed) placed (outside_of command.outputs said) refl
 
 pub told_safe : {E : Type 0} (command : Command) (inputs : List (List ℕ)) (result : Result Reading E) → IfOk result (λ reading. reading ≡ reading_of command inputs) → IfOk result (λ reading. HasSafeOutputs command inputs reading)
 told_safe command inputs (Ok reading) e = subst (λ (found : Reading). HasSafeOutputs command inputs found) (sym e) (reading_safe command inputs)

@@ -1,20 +1,21 @@
 -- Lists of paths that have the same members mean the same.
 use Rattle.std.proofs.Common.{◌≡◌, ℕ, Bool, true, false, not, ◌&&◌, List, [], ◌∷◌, ◌++◌, drop, filter, map, Option, Some, None, Result, IfOk, refl, sym, ap, ◌∙◌, subst, cond}
-use Rattle.std.specs.List.{cons_option, find}
+use Rattle.std.specs.List.{find}
 use Rattle.std.specs.Option.{option_map}
 use Rattle.rx_base.specs.Paths.{is_below}
-use Rattle.rx_base.specs.SortedPaths.{HasSameMembers, sorted_paths}
+use Rattle.rx_base.specs.SortedPaths.{HasSameMembers}
 use Rattle.rx_world.specs.declared.commands.Command.{Command}
 use Rattle.rx_cppflags.specs.declared.meanings.Meaning.{Meaning}
-use Rattle.rx_cppflags.specs.declared.meanings.Meaning.TheVariants.{DependencyFile, Output, SideFile}
+use Rattle.rx_cppflags.specs.declared.meanings.Meaning.TheVariants.{Made}
 use Rattle.rx_cppflags.specs.declared.readings.Reading.{Reading}
 use Rattle.rx_cppflags.specs.Places.{is_writable, kept, path_from, path_of}
 use Rattle.rx_cppflags.specs.Rows.{Row, row_for, own_value, takes_next}
 use Rattle.rx_cppflags.specs.Pieces.{Saying, said_by, saying, sayings_after, uses_next, with_next}
-use Rattle.rx_cppflags.specs.Found.{first_outside, has_meaning, is_apart, is_apart_output, is_in_table, outputs_of, outside_of}
-use Rattle.rx_cppflags.specs.LocalOutputs.{apart_paths, local_outputs, made_texts, written_paths}
-use Rattle.rx_cppflags.specs.Readings.{all_said, reading_by, reading_from, reading_of}
-use Rattle.rx_cppflags.specs.SideFiles.{side_texts, with_sides}
+use Rattle.rx_cppflags.specs.Found.{outputs_of}
+use Rattle.rx_cppflags.specs.LocalOutputs.{apart_paths}
+use Rattle.rx_cppflags.specs.Made.{made_texts, with_made}
+use Rattle.rx_cppflags.specs.Outside.{first_outside, is_apart, is_apart_output, is_in_table, outside_of}
+use Rattle.rx_cppflags.specs.Readings.{all_said, reading_from, reading_of}
 use Rattle.rx_base.proofs.Members.{list_any-same_members}
 
 -- ---- inputs
@@ -52,31 +53,20 @@ sayings_same d xs ys false (word ∷ others) same =
     ap (λ (s : Saying). s ∷ sayings_after d xs (uses_next (row_for word) word) others) first
     ∙ ap (λ (ss : List Saying). said_by d ys (row_for word) word others ∷ ss) rest
 
-written_same : (command : Command) (xs ys texts : List (List ℕ)) → HasSameMembers xs ys → written_paths command xs texts ≡ written_paths command ys texts
-written_same command xs ys [] same = refl
-written_same command xs ys (text ∷ texts) same =
-    ap (λ (o : Option (List ℕ)). cons_option o (written_paths command xs texts)) (path_same command.working_directory xs ys Output text same)
-    ∙ ap (cons_option (path_of command.working_directory ys Output text)) (written_same command xs ys texts same)
-
-local_same : (command : Command) (xs ys : List (List ℕ)) (said : List Saying) → HasSameMembers xs ys → local_outputs command xs said ≡ local_outputs command ys said
-local_same command xs ys said same = ap (λ (paths : List (List ℕ)). sorted_paths (apart_paths command.outputs paths)) (written_same command xs ys (made_texts said) same)
-
-sides_same : (d : List ℕ) (xs ys texts : List (List ℕ)) → HasSameMembers xs ys → map (λ text. saying d xs SideFile text text) texts ≡ map (λ text. saying d ys SideFile text text) texts
-sides_same d xs ys [] same = refl
-sides_same d xs ys (text ∷ texts) same = rw (saying_same d xs ys SideFile text text same, sides_same d xs ys texts same) refl
+made_same : (d : List ℕ) (xs ys texts : List (List ℕ)) → HasSameMembers xs ys → map (λ text. saying d xs Made text text) texts ≡ map (λ text. saying d ys Made text text) texts
+made_same d xs ys [] same = refl
+made_same d xs ys (text ∷ texts) same = rw (saying_same d xs ys Made text text same, made_same d xs ys texts same) refl
 
 all_same : (d : List ℕ) (xs ys words : List (List ℕ)) → HasSameMembers xs ys → all_said d xs words ≡ all_said d ys words
 all_same d xs ys words same =
-    ap (λ (said : List Saying). with_sides d xs said) (sayings_same d xs ys false words same)
-    ∙ (let said : List Saying = sayings_after d ys false words in ap (λ (sides : List Saying). said ++ sides) (sides_same d xs ys (side_texts said) same))
+    ap (λ (said : List Saying). with_made d xs said) (sayings_same d xs ys false words same)
+    ∙ (let said : List Saying = sayings_after d ys false words in ap (λ (sides : List Saying). said ++ sides) (made_same d xs ys (made_texts said) same))
 
 -- a command's reading asks only which inputs there are
 pub reading_same : (command : Command) (xs ys : List (List ℕ)) → HasSameMembers xs ys → reading_of command xs ≡ reading_of command ys
 unfolding reading_of
 reading_same command xs ys same =
-    let said : List Saying = all_said command.working_directory ys (drop 1 command.words) in
-    ap (λ (said : List Saying). reading_from command xs said) (all_same command.working_directory xs ys (drop 1 command.words) same)
-    ∙ ap (λ (outputs : List (List ℕ)). reading_by command outputs said) (local_same command xs ys said same)
+    ap (λ (said : List Saying). reading_from command said) (all_same command.working_directory xs ys (drop 1 command.words) same)
 
 -- ---- outputs
 
@@ -101,22 +91,20 @@ find_same : (test other : Saying → Bool) (said : List Saying) → ((s : Saying
 find_same test other [] e = refl
 find_same test other (s ∷ said) e = rw (e s, find_same test other said e) refl
 
-table_same : (has_file has_side : Bool) (xs ys : List (List ℕ)) (s : Saying) → HasSameMembers xs ys → is_in_table has_file has_side xs s ≡ is_in_table has_file has_side ys s
-table_same has_file has_side xs ys s same = rw (apart_same xs ys s.path same) refl
+table_same : (all : List Saying) (xs ys : List (List ℕ)) (s : Saying) → HasSameMembers xs ys → is_in_table all xs s ≡ is_in_table all ys s
+table_same all xs ys s same = rw (apart_same xs ys s.path same) refl
 
 -- which word is the first outside asks only which outputs there are
-pub outside_same : (has_file has_side : Bool) (xs ys : List (List ℕ)) (said : List Saying) → HasSameMembers xs ys → first_outside has_file has_side xs said ≡ first_outside has_file has_side ys said
-outside_same has_file side xs ys said same =
+pub outside_same : (all : List Saying) (xs ys : List (List ℕ)) (said : List Saying) → HasSameMembers xs ys → first_outside all xs said ≡ first_outside all ys said
+outside_same all xs ys said same =
     ap (λ (found : Option Saying). option_map (λ s. s.word) found)
-    (find_same (is_in_table has_file side xs) (is_in_table has_file side ys) said (λ s. table_same has_file side xs ys s same))
+    (find_same (is_in_table all xs) (is_in_table all ys) said (λ s. table_same all xs ys s same))
 
-pub told_outside : (outputs all sorted slice : List (List ℕ)) (said : List Saying) (has_file side : Bool) (word : Option (List ℕ)) → all ≡ outputs ++ outputs_of said → HasSameMembers all sorted → slice ≡ sorted
-    → has_file ≡ has_meaning DependencyFile said → side ≡ has_meaning SideFile said → word ≡ first_outside has_file side slice said → word ≡ outside_of outputs said
-told_outside outputs all sorted slice said has_file side word a same s h k w =
-    w ∙ ap (λ (given : List (List ℕ)). first_outside has_file side given said) s ∙ sym (outside_same has_file side all sorted said same)
-    ∙ ap (λ (given : List (List ℕ)). first_outside has_file side given said) a
-    ∙ ap (λ (b : Bool). first_outside b side (outputs ++ outputs_of said) said) h
-    ∙ ap (λ (b : Bool). first_outside (has_meaning DependencyFile said) b (outputs ++ outputs_of said) said) k
+pub told_outside : (outputs all sorted slice : List (List ℕ)) (said : List Saying) (word : Option (List ℕ)) → all ≡ outputs ++ outputs_of said → HasSameMembers all sorted → slice ≡ sorted
+    → word ≡ first_outside said slice said → word ≡ outside_of outputs said
+told_outside outputs all sorted slice said word a same s w =
+    w ∙ ap (λ (given : List (List ℕ)). first_outside said given said) s ∙ sym (outside_same said all sorted said same)
+    ∙ ap (λ (given : List (List ℕ)). first_outside said given said) a
 
 pub read_again : {E : Type 0} (command : Command) (inputs copy sorted slice : List (List ℕ)) (result : Result Reading E) → copy ≡ inputs → HasSameMembers copy sorted → slice ≡ sorted
     → IfOk result (λ reading. reading ≡ reading_of command slice) → IfOk result (λ reading. reading ≡ reading_of command inputs)

@@ -11,7 +11,7 @@ use Rattle.std.proofs.lemmas.Map.Keys.{sorted_from_all_adjacent}
 use Rattle.std.proofs.Math.Bool.{not-not}
 use Rattle.rx_base.specs.Paths.{is_below}
 use Rattle.rx_base.specs.SortedPaths.{AreSorted, first_above, first_below}
-use Rattle.rx_cppflags.specs.Found.{is_apart}
+use Rattle.rx_cppflags.specs.Outside.{is_apart}
 use Rattle.rx_base.proofs.SortedSearch.{position_is_any}
 
 -- ---- searches

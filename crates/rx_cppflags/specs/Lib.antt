@@ -2,11 +2,12 @@ pub mod Endings
 pub mod Features
 pub mod Found
 pub mod LocalOutputs
+pub mod Made
 pub mod Meanings
+pub mod Outside
 pub mod Pieces
 pub mod Places
 pub mod Readings
 pub mod Rows
-pub mod SideFiles
 pub mod Values
 pub mod Variables

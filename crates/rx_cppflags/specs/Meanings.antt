@@ -3,7 +3,7 @@ use Rattle.std.specs.Prelude.{Bool, true, false, ◌||◌}
 use denote.Enum.Bare.{sameb}
 use Rattle.rx_cppflags.specs.contracts.meanings.Meaning.{the_type}
 use Rattle.rx_cppflags.specs.declared.meanings.Meaning.{Meaning}
-use Rattle.rx_cppflags.specs.declared.meanings.Meaning.TheVariants.{CSource, CppSource, OtherSource, QuoteDir, Dir, SystemDir, AfterDir, Forced, Sysroot, Output, DependencyFile, SideFile}
+use Rattle.rx_cppflags.specs.declared.meanings.Meaning.TheVariants.{CSource, CppSource, OtherSource, QuoteDir, Dir, SystemDir, AfterDir, Forced, Sysroot, Output, SplitDebug, StackUsage, TimeTrace, Made}
 
 -- whether two meanings are one
 abbrev pub same : Meaning → Meaning → Bool
@@ -11,7 +11,7 @@ same meaning other = sameb the_type meaning other
 
 -- whether the value is a path that the compiler writes
 abbrev pub names_output : Meaning → Bool
-names_output meaning = same meaning Output || same meaning DependencyFile || same meaning SideFile
+names_output meaning = same meaning Output || same meaning Made
 
 -- whether the value is a path
 abbrev pub names_path : Meaning → Bool
@@ -24,9 +24,12 @@ names_path AfterDir = true
 names_path Forced = true
 names_path Sysroot = true
 names_path Output = true
-names_path DependencyFile = true
-names_path SideFile = true
+names_path Made = true
 names_path meaning = false
+
+-- whether a file is made beside the object
+abbrev pub names_side : Meaning → Bool
+names_side meaning = same meaning SplitDebug || same meaning StackUsage || same meaning TimeTrace
 
 -- whether the value is a source, of whatever language
 abbrev pub names_source : Meaning → Bool

@@ -4,13 +4,14 @@ use Rattle.std.specs.List.{AllByRecursion}
 use Rattle.rx_base.specs.Paths.{is_below}
 use Rattle.rx_base.specs.SortedPaths.{sorted_paths}
 use Rattle.rx_world.specs.declared.commands.Command.{Command}
-use Rattle.rx_cppflags.specs.declared.meanings.Meaning.TheVariants.{QuoteDir, Dir, SystemDir, AfterDir, Forced, Sysroot, Output, DependencyFile, CompileOnly}
+use Rattle.rx_cppflags.specs.declared.meanings.Meaning.TheVariants.{QuoteDir, Dir, SystemDir, AfterDir, Forced, Sysroot, Output, CompileOnly}
 use Rattle.rx_cppflags.specs.declared.readings.Reading.{Reading}
 use Rattle.rx_cppflags.specs.declared.readings.Reading.TheVariants.{Compile, LocalOnly}
 use Rattle.rx_cppflags.specs.Pieces.{Saying, sayings}
-use Rattle.rx_cppflags.specs.Found.{has_meaning, has_meaning_again, has_meaning_once, is_c, outputs_of, outside_of, paths_of, sources_of, texts_of, walked_of}
+use Rattle.rx_cppflags.specs.Found.{has_meaning, has_meaning_again, is_c, outputs_of, paths_of, sources_of, texts_of, walked_of}
 use Rattle.rx_cppflags.specs.LocalOutputs.{local_outputs}
-use Rattle.rx_cppflags.specs.SideFiles.{with_sides}
+use Rattle.rx_cppflags.specs.Made.{with_made}
+use Rattle.rx_cppflags.specs.Outside.{outside_of}
 use Rattle.rx_cppflags.specs.Variables.{first_variable}
 
 -- the compiler; a command without words has the empty text for it
@@ -42,9 +43,9 @@ only_path [] = None
 only_path (path ∷ []) = Some path
 only_path (path ∷ other ∷ others) = None
 
--- whether the words say that it compiles, and name one object and no more than one file of dependencies
+-- whether the words say that it compiles, and name one object at most
 abbrev pub has_one_object : List Saying → Bool
-has_one_object said = has_meaning CompileOnly said && has_meaning_once Output said && not (has_meaning_again DependencyFile said)
+has_one_object said = has_meaning CompileOnly said && not (has_meaning_again Output said)
 
 -- where there are such words with one source
 abbrev pub compile_from : Command → List (List ℕ) → List Saying → Option (List ℕ) → Reading
@@ -63,16 +64,16 @@ reading_unless command outputs said (Some word) = LocalOnly word outputs
 abbrev pub reading_by : Command → List (List ℕ) → List Saying → Reading
 reading_by command outputs said = reading_unless command outputs said (outside_of command.outputs said)
 
-abbrev pub reading_from : Command → List (List ℕ) → List Saying → Reading
-reading_from command inputs said = reading_by command (local_outputs command inputs said) said
+abbrev pub reading_from : Command → List Saying → Reading
+reading_from command said = reading_by command (local_outputs command said) said
 
 -- what words in this directory with these declared inputs say and make
 abbrev pub all_said : List ℕ → List (List ℕ) → List (List ℕ) → List Saying
-all_said directory inputs words = with_sides directory inputs (sayings directory inputs words)
+all_said directory inputs words = with_made directory inputs (sayings directory inputs words)
 
 -- How a command with these declared inputs is read.
 unfoldable pub reading_of : Command → List (List ℕ) → Reading
-reading_of command inputs = reading_from command inputs (all_said command.working_directory inputs (drop 1 command.words))
+reading_of command inputs = reading_from command (all_said command.working_directory inputs (drop 1 command.words))
 
 -- ---- the outputs of a command
 

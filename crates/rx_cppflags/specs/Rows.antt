@@ -1,12 +1,12 @@
 -- The table of compile words, and how a word is read by it.
 use Rattle.std.specs.Prelude.{ℕ, ◌==◌, Bool, true, false, not, ◌&&◌, List, [], ◌∷◌, length, drop, Option, Some, None, nat_eq, if◌then◌else◌, codes}
-use Rattle.std.specs.List.{starts_with, ends_with}
+use Rattle.std.specs.List.{starts_with, ends_with, list_any}
 use Rattle.std.specs.Str.{bytes_eq}
 use Rattle.std.specs.Borrow.{Bor}
 use Rattle.rx_cppflags.specs.declared.meanings.Form.{Form}
-use Rattle.rx_cppflags.specs.declared.meanings.Form.TheVariants.{Alone, Next, Joined, JoinedOrNext, Ending}
+use Rattle.rx_cppflags.specs.declared.meanings.Form.TheVariants.{Alone, Next, Joined, JoinedWithoutComma, JoinedOrNext, Ending}
 use Rattle.rx_cppflags.specs.declared.meanings.Meaning.{Meaning}
-use Rattle.rx_cppflags.specs.declared.meanings.Meaning.TheVariants.{Refused, Nothing, Machine, Target, Language, Feature, Print, Assembler, Preprocessor, OneWord, CSource, CppSource, OtherSource, QuoteDir, Dir, SystemDir, AfterDir, Forced, Sysroot, Output, DependencyFile, Dependencies, SplitDebug, CompileOnly}
+use Rattle.rx_cppflags.specs.declared.meanings.Meaning.TheVariants.{Refused, Nothing, Machine, Target, Language, Feature, Print, Assembler, Preprocessor, CSource, CppSource, OtherSource, QuoteDir, Dir, SystemDir, AfterDir, Forced, Sysroot, Output, DependencyFile, WrittenDependencies, Dependencies, SplitDebug, StackUsage, TimeTrace, Bitcode, CompileOnly}
 
 -- A spelling, the words that it stands for, and what they say.
 pub record Row : Type 0 where
@@ -51,8 +51,10 @@ rows =
     row (codes "--define-macro=") Joined Nothing ∷
     row (codes "--undefine-macro") Next Nothing ∷
     row (codes "--undefine-macro=") Joined Nothing ∷
-    row (codes "-Wp,-MT,") Joined OneWord ∷
-    row (codes "-Wp,-MQ,") Joined OneWord ∷
+    row (codes "-Wp,-MD,") JoinedWithoutComma WrittenDependencies ∷
+    row (codes "-Wp,-MMD,") JoinedWithoutComma WrittenDependencies ∷
+    row (codes "-Wp,-MT,") JoinedWithoutComma Nothing ∷
+    row (codes "-Wp,-MQ,") JoinedWithoutComma Nothing ∷
     row (codes "-Wp,") Joined Preprocessor ∷
     row (codes "-Wa,") Joined Assembler ∷
     row (codes "-Xassembler") Next Assembler ∷
@@ -92,7 +94,7 @@ rows =
     row (codes "-Qunused-arguments") Alone Nothing ∷
     row (codes "-integrated-as") Alone Nothing ∷
     row (codes "-no-integrated-as") Alone Nothing ∷
-    row (codes "-emit-llvm") Alone Nothing ∷
+    row (codes "-emit-llvm") Alone Bitcode ∷
     row (codes "-MP") Alone Nothing ∷
     row (codes "--ansi") Alone Nothing ∷
     row (codes "--pedantic") Alone Nothing ∷
@@ -143,8 +145,8 @@ rows =
     row (codes "-mod") Joined Refused ∷
     row (codes "-mul") Joined Refused ∷
     row (codes "-m") Joined Machine ∷
-    row (codes "-fstack-usage") Alone Refused ∷
-    row (codes "-ftime-trace") Alone Refused ∷
+    row (codes "-fstack-usage") Alone StackUsage ∷
+    row (codes "-ftime-trace") Alone TimeTrace ∷
     row (codes "-finput-charset=UTF-8") Alone Nothing ∷
     row (codes "-finput-charset=utf-8") Alone Nothing ∷
     row (codes "-fopt-info") Joined Print ∷
@@ -169,11 +171,16 @@ rows =
 
 -- ---- which row reads a word
 
+-- what follows a spelling in a word that begins with it
+abbrev pub behind : List ℕ → List ℕ → List ℕ
+behind spelling word = if starts_with nat_eq word spelling then drop (length spelling) word else []
+
 -- whether a spelling stands for a word
 abbrev pub fits_as : Form → List ℕ → List ℕ → Bool
 fits_as Alone spelling word = bytes_eq word spelling
 fits_as Next spelling word = bytes_eq word spelling
 fits_as Joined spelling word = starts_with nat_eq word spelling
+fits_as JoinedWithoutComma spelling word = starts_with nat_eq word spelling && not (list_any (λ b. b == 44) (behind spelling word))
 fits_as JoinedOrNext spelling word = starts_with nat_eq word spelling
 fits_as Ending spelling word = ends_with nat_eq word spelling && not (starts_with nat_eq word (codes "-"))
 
@@ -197,10 +204,6 @@ takes_next word row = elim row.form [
   | JoinedOrNext ↦ length word == length row.spelling
   | _ ↦ false
 ]
-
--- what follows a spelling in a word that begins with it
-abbrev pub behind : List ℕ → List ℕ → List ℕ
-behind spelling word = if starts_with nat_eq word spelling then drop (length spelling) word else []
 
 -- the value in the word itself
 abbrev pub own_value : List ℕ → Row → List ℕ

@@ -3,7 +3,7 @@ use Rattle.std.specs.Prelude.{ℕ, ◌==◌, Bool, true, false, not, ◌&&◌, �
 use Rattle.std.specs.List.{list_all, list_any, ends_with, slice_split, starts_with}
 use Rattle.std.specs.Str.{bytes_eq}
 use Rattle.rx_cppflags.specs.declared.meanings.Meaning.{Meaning}
-use Rattle.rx_cppflags.specs.declared.meanings.Meaning.TheVariants.{Refused, OtherSource, Machine, Target, Language, Feature, Print, Assembler, Preprocessor, OneWord}
+use Rattle.rx_cppflags.specs.declared.meanings.Meaning.TheVariants.{Refused, OtherSource, Machine, Target, Language, Feature, Print, Assembler, Preprocessor}
 use Rattle.rx_cppflags.specs.Features.{is_far}
 
 -- whether a text is one of these
@@ -22,9 +22,6 @@ has_text other (b ∷ rest) = starts_with nat_eq (b ∷ rest) other || has_text 
 -- whether a machine is one on which Clang looks for includes beside each file that includes
 abbrev pub is_windows : List ℕ → Bool
 is_windows target = has_text (codes "windows") target || has_text (codes "win32") target
-
-abbrev pub has_comma : List ℕ → Bool
-has_comma text = list_any (λ b. b == 44) text
 
 -- what stands between commas
 abbrev pub listed : List ℕ → List (List ℕ)
@@ -51,5 +48,4 @@ takes_value Feature value = not (is_far value)
 takes_value Print value = not (list_any (λ b. b == 61) value || ends_with nat_eq value (codes "-file"))
 takes_value Assembler value = list_all is_assembler_word (listed value)
 takes_value Preprocessor value = list_all is_preprocessor_word (listed value)
-takes_value OneWord value = not (has_comma value) && nat_lt 0 (length value)
 takes_value meaning value = true

@@ -1,6 +1,6 @@
 //! The last name of a text, what stands before it, and its ending.
 
-ghost use Rattle.std.specs.Prelude.{◌≡◌, ◌==◌, IfOk, map, option_map};
+ghost use Rattle.std.specs.Prelude.{◌≡◌, ◌==◌, ◌++◌, IfOk, map, option_map};
 ghost use Rattle.std.specs.List.{list_any};
 ghost use Rattle.std.specs.Path.{slash};
 ghost use Rattle.rx_cppflags.specs.Endings.{directory_of, last_name, with_ending, without_ending};
@@ -53,15 +53,15 @@ fn has_slash(text: &str) -> bool
     text.as_bytes().contains(&b'/')
 }
 
-/// These texts with this ending.
+/// Texts, and behind them others with this ending.
 pub(crate) fn with_endings(
     alloc: Global,
     ending: &str,
     texts: &[Text],
+    mut ended: Items<Text>,
 ) -> Result<Items<Text>, NoMemory>
-    ensures { IfOk result (λ ended. ended ≡ map (with_ending ending.now) texts.now) }
+    ensures { IfOk result (λ all. all ≡ ended ++ map (with_ending ending.now) texts.now) }
 {
-    let mut ended = Items::new(alloc);
     for text in texts {
         ended.push(with_ending(alloc, ending, text.as_str())?)?;
     }

@@ -1,14 +1,11 @@
-//! What all words of a command together name, and which of them aren't compile words.
+//! What all words of a command together name.
 
 ghost use Rattle.std.specs.Prelude.{◌≡◌, ◌++◌, IfOk, option_map};
-ghost use Rattle.rx_base.specs.SortedPaths.{AreSorted};
-ghost use Rattle.rx_cppflags.specs.Found.{first_outside, has_meaning, has_meaning_again, has_meaning_once, is_c, is_in_table, outputs_of, path_for, paths_of, sources_of, texts_of, walked_for, walked_of};
+ghost use Rattle.rx_cppflags.specs.Found.{has_meaning, has_meaning_again, is_c, outputs_of, path_for, paths_of, sources_of, texts_of, walked_for, walked_of};
 
 use crate::endings::directory_of;
 use crate::meanings::Meaning;
 use crate::pieces::Piece;
-use crate::searches::is_apart;
-use crate::values::takes_value;
 use rx_base::{Items, NoMemory, RelPath, Text, TryClone};
 use std::alloc::Global;
 
@@ -82,7 +79,7 @@ pub(crate) fn sources_of(alloc: Global, pieces: &[Piece]) -> Result<Items<RelPat
     paths_of(alloc, pieces, Meaning::CppSource, paths)
 }
 
-/// Paths, and behind them the outputs that are named.
+/// Paths, and behind them what is made.
 pub(crate) fn outputs_of(
     alloc: Global,
     pieces: &[Piece],
@@ -91,19 +88,7 @@ pub(crate) fn outputs_of(
     ensures { IfOk result (λ all. all ≡ paths ++ outputs_of pieces.now) }
 {
     let paths = paths_of(alloc, pieces, Meaning::Output, paths)?;
-    let paths = paths_of(alloc, pieces, Meaning::DependencyFile, paths)?;
-    paths_of(alloc, pieces, Meaning::SideFile, paths)
-}
-
-/// Whether exactly one word has this meaning.
-pub(crate) fn has_meaning_once(pieces: &[Piece], meaning: Meaning) -> bool
-    ensures { result ≡ has_meaning_once meaning pieces.now }
-{
-    pieces
-        .iter()
-        .filter(|piece| piece.meaning.is(meaning))
-        .count()
-        == 1
+    paths_of(alloc, pieces, Meaning::Made, paths)
 }
 
 /// Whether more words than one have this meaning.
@@ -141,46 +126,5 @@ fn walked_for<'a>(piece: &Piece<'a>) -> Option<&'a str>
         Some(piece.text)
     } else {
         None
-    }
-}
-
-/// The word of the first piece that is no compile word, where a file of dependencies is named or
-/// not and one beside the object is made or not, among these sorted outputs.
-pub(crate) fn first_outside<'a>(
-    has_file: bool,
-    has_side: bool,
-    outputs: &[RelPath],
-    pieces: &[Piece<'a>],
-) -> Option<&'a str>
-    requires { AreSorted outputs.now }
-    ensures { option_map (λ word. word.now) result
-        ≡ first_outside has_file has_side outputs.now pieces.now }
-{
-    for piece in pieces {
-        if !is_in_table(has_file, has_side, outputs, piece) {
-            return Some(piece.word);
-        }
-    }
-    None
-}
-
-/// Whether a piece is a compile word.
-fn is_in_table(has_file: bool, has_side: bool, outputs: &[RelPath], piece: &Piece) -> bool
-    requires { AreSorted outputs.now }
-    ensures { result ≡ is_in_table has_file has_side outputs.now piece.now }
-{
-    if piece.meaning.names_output() {
-        match &piece.path {
-            Some(path) => is_apart(path, outputs),
-            None => false,
-        }
-    } else if piece.meaning.names_path() {
-        piece.path.is_some()
-    } else if piece.meaning.is(Meaning::Dependencies) {
-        has_file
-    } else if piece.meaning.is(Meaning::SplitDebug) {
-        has_side
-    } else {
-        takes_value(piece.meaning, piece.text)
     }
 }

@@ -6,13 +6,14 @@ mod endings;
 mod features;
 mod found;
 mod local_outputs;
+mod made;
 mod meanings;
+mod outside;
 mod pieces;
 mod places;
 mod readings;
 mod rows;
 mod searches;
-mod side_files;
 mod values;
 mod variables;
 

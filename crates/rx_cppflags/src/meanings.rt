@@ -9,6 +9,8 @@ pub(crate) enum Form {
     Next,
     /// Words that begin with the spelling; what follows it is the value.
     Joined,
+    /// `Joined`, for values without a comma.
+    JoinedWithoutComma,
     /// `Next` for the spelling itself, and `Joined` for longer words.
     JoinedOrNext,
     /// Words that end in the spelling and don't begin with `-`; the whole word is the value.
@@ -36,8 +38,6 @@ pub(crate) enum Meaning {
     Assembler,
     /// Words for the preprocessor, between commas, of which none names a file.
     Preprocessor,
-    /// One word for the preprocessor, behind another one.
-    OneWord,
     /// A source in C.
     CSource,
     /// A source in C++.
@@ -57,23 +57,31 @@ pub(crate) enum Meaning {
     Forced,
     /// The root of the system's own directories.
     Sysroot,
-    /// The file that is made.
+    /// The object, by its name.
     Output,
     /// The file that the dependencies are written to.
     DependencyFile,
+    /// That file, by a word for the preprocessor.
+    WrittenDependencies,
     /// That dependencies are written.
     Dependencies,
     /// That debug information goes to a file of its own beside the object.
     SplitDebug,
-    /// A file that is made beside the object. No word of its own says it.
-    SideFile,
+    /// That the size of each function's stack is written beside the object.
+    StackUsage,
+    /// That times are written beside the object.
+    TimeTrace,
+    /// That the object has another ending, where it has no name.
+    Bitcode,
+    /// A file that is made besides. No word of its own says it.
+    Made,
     /// That the source is compiled and not linked.
     CompileOnly,
 }
 
 impl Meaning {
     ghost use Rattle.std.specs.Prelude.{◌≡◌};
-    ghost use Rattle.rx_cppflags.specs.Meanings.{same, names_output, names_path, names_source};
+    ghost use Rattle.rx_cppflags.specs.Meanings.{same, names_output, names_path, names_side, names_source};
 
     /// Whether it is this one.
     pub(crate) fn is(self, other: Meaning) -> bool
@@ -86,7 +94,7 @@ impl Meaning {
     pub(crate) fn names_output(self) -> bool
         ensures { result ≡ names_output self }
     {
-        self.is(Meaning::Output) || self.is(Meaning::DependencyFile) || self.is(Meaning::SideFile)
+        self.is(Meaning::Output) || self.is(Meaning::Made)
     }
 
     /// Whether the value is a path.
@@ -104,9 +112,15 @@ impl Meaning {
                 | Meaning::Forced
                 | Meaning::Sysroot
                 | Meaning::Output
-                | Meaning::DependencyFile
-                | Meaning::SideFile
+                | Meaning::Made
         )
+    }
+
+    /// Whether a file is made beside the object.
+    pub(crate) fn names_side(self) -> bool
+        ensures { result ≡ names_side self }
+    {
+        self.is(Meaning::SplitDebug) || self.is(Meaning::StackUsage) || self.is(Meaning::TimeTrace)
     }
 
     /// Whether the value is a source, of whatever language.

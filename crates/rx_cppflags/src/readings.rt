@@ -3,19 +3,20 @@
 
 ghost use Rattle.std.specs.Prelude.{◌≡◌, ◌++◌, IfOk, drop, option_map};
 ghost use Rattle.rx_base.specs.SortedPaths.{AreSorted};
-ghost use Rattle.rx_cppflags.specs.Found.{outside_of, sources_of};
+ghost use Rattle.rx_cppflags.specs.Found.{sources_of};
 ghost use Rattle.rx_cppflags.specs.LocalOutputs.{local_outputs};
+ghost use Rattle.rx_cppflags.specs.Outside.{outside_of};
 ghost use Rattle.rx_cppflags.specs.Readings.{HasSafeOutputs, compile_from, compile_of, first_word, has_one_object, only_path, reading_from, reading_of};
 
 use crate::found::{
-    first_outside, has_meaning, has_meaning_again, has_meaning_once, is_c, outputs_of, paths_of,
-    sources_of, texts_of, walked_of,
+    has_meaning, has_meaning_again, is_c, outputs_of, paths_of, sources_of, texts_of, walked_of,
 };
 use crate::local_outputs::local_outputs;
+use crate::made::{add_made, made_texts};
 use crate::meanings::Meaning;
+use crate::outside::first_outside;
 use crate::pieces::{Piece, Site, cut};
 use crate::searches::{are_sorted, copy_paths};
-use crate::side_files::{add_sides, side_texts};
 use crate::variables::first_variable;
 use rx_base::{Items, NoMemory, RelPath, Text, TryClone, sort_paths};
 use rx_world::Command;
@@ -36,12 +37,13 @@ pub enum Reading {
         /// The files of `-include` and `-imacros` as they are written, in the order of the words.
         forced: Items<Text>,
         /// The texts whose ways from the working directory lead to what the words name, in their order: a
-        /// directory's or a file's own, and the directory's of each `-o` and `-MF` that has a slash.
+        /// directory's or a file's own, and the directory's of what is made, where it has a slash: first of
+        /// `-o`, and behind all words of what is made besides.
         walked: Items<Text>,
         /// The system roots, in which no name is sought.
         sysroots: Items<RelPath>,
-        /// What the words name as outputs, and the `.dwo` that is surely made beside the object, sorted by
-        /// bytes, each once.
+        /// What is made, sorted by bytes, each once: the object, the file of dependencies, and the `.dwo`,
+        /// `.su` and `.json` beside the object.
         outputs: Items<RelPath>,
         /// Whether the source is C.
         is_c: bool,
@@ -49,11 +51,8 @@ pub enum Reading {
     /// The command is more than that, by this word or this name of an environment variable.
     LocalOnly {
         word: Text,
-        /// What the words name as outputs as far as they are understood, sorted by bytes, each once:
-        /// each `-o` and the last `-MF`; without `-o`, where there is `-c`, each source's own object; without `-MF`,
-        /// where there is `-MD` or `-MMD`, each object's own file of dependencies; and the `.dwo` that is
-        /// surely made beside it. One that isn't below the working directory, or is in the way of another
-        /// or of a declared input, is left out.
+        /// The same, as far as the words are understood, and of each `-o` and each source. One that isn't
+        /// below the working directory, or is in the way of another or of a declared input, is left out.
         outputs: Items<RelPath>,
     },
 }
@@ -62,12 +61,13 @@ pub enum Reading {
 ///
 /// The first word is the compiler. `LocalOnly` names the first other word that is no compile word:
 /// that of a flag that the table doesn't have or whose next word is missing; the path's own word
-/// where the path is absolute, leaves the root or begins with `=` or `$`; an output's that isn't
-/// below the working directory, is above a declared input, or above or below another output, also
-/// one of the command's own; `-MD` or `-MMD` without a `-MF`; and `-gsplit-dwarf` where it isn't sure
-/// that a `.dwo` is made beside the object. Next it names the compiler where there is no `-c`, not one
-/// source, not one `-o`, or more than one `-MF`. Last it names the first variable of the environment
-/// that adds directories of includes.
+/// where the path is absolute, leaves the root or begins with `=` or `$`; a value's that the table
+/// doesn't have; an object's that isn't below the working directory, is above a declared input, or
+/// above or below another output, also one of the command's own; `-gsplit-dwarf`, `-fstack-usage` and
+/// `-ftime-trace` where it isn't sure that their file is made beside the object; a file of dependencies
+/// by `-Wp,` beside a `-MF`; and `-emit-llvm` without `-o`. Behind all words stand the paths of what is
+/// made besides. Next it names the compiler where there is no `-c`, not one source, or more than one
+/// `-o`. Last it names the first variable of the environment that adds directories of includes.
 pub fn read_command(
     alloc: Global,
     command: &Command,
@@ -102,10 +102,10 @@ fn read_sorted(alloc: Global, command: &Command, inputs: &[RelPath]) -> Result<R
     let words = arguments(command.words.as_slice());
     let mut named = Vec::new(alloc);
     cut(alloc, site, words, &mut named)?;
-    let sides = side_texts(alloc, &named)?;
+    let made = made_texts(alloc, &named)?;
     let mut pieces = named;
-    add_sides(alloc, site, sides.as_slice(), &mut pieces)?;
-    read_pieces(alloc, command, inputs, &pieces)
+    add_made(alloc, site, made.as_slice(), &mut pieces)?;
+    read_pieces(alloc, command, &pieces)
 }
 
 /// The words behind the compiler.
@@ -119,23 +119,17 @@ fn arguments(words: &[Text]) -> &[Text]
 }
 
 /// The reading of a command whose words say this.
-fn read_pieces(
-    alloc: Global,
-    command: &Command,
-    inputs: &[RelPath],
-    pieces: &[Piece],
-) -> Result<Reading, NoMemory>
-    requires { AreSorted inputs.now }
-    ensures { IfOk result (λ reading. reading ≡ reading_from command.now inputs.now pieces.now) }
+fn read_pieces(alloc: Global, command: &Command, pieces: &[Piece]) -> Result<Reading, NoMemory>
+    ensures { IfOk result (λ reading. reading ≡ reading_from command.now pieces.now) }
 {
     match outside_of(alloc, &command.outputs, pieces)? {
-        Some(word) => local_only(alloc, command, inputs, pieces, word.as_str()),
-        None => count(alloc, command, inputs, pieces),
+        Some(word) => local_only(alloc, command, pieces, word.as_str()),
+        None => count(alloc, command, pieces),
     }
 }
 
 /// The first word that is no compile word, in a command that has these outputs besides those that
-/// its words name.
+/// its words make.
 fn outside_of(
     alloc: Global,
     outputs: &Items<RelPath>,
@@ -144,47 +138,36 @@ fn outside_of(
     ensures { IfOk result (λ word. word ≡ outside_of outputs.now pieces.now) }
 {
     let outputs = sort_paths(outputs_of(alloc, pieces, outputs.try_clone(alloc)?)?)?;
-    let has_file = has_meaning(pieces, Meaning::DependencyFile);
-    let has_side = has_meaning(pieces, Meaning::SideFile);
-    match first_outside(has_file, has_side, outputs.as_slice(), pieces) {
+    match first_outside(pieces, outputs.as_slice(), pieces) {
         Some(word) => Ok(Some(Text::copy_of(alloc, word)?)),
         None => Ok(None),
     }
 }
 
 /// The reading of compile words.
-fn count(
-    alloc: Global,
-    command: &Command,
-    inputs: &[RelPath],
-    pieces: &[Piece],
-) -> Result<Reading, NoMemory>
-    requires { AreSorted inputs.now }
+fn count(alloc: Global, command: &Command, pieces: &[Piece]) -> Result<Reading, NoMemory>
     ensures { IfOk result (λ reading. reading
-        ≡ compile_from command.now (local_outputs command.now inputs.now pieces.now)
-        pieces.now (only_path (sources_of pieces.now))) }
+        ≡ compile_from command.now (local_outputs command.now pieces.now) pieces.now
+        (only_path (sources_of pieces.now))) }
 {
     let compiler = first_word(command.words.as_slice());
     let Some(source) = only_path(sources_of(alloc, pieces)?) else {
-        return local_only(alloc, command, inputs, pieces, compiler);
+        return local_only(alloc, command, pieces, compiler);
     };
     if !has_one_object(pieces) {
-        return local_only(alloc, command, inputs, pieces, compiler);
+        return local_only(alloc, command, pieces, compiler);
     }
     match first_variable(command.environment.as_slice()) {
-        Some(name) => local_only(alloc, command, inputs, pieces, name.as_str()),
+        Some(name) => local_only(alloc, command, pieces, name.as_str()),
         None => compile(alloc, pieces, source),
     }
 }
 
-/// Whether the words say that it compiles, and name one object and no more than one file of
-/// dependencies.
+/// Whether the words say that it compiles, and name one object at most.
 fn has_one_object(pieces: &[Piece]) -> bool
     ensures { result ≡ has_one_object pieces.now }
 {
-    has_meaning(pieces, Meaning::CompileOnly)
-        && has_meaning_once(pieces, Meaning::Output)
-        && !has_meaning_again(pieces, Meaning::DependencyFile)
+    has_meaning(pieces, Meaning::CompileOnly) && !has_meaning_again(pieces, Meaning::Output)
 }
 
 /// The reading of a compile command with this source.
@@ -209,17 +192,15 @@ fn compile(alloc: Global, pieces: &[Piece], source: RelPath) -> Result<Reading, 
 fn local_only(
     alloc: Global,
     command: &Command,
-    inputs: &[RelPath],
     pieces: &[Piece],
     word: &str,
 ) -> Result<Reading, NoMemory>
-    requires { AreSorted inputs.now }
     ensures { IfOk result (λ reading. reading
-        ≡ Reading.LocalOnly word.now (local_outputs command.now inputs.now pieces.now)) }
+        ≡ Reading.LocalOnly word.now (local_outputs command.now pieces.now)) }
 {
     Ok(Reading::LocalOnly {
         word: Text::copy_of(alloc, word)?,
-        outputs: local_outputs(alloc, command, inputs, pieces)?,
+        outputs: local_outputs(alloc, command, pieces)?,
     })
 }
 

@@ -1,6 +1,7 @@
 //! The table of compile words: the one place where a flag is added, in one line.
 
-ghost use Rattle.std.specs.Prelude.{◌≡◌, Some, map, option_map};
+ghost use Rattle.std.specs.Prelude.{◌≡◌, ◌==◌, Some, map, option_map};
+ghost use Rattle.std.specs.List.{list_any};
 ghost use Rattle.rx_cppflags.specs.Rows.{behind, fits, first_fitting, own_value, row_for, row_of, rows, takes_next};
 
 use crate::meanings::Form::{self, *};
@@ -11,7 +12,7 @@ pub(crate) type Row = (&'static str, Form, Meaning);
 
 /// The compile words. The first row that fits a word counts, so a longer spelling stands before a
 /// shorter one that it begins with.
-pub(crate) static ROWS: [Row; 142] = [
+pub(crate) static ROWS: [Row; 144] = [
     ("-I", JoinedOrNext, Dir),
     ("--include-directory", Next, Dir),
     ("--include-directory=", Joined, Dir),
@@ -40,8 +41,10 @@ pub(crate) static ROWS: [Row; 142] = [
     ("--define-macro=", Joined, Nothing),
     ("--undefine-macro", Next, Nothing),
     ("--undefine-macro=", Joined, Nothing),
-    ("-Wp,-MT,", Joined, OneWord),
-    ("-Wp,-MQ,", Joined, OneWord),
+    ("-Wp,-MD,", JoinedWithoutComma, WrittenDependencies),
+    ("-Wp,-MMD,", JoinedWithoutComma, WrittenDependencies),
+    ("-Wp,-MT,", JoinedWithoutComma, Nothing),
+    ("-Wp,-MQ,", JoinedWithoutComma, Nothing),
     ("-Wp,", Joined, Preprocessor),
     ("-Wa,", Joined, Assembler),
     ("-Xassembler", Next, Assembler),
@@ -81,7 +84,7 @@ pub(crate) static ROWS: [Row; 142] = [
     ("-Qunused-arguments", Alone, Nothing),
     ("-integrated-as", Alone, Nothing),
     ("-no-integrated-as", Alone, Nothing),
-    ("-emit-llvm", Alone, Nothing),
+    ("-emit-llvm", Alone, Bitcode),
     ("-MP", Alone, Nothing),
     ("--ansi", Alone, Nothing),
     ("--pedantic", Alone, Nothing),
@@ -132,8 +135,8 @@ pub(crate) static ROWS: [Row; 142] = [
     ("-mod", Joined, Refused),
     ("-mul", Joined, Refused),
     ("-m", Joined, Machine),
-    ("-fstack-usage", Alone, Refused),
-    ("-ftime-trace", Alone, Refused),
+    ("-fstack-usage", Alone, StackUsage),
+    ("-ftime-trace", Alone, TimeTrace),
     ("-finput-charset=UTF-8", Alone, Nothing),
     ("-finput-charset=utf-8", Alone, Nothing),
     ("-fopt-info", Joined, Print),
@@ -189,12 +192,19 @@ fn fits(row: Row, word: &str) -> bool
     ensures { result ≡ fits word.now (row_of row.entry) }
 {
     let (spelling, form, _) = row;
-    let (spelling, word) = (spelling.as_bytes(), word.as_bytes());
+    let (start, bytes) = (spelling.as_bytes(), word.as_bytes());
     match form {
-        Alone | Next => word == spelling,
-        Joined | JoinedOrNext => word.starts_with(spelling),
-        Ending => word.ends_with(spelling) && !word.starts_with(b"-"),
+        Alone | Next => bytes == start,
+        Joined | JoinedOrNext => bytes.starts_with(start),
+        JoinedWithoutComma => bytes.starts_with(start) && !has_comma(behind(spelling, word)),
+        Ending => bytes.ends_with(start) && !bytes.starts_with(b"-"),
     }
+}
+
+fn has_comma(text: &str) -> bool
+    ensures { result ≡ list_any (λ b. b == 44) text.now }
+{
+    text.as_bytes().contains(&b',')
 }
 
 /// Whether the value of a word that a row speaks of is the next word.
@@ -205,7 +215,7 @@ pub(crate) fn takes_next(row: Row, word: &str) -> bool
     match form {
         Next => true,
         JoinedOrNext => word.len() == spelling.len(),
-        Alone | Joined | Ending => false,
+        Alone | Joined | JoinedWithoutComma | Ending => false,
     }
 }
 

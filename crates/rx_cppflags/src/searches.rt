@@ -4,7 +4,7 @@ ghost use Rattle.std.specs.Prelude.{◌≡◌, IfOk, IsTrue};
 ghost use Rattle.std.specs.List.{list_any};
 ghost use Rattle.rx_base.specs.Paths.{is_below};
 ghost use Rattle.rx_base.specs.SortedPaths.{AreSorted};
-ghost use Rattle.rx_cppflags.specs.Found.{is_apart};
+ghost use Rattle.rx_cppflags.specs.Outside.{is_apart};
 
 use rx_base::{Items, NoMemory, RelPath, TryClone, first_above, first_below};
 use std::alloc::Global;

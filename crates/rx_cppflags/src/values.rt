@@ -21,7 +21,6 @@ pub(crate) fn takes_value(meaning: Meaning, value: &str) -> bool
         Meaning::Print => !(bytes.contains(&b'=') || bytes.ends_with(b"-file")),
         Meaning::Assembler => are_assembler_words(value),
         Meaning::Preprocessor => are_preprocessor_words(value),
-        Meaning::OneWord => !bytes.contains(&b',') && !bytes.is_empty(),
         _ => true,
     }
 }

@@ -1,5 +1,5 @@
 use Rattle.std.proofs.Common.{◌≡◌, ◌++◌, drop, filter}
-use Rattle.rx_cppflags.specs.Found.{is_apart}
+use Rattle.rx_cppflags.specs.Outside.{is_apart}
 use Rattle.rx_cppflags.proofs.local_outputs.apart_from.Given as goal
 
 abbrev pub invariant-loop-path : goal.invariant-loop-path

@@ -1,7 +1,7 @@
 use Rattle.std.proofs.Common.{◌≡◌, ◌++◌, drop, filter, map}
-use Rattle.rx_cppflags.specs.LocalOutputs.{object_of}
+use Rattle.rx_cppflags.specs.Made.{object_of}
 use Rattle.rx_cppflags.specs.Meanings.{names_source}
-use Rattle.rx_cppflags.proofs.local_outputs.source_objects.Given as goal
+use Rattle.rx_cppflags.proofs.made.objects_of.Given as goal
 
 abbrev pub invariant-loop-piece : goal.invariant-loop-piece
 invariant-loop-piece l =
